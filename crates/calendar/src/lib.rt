@@ -1,0 +1,160 @@
+// Real days and moments, and the signed number of days from one day to another.
+use refusal::Refusal;
+ghost use mathlib.Core.Path.{_≡_};
+ghost use mathlib.Core.Bool.{true};
+ghost use Rattle.calendar.specs.Days.{leap, monthLength, realDay, realMoment};
+ghost use Rattle.calendar.specs.Number.{daysOfMonths, dayNumber};
+ghost use Prim.Native.Nat.{_≤_, _-_};
+ghost use Rattle.calendar.specs.Difference.{differenceOf};
+
+// The days from one day to another, or why there is no answer.
+pub enum Difference {
+    Days(i64),
+    Refused(Refusal),
+}
+
+// Whether a number YYYYMMDD is a real day of 1950 to 2099.
+pub fn real_day(day: u64) -> bool
+    ensures { λ r. ⌜ r ≡ realDay 1950 2099 day ⌝ }
+{
+    day_within(1950, 2099, day)
+}
+
+// Whether a number YYYYMMDDHHMMSS is a real moment of 1950 to 2099.
+pub fn real_moment(moment: u64) -> bool
+    ensures { λ r. ⌜ r ≡ realMoment 1950 2099 moment ⌝ }
+{
+    moment_within(1950, 2099, moment)
+}
+
+// The same of any year to 9999, as the times of certificates and lists need it.
+pub fn any_day(day: u64) -> bool
+    ensures { λ r. ⌜ r ≡ realDay 0 9999 day ⌝ }
+{
+    day_within(0, 9999, day)
+}
+
+pub fn any_moment(moment: u64) -> bool
+    ensures { λ r. ⌜ r ≡ realMoment 0 9999 moment ⌝ }
+{
+    moment_within(0, 9999, moment)
+}
+
+// The number of days from the first day to the second, negative when the second is earlier.
+pub fn difference(first: u64, second: u64) -> Difference
+    ensures { λ r. ⌜ r ≡ differenceOf first second ⌝ }
+{
+    if !real_day(first) {
+        return Difference::Refused(Refusal::Argument);
+    }
+    if !real_day(second) {
+        return Difference::Refused(Refusal::Argument);
+    }
+    let from = day_number(first);
+    let to = day_number(second);
+    Difference::Days(to as i64 - from as i64)
+}
+
+// Whether a number YYYYMMDD is a real day of the years from `first` to `last`.
+fn day_within(first: u64, last: u64, day: u64) -> bool
+    ensures { λ r. ⌜ r ≡ realDay first last day ⌝ }
+{
+    let year = day / 10000;
+    if year < first {
+        return false;
+    }
+    if last < year {
+        return false;
+    }
+    let of_month = day % 100;
+    if of_month < 1 {
+        return false;
+    }
+    of_month <= month_length(year, day / 100 % 100)
+}
+
+// Whether a number YYYYMMDDHHMMSS is a real moment of the years from `first` to `last`.
+fn moment_within(first: u64, last: u64, moment: u64) -> bool
+    ensures { λ r. ⌜ r ≡ realMoment first last moment ⌝ }
+{
+    if !day_within(first, last, moment / 1000000) {
+        return false;
+    }
+    if 23 < moment / 10000 % 100 {
+        return false;
+    }
+    if 59 < moment / 100 % 100 {
+        return false;
+    }
+    moment % 100 <= 59
+}
+
+fn leap_year(year: u64) -> bool
+    ensures { λ r. ⌜ r ≡ leap year ⌝ }
+{
+    if year % 4 != 0 {
+        return false;
+    }
+    if year % 100 != 0 {
+        return true;
+    }
+    year % 400 == 0
+}
+
+// The days of a month of a year, 0 for a month that is none.
+fn month_length(year: u64, month: u64) -> u64
+    ensures { λ r. ⌜ r ≡ monthLength year month ⌝ }
+{
+    match month {
+        1 | 3 | 5 | 7 | 8 | 10 | 12 => 31,
+        4 | 6 | 9 | 11 => 30,
+        2 => {
+            if leap_year(year) {
+                29
+            } else {
+                28
+            }
+        }
+        _ => 0,
+    }
+}
+
+// The number of a day, from 0 for 19500101. Of 1950 to 2099 each fourth year is a leap year.
+fn day_number(day: u64) -> u64
+    requires { ⌜ realDay 1950 2099 day ≡ true ⌝ }
+    ensures { λ r. ⌜ r ≡ dayNumber day ⌝ }
+{
+    let year = day / 10000;
+    let month = day / 100 % 100;
+    let years = year - 1950;
+    let before = years * 365 + (years + 1) / 4 + days_before(month) + day % 100 - 1;
+    if month < 3 {
+        return before;
+    }
+    if year % 4 != 0 {
+        return before;
+    }
+    before + 1
+}
+
+// The days of a year without a leap day before a month of it.
+fn days_before(month: u64) -> u64
+    requires { ⌜ (1 ≤ month) × (month ≤ 12) ⌝ }
+    ensures { λ r. ⌜ r ≡ daysOfMonths 1951 (month - 1) ⌝ }
+{
+    match month {
+        1 => 0,
+        2 => 31,
+        3 => 59,
+        4 => 90,
+        5 => 120,
+        6 => 151,
+        7 => 181,
+        8 => 212,
+        9 => 243,
+        10 => 273,
+        11 => 304,
+        12 => 334,
+        _ => 0,
+    }
+}
