@@ -41,7 +41,7 @@ pub fn any_moment(moment: u64) -> bool
 }
 
 // The number of days from the first day to the second, negative when the second is earlier.
-pub fn difference(first: u64, second: u64) -> Difference
+pub fn day_difference(first: u64, second: u64) -> Difference
     ensures { λ r. ⌜ r ≡ differenceOf first second ⌝ }
 {
     if !real_day(first) {
