@@ -1,0 +1,64 @@
+-- One law for each answer of the walk's definition: what the element and the list come to under the tests that lead there.
+use mathlib.Core.Path.{_≡_, refl}
+use mathlib.Core.Bool.{Bool, true, false, cond}
+use mathlib.Core.List.{List, []}
+use Prim.Native.Nat.{ℕ, suc, _+_, _≤_, _<_}
+use borrow.Author.Tests.{lt-ltb, le-ltb, le-leb, lt-leb, eq-eqb, ne-eqb}
+use lib.ListN.{length, take, drop}
+use Rattle.refusal.specs.declared.Refusal.{Refusal}
+use Rattle.refusal.specs.declared.Refusal.the-variants.{Der, Limit}
+use Rattle.der.specs.declared.heading.Heading.the-variants.{Header, Bad}
+use Rattle.der.specs.declared.walking.Read.{Read}
+use Rattle.der.specs.declared.walking.Read.the-variants.{Past, Fault}
+use Rattle.der.specs.declared.walking.Walked.{Walked}
+use Rattle.der.specs.declared.walking.Walked.the-variants.{Passed, Refused}
+use Rattle.der.specs.Forms.{Forms}
+use Rattle.der.specs.Heading.{headingOf, constructed}
+use Rattle.der.specs.Contents.{contentsGood}
+use Rattle.der.specs.Walk.{opened, filled, after, elementAt, listAt}
+
+module _ (forms : Forms) (fuel : ℕ) (s : List ℕ) (base depth count : ℕ) where
+  pub element-bad : headingOf forms s ≡ Bad → elementAt (suc fuel) forms s base depth count ≡ Fault (Der base)
+  unfolding elementAt opened
+  element-bad e = simp e
+
+  module _ (tag skip size : ℕ) (e : headingOf forms s ≡ Header tag skip size) where
+    pub element-deep : forms .depth < depth → elementAt (suc fuel) forms s base depth count ≡ Fault (Limit base)
+    unfolding elementAt opened
+    element-deep h = simp (e, lt-ltb _ _ h)
+
+    module _ (shallow : depth ≤ forms .depth) where
+      pub element-many : forms .elements ≤ count → elementAt (suc fuel) forms s base depth count ≡ Fault (Limit base)
+      unfolding elementAt opened
+      element-many h = simp (e, le-ltb _ _ shallow, le-leb _ _ h)
+
+      module _ (few : count < forms .elements) where
+        pub element-node : constructed tag ≡ true
+          → elementAt (suc fuel) forms s base depth count ≡ filled (skip + size) (listAt fuel forms (take size (drop skip s)) (base + skip) (depth + 1) (count + 1))
+        unfolding elementAt opened
+        element-node h = simp (e, le-ltb _ _ shallow, lt-leb _ _ few, h)
+
+        pub element-leaf : constructed tag ≡ false → contentsGood tag (take size (drop skip s)) ≡ true
+          → elementAt (suc fuel) forms s base depth count ≡ Past (skip + size) (count + 1)
+        unfolding elementAt opened
+        element-leaf h g = simp (e, le-ltb _ _ shallow, lt-leb _ _ few, h, g)
+
+        pub element-spoilt : constructed tag ≡ false → contentsGood tag (take size (drop skip s)) ≡ false
+          → elementAt (suc fuel) forms s base depth count ≡ Fault (Der base)
+        unfolding elementAt opened
+        element-spoilt h g = simp (e, le-ltb _ _ shallow, lt-leb _ _ few, h, g)
+
+  pub list-done : length s ≡ 0 → listAt (suc fuel) forms s base depth count ≡ Passed count
+  unfolding listAt
+  list-done h = simp (eq-eqb _ _ h)
+
+  module _ (left : length s ≡ 0 → ⊥) where
+    pub list-more : (used n : ℕ) → elementAt fuel forms s base depth count ≡ Past used n
+      → listAt (suc fuel) forms s base depth count ≡ listAt fuel forms (drop used s) (base + used) depth n
+    unfolding listAt after
+    list-more used n e = simp (ne-eqb _ _ left, e)
+
+    pub list-fault : (refusal : Refusal) → elementAt fuel forms s base depth count ≡ Fault refusal
+      → listAt (suc fuel) forms s base depth count ≡ Refused refusal
+    unfolding listAt after
+    list-fault refusal e = simp (ne-eqb _ _ left, e)

@@ -1,0 +1,8 @@
+pub mod Forms
+pub mod Octets
+pub mod Heading
+pub mod Contents
+pub mod Walk
+pub mod Integer
+pub mod Member
+pub mod Tree

@@ -1,0 +1,86 @@
+-- The tree of elements that an item encodes, and what makes it sound.
+use Prim.Native.Nat.{ℕ, suc, _+_, _/_, _%_, _^_, _<_, _≤_, max}
+use mathlib.Core.Path.{_≡_}
+use mathlib.Core.Bool.{true, false, cond}
+use mathlib.Core.List.{List, [], _∷_, _++_}
+use lib.Dec.{ltb}
+use lib.ListN.{length}
+use Rattle.der.specs.Forms.{Forms}
+use Rattle.der.specs.Octets.{Octets, big}
+use Rattle.der.specs.Heading.{identifierGood, constructed}
+use Rattle.der.specs.Contents.{contentsGood}
+
+mutual
+  pub data Tree : Type 0 where
+    leaf : ℕ → List ℕ → Tree
+    node : ℕ → Trees → Tree
+
+  pub data Trees : Type 0 where
+    none : Trees
+    more : Tree → Trees → Trees
+
+-- X.690 10.1: a length in as few octets as can be
+unfoldable pub lengthWidth : ℕ → ℕ
+lengthWidth n = cond (ltb n 256) 1 (cond (ltb n 65536) 2 3)
+
+unfoldable pub lengthEncoded : ℕ → List ℕ
+lengthEncoded n = cond (ltb n 128) (n ∷ []) ((128 + lengthWidth n) ∷ big (lengthWidth n) n)
+
+-- X.690 8.1.1: identifier octet, length octets, contents octets
+unfoldable pub tagged : ℕ → List ℕ → List ℕ
+tagged tag c = tag ∷ (lengthEncoded (length c) ++ c)
+
+unfoldable mutual
+  pub encoded : Tree → List ℕ
+  encoded (leaf tag c) = tagged tag c
+  encoded (node tag members) = tagged tag (encodedAll members)
+
+  pub encodedAll : Trees → List ℕ
+  encodedAll none = []
+  encodedAll (more tree trees) = encoded tree ++ encodedAll trees
+
+-- the number of elements
+unfoldable mutual
+  pub size : Tree → ℕ
+  size (leaf tag c) = 1
+  size (node tag members) = suc (sizeAll members)
+
+  pub sizeAll : Trees → ℕ
+  sizeAll none = 0
+  sizeAll (more tree trees) = size tree + sizeAll trees
+
+-- the outermost element is at depth 1
+unfoldable mutual
+  pub depth : Tree → ℕ
+  depth (leaf tag c) = 1
+  depth (node tag members) = suc (depthAll members)
+
+  pub depthAll : Trees → ℕ
+  depthAll none = 0
+  depthAll (more tree trees) = max (depth tree) (depthAll trees)
+
+-- An identifier that may stand, primitive over contents that may stand and constructed over sound members, each length
+-- one that the forms can tell.
+mutual
+  pub data Sound (forms : Forms) : Tree → Type 0 where
+    sound-leaf :
+      {tag : ℕ} {c : List ℕ} → tag < 256 → identifierGood tag ≡ true → constructed tag ≡ false → Octets c
+      → length c < 256 ^ forms .lengthOctets → contentsGood tag c ≡ true → Sound forms (leaf tag c)
+    sound-node :
+      {tag : ℕ} {members : Trees} → tag < 256 → identifierGood tag ≡ true → constructed tag ≡ true
+      → length (encodedAll members) < 256 ^ forms .lengthOctets → SoundAll forms members → Sound forms (node tag members)
+
+  pub data SoundAll (forms : Forms) : Trees → Type 0 where
+    sound-none : SoundAll forms none
+    sound-more :
+      {tree : Tree} {trees : Trees} → Sound forms tree → SoundAll forms trees → SoundAll forms (more tree trees)
+
+-- the octets of an item are those of a sound tree of n elements, within the limits
+pub record Encodes (forms : Forms) (item : List ℕ) (n : ℕ) : Type 0 where
+  pub tree : Tree
+  pub bytes : encoded tree ≡ item
+  pub sound : Sound forms tree
+  pub count : size tree ≡ n
+  pub shallow : depth tree ≤ forms .depth
+  pub few : n ≤ forms .elements
+  pub short : length item ≤ forms .itemSize

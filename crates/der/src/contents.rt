@@ -1,0 +1,101 @@
+// The contents octets of the primitive universal types that are judged.
+ghost use mathlib.Core.Path.{_≡_};
+ghost use Prim.Native.Nat.{_^_, _≤_};
+ghost use Rattle.der.specs.Contents.{booleanGood, integerGood, bitStringGood, oidGood, contentsGood};
+
+pub(crate) fn contents_good(tag: u8, c: &[u8]) -> bool
+    ensures { λ r. ⌜ r ≡ contentsGood tag (now (c .entry)) ⌝ }
+{
+    match tag {
+        1 => boolean_good(c),
+        2 => integer_good(c),
+        3 => bit_string_good(c),
+        5 => c.len() == 0,
+        6 => oid_good(c),
+        _ => true,
+    }
+}
+
+fn boolean_good(c: &[u8]) -> bool
+    ensures { λ r. ⌜ r ≡ booleanGood (now (c .entry)) ⌝ }
+{
+    if c.len() != 1 {
+        return false;
+    }
+    if c[0] == 0 {
+        return true;
+    }
+    c[0] == 0xff
+}
+
+fn integer_good(c: &[u8]) -> bool
+    ensures { λ r. ⌜ r ≡ integerGood (now (c .entry)) ⌝ }
+{
+    if c.len() == 0 {
+        return false;
+    }
+    if c.len() == 1 {
+        return true;
+    }
+    if c[0] == 0 {
+        return 0x80 <= c[1];
+    }
+    if c[0] == 0xff {
+        return c[1] < 0x80;
+    }
+    true
+}
+
+fn bit_string_good(c: &[u8]) -> bool
+    ensures { λ r. ⌜ r ≡ bitStringGood (now (c .entry)) ⌝ }
+{
+    if c.len() == 0 {
+        return false;
+    }
+    let unused = c[0];
+    if 7 < unused {
+        return false;
+    }
+    if c.len() == 1 {
+        return unused == 0;
+    }
+    c[c.len() - 1] % power(unused) == 0
+}
+
+// Two to the power of the number of unused bits.
+fn power(bits: u8) -> u8
+    requires { ⌜ bits ≤ 7 ⌝ }
+    ensures { λ r. ⌜ r ≡ 2 ^ bits ⌝ }
+{
+    match bits {
+        0 => 1,
+        1 => 2,
+        2 => 4,
+        3 => 8,
+        4 => 16,
+        5 => 32,
+        6 => 64,
+        _ => 128,
+    }
+}
+
+fn oid_good(c: &[u8]) -> bool
+    ensures { λ r. ⌜ r ≡ oidGood (now (c .entry)) ⌝ }
+{
+    if c.len() == 0 {
+        return false;
+    }
+    let mut starts = true;
+    let mut i = 0;
+    while i < c.len() {
+        let o = c[i];
+        if starts {
+            if o == 0x80 {
+                return false;
+            }
+        }
+        starts = o < 0x80;
+        i += 1;
+    }
+    starts
+}

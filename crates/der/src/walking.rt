@@ -1,0 +1,86 @@
+// The walk: an element before its members, left to right, and the first fault met.
+use crate::contents::contents_good;
+use crate::heading::{Heading, header};
+use refusal::Refusal;
+ghost use mathlib.Core.Path.{_≡_};
+ghost use Prim.Native.Nat.{ℕ, _+_, _*_, _≤_};
+ghost use lib.ListN.{length};
+ghost use Rattle.der.specs.Forms.{paper};
+ghost use Rattle.der.specs.Walk.{elementAt, listAt, walkOf, counted};
+
+// The count of elements read, at most 4,096, or the first fault.
+pub enum Walked {
+    Passed { count: usize },
+    Refused(Refusal),
+}
+
+// An element that was read: the octets that it takes, and the count of elements after it.
+enum Read {
+    Past { used: usize, count: usize },
+    Fault(Refusal),
+}
+
+pub fn walk(item: &[u8]) -> Walked
+    ensures answer { λ r. ⌜ r ≡ walkOf paper (now (item .entry)) ⌝ }
+    ensures limited { λ r. ⌜ counted r ≤ 4096 ⌝ }
+{
+    if 16384 < item.len() {
+        return Walked::Refused(Refusal::Limit { at: 0 });
+    }
+    match element(item, 0, 1, 0) {
+        Read::Fault(refusal) => Walked::Refused(refusal),
+        Read::Past { used, count } => {
+            if used == item.len() {
+                Walked::Passed { count }
+            } else {
+                Walked::Refused(Refusal::Der { at: used })
+            }
+        }
+    }
+}
+
+// The element at the front of `s`, whose first octet is number `base` of the item.
+fn element(s: &[u8], base: usize, depth: usize, count: usize) -> Read
+    requires { ⌜ (base + length (now s) ≤ 16384) × (depth ≤ 17) × (count ≤ 4096) ⌝ }
+    ensures { λ r. ⌜ ((fuel : ℕ) → 2 * length (now (s .entry)) + 1 ≤ fuel → r ≡ elementAt fuel paper (now (s .entry)) base depth count) ⌝ }
+{
+    let Heading::Header { tag, skip, size } = header(s) else {
+        return Read::Fault(Refusal::Der { at: base });
+    };
+    if 16 < depth {
+        return Read::Fault(Refusal::Limit { at: base });
+    }
+    if 4096 <= count {
+        return Read::Fault(Refusal::Limit { at: base });
+    }
+    let end = skip + size;
+    if tag / 32 % 2 == 1 {
+        return match list(&s[skip..end], base + skip, depth + 1, count + 1) {
+            Walked::Refused(refusal) => Read::Fault(refusal),
+            Walked::Passed { count } => Read::Past { used: end, count },
+        };
+    }
+    if contents_good(tag, &s[skip..end]) {
+        return Read::Past { used: end, count: count + 1 };
+    }
+    Read::Fault(Refusal::Der { at: base })
+}
+
+// The elements that fill `s`.
+fn list(s: &[u8], base: usize, depth: usize, count: usize) -> Walked
+    requires { ⌜ (base + length (now s) ≤ 16384) × (depth ≤ 17) × (count ≤ 4096) ⌝ }
+    ensures { λ r. ⌜ ((fuel : ℕ) → 2 * length (now (s .entry)) + 2 ≤ fuel → r ≡ listAt fuel paper (now (s .entry)) base depth count) ⌝ }
+{
+    let mut at = 0;
+    let mut read = count;
+    while at < s.len() {
+        match element(&s[at..], base + at, depth, read) {
+            Read::Fault(refusal) => return Walked::Refused(refusal),
+            Read::Past { used, count } => {
+                at += used;
+                read = count;
+            }
+        }
+    }
+    Walked::Passed { count: read }
+}
