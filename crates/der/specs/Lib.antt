@@ -5,4 +5,3 @@ pub mod Contents
 pub mod Walk
 pub mod Integer
 pub mod Member
-pub mod Tree

@@ -1,0 +1,1 @@
+-- What the walk means, as theorems over the definitions.

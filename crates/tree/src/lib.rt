@@ -1,0 +1,1 @@
+// What the walk means: the tree of elements that an item encodes. This crate has definitions and theorems alone.
