@@ -2,7 +2,7 @@
 use mathlib.Core.Path.{_≡_, refl, ap, sym, _∙_}
 use mathlib.Core.List.{List, [], _∷_, _++_}
 use Prim.Native.Nat.{ℕ, zero, suc, _+_, _*_, _^_, _<_, _≤_}
-use native.Mathlib.Nat.{mul-assoc, pow-suc}
+use native.Mathlib.Nat.{mul-assoc, mul-le-mul-right, pow-suc}
 use native.Mathlib.Omega.{arith}
 use borrow.Author.Tests.{le-leb, lt-leb}
 use lib.ListN.{length, getD, take, drop, length-append, length-drop}
@@ -44,3 +44,33 @@ long-bad s tag (suc zero) one two = absurd (one refl)
 long-bad s tag (suc (suc zero)) one two = absurd (two refl)
 long-bad s tag (suc (suc (suc k))) one two =
     simp (le-leb 1 (suc (suc (suc k))) (omega arith), lt-leb (suc (suc (suc k))) 2 (omega arith))
+
+-- octets write a number below 256 to the power of their count, and one in its lower half if the first is below 128
+pub number-below : (c : List ℕ) → ((k : ℕ) → getD c k 0 < 256) → number c < 256 ^ length c
+unfolding number
+number-below [] octets = omega arith
+number-below (x ∷ xs) octets =
+    let most : x ≤ 255 = omega (arith, octets 0) in
+    omega
+      (arith,
+      mul-le-mul-right (256 ^ length xs) most,
+      number-below xs (λ k. octets (suc k)),
+      pow-suc 256 (length xs))
+
+pub lower-half : (c : List ℕ) → ((k : ℕ) → getD c k 0 < 256) → getD c 0 0 < 128 → number c * 2 < 256 ^ length c
+unfolding number
+lower-half [] octets h = omega arith
+lower-half (x ∷ xs) octets h =
+    let most : x ≤ 127 = omega arith in
+    omega
+      (arith,
+      mul-le-mul-right (256 ^ length xs) most,
+      number-below xs (λ k. octets (suc k)),
+      pow-suc 256 (length xs))
+
+pub upper-half : (c : List ℕ) → 128 ≤ getD c 0 0 → 256 ^ length c ≤ number c * 2
+unfolding number
+upper-half [] h = omega arith
+upper-half (x ∷ xs) h =
+    let least : 128 ≤ x = h in
+    omega (arith, mul-le-mul-right (256 ^ length xs) least, pow-suc 256 (length xs))

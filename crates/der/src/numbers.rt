@@ -33,18 +33,25 @@ pub fn integer(item: &[u8]) -> Number
     Number::Value(signed(&item[skip..end]))
 }
 
-// The two's complement number of at most eight octets.
+// The two's complement number of at most eight octets: `most` is the largest number that as many octets write.
 fn signed(c: &[u8]) -> i64
     requires { ⌜ length (now c) ≤ 8 ⌝ }
     ensures { λ r. ⌜ r ≡ twos (now (c .entry)) ⌝ }
 {
-    let flip = if c.len() == 0 { 0 } else { c[0] / 128 * 255 };
-    let mut magnitude: u64 = 0;
+    if c.len() == 0 {
+        return 0;
+    }
+    let first = c[0];
+    let mut value: u64 = 0;
+    let mut most: u64 = 0;
     let mut i = 0;
     while i < c.len() {
-        let o = c[i];
-        magnitude = magnitude * 256 + if flip == 0 { o as u64 } else { (255 - o) as u64 };
+        value = value * 256 + c[i] as u64;
+        most = most * 256 + 255;
         i += 1;
     }
-    if flip == 0 { magnitude as i64 } else { -1 - magnitude as i64 }
+    if first < 128 {
+        return value as i64;
+    }
+    -1 - (most - value) as i64
 }
