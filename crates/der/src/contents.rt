@@ -1,6 +1,5 @@
 // The contents octets of the primitive universal types that are judged.
 ghost use mathlib.Core.Path.{_≡_};
-ghost use Prim.Native.Nat.{_^_, _≤_};
 ghost use Rattle.der.specs.Contents.{booleanGood, integerGood, bitStringGood, oidGood, contentsGood};
 
 pub(crate) fn contents_good(tag: u8, c: &[u8]) -> bool
@@ -59,24 +58,7 @@ fn bit_string_good(c: &[u8]) -> bool
     if c.len() == 1 {
         return unused == 0;
     }
-    c[c.len() - 1] % power(unused) == 0
-}
-
-// Two to the power of the number of unused bits.
-fn power(bits: u8) -> u8
-    requires { ⌜ bits ≤ 7 ⌝ }
-    ensures { λ r. ⌜ r ≡ 2 ^ bits ⌝ }
-{
-    match bits {
-        0 => 1,
-        1 => 2,
-        2 => 4,
-        3 => 8,
-        4 => 16,
-        5 => 32,
-        6 => 64,
-        _ => 128,
-    }
+    c[c.len() - 1] % (1 << unused) == 0
 }
 
 fn oid_good(c: &[u8]) -> bool

@@ -1,0 +1,86 @@
+-- A first length octet below 128 is the length, 129 and 130 have one and two octets more, and the definition knows no other.
+use Prim.Native.Nat.{_-_}
+use mathlib.Core.Path.{_≡_, sym, _∙_}
+use borrow.Author.Needs.{needs}
+use borrow.Author.Tests.{lt-ltb, le-ltb, not-true, not-false}
+use native.Mathlib.Omega.{arith}
+use lib.ListN.{getD}
+use Rattle.der.specs.Heading.{headingOf}
+use Rattle.der.proofs.Weights.{long-bad}
+use Rattle.der.proofs.heading.header.Statement.{statement}
+use Rattle.der.proofs.heading.header.Tie as tie
+
+returns : tie.Need-returns
+unfolding headingOf
+returns c = simp (lt-ltb _ _ (c .if1 .taken))
+
+shared-slice-read-tag : tie.Need-shared-slice-read-tag
+shared-slice-read-tag c = search needs
+
+identifier-requires : tie.Need-identifier-requires
+identifier-requires c κs = search needs
+
+returns-2 : tie.Need-returns-2
+unfolding headingOf
+returns-2 c =
+    simp (le-ltb _ _ (c .before .before .before .if1 .left), sym (c .before .identifier .ensures) ∙ not-true _ (c .if2 .taken))
+
+shared-slice-read-first : tie.Need-shared-slice-read-first
+shared-slice-read-first c = search needs
+
+cast-first : tie.Need-cast-first
+cast-first c = omega (arith, c .shared-slice-known3 .given 1)
+
+ending-requires : tie.Need-ending-requires
+ending-requires c κs = search needs
+
+returns-3 : tie.Need-returns-3
+unfolding headingOf
+returns-3 c =
+    simp (le-ltb _ _ (c .before .before .before .before .before .before .if1 .left), sym (c .before .before .before .before .identifier .ensures) ∙ not-false _ (c .before .before .before .if2 .left), lt-ltb _ _ (c .before .if3 .taken))
+    (c .ending .ensures)
+
+one-octet-requires : tie.Need-one-octet-requires
+one-octet-requires c κs = search needs
+
+returns-4 : tie.Need-returns-4
+unfolding headingOf
+returns-4 c =
+    simp (le-ltb _ _ (c .before .before .before .before .before .before .before .if1 .left), sym (c .before .before .before .before .before .identifier .ensures) ∙ not-false _ (c .before .before .before .before .if2 .left), c .before .if4 .taken)
+    (c .one-octet .ensures)
+
+two-octets-requires : tie.Need-two-octets-requires
+two-octets-requires c κs = search needs
+
+returns-5 : tie.Need-returns-5
+unfolding headingOf
+returns-5 c =
+    simp (le-ltb _ _ (c .before .before .before .before .before .before .before .before .if1 .left), sym (c .before .before .before .before .before .before .identifier .ensures) ∙ not-false _ (c .before .before .before .before .before .if2 .left), c .before .if5 .taken)
+    (c .two-octets .ensures)
+
+returns-6 : tie.Need-returns-6
+unfolding headingOf
+returns-6 c =
+    let s = c .before .before .before .before .before .before .before .before .before .args .s .now in
+    let first = getD s 1 0 in
+    let not-one : first - 128 ≡ 1 → ⊥ = omega arith in
+    let not-two : first - 128 ≡ 2 → ⊥ = omega arith in
+    simp (le-ltb _ _ (c .before .before .before .before .before .before .before .if1 .left), sym (c .before .before .before .before .before .identifier .ensures) ∙ not-false _ (c .before .before .before .before .if2 .left), le-ltb _ _ (c .before .before .if3 .left), long-bad s (getD s 0 0) (first - 128) not-one not-two)
+
+pub header-spec : {M : Type 1} → statement M
+header-spec =
+    tie.close
+    (tie.spec
+    returns
+    shared-slice-read-tag
+    identifier-requires
+    returns-2
+    shared-slice-read-first
+    cast-first
+    ending-requires
+    returns-3
+    one-octet-requires
+    returns-4
+    two-octets-requires
+    returns-5
+    returns-6)

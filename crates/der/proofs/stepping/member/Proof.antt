@@ -1,0 +1,80 @@
+-- The header is read from the part from `from` to `end`, within which its element ends, so no sum wraps.
+use Prim.Native.Nat.{_+_, _-_, _≤_}
+use mathlib.Core.Path.{_≡_, sym, _∙_}
+use borrow.Author.Needs.{needs}
+use borrow.Author.Tests.{le-leb, lt-leb}
+use native.Mathlib.Omega.{arith}
+use lib.ListN.{length, take, drop, length-drop}
+use lib.Seq.{length-take-le}
+use Rattle.der.specs.Forms.{paper}
+use Rattle.der.specs.Member.{placed, memberOf}
+use Rattle.der.proofs.Inside.{header-inside}
+use Rattle.der.proofs.stepping.member.Statement.{statement}
+use Rattle.der.proofs.stepping.member.Tie as tie
+
+returns : tie.Need-returns
+unfolding memberOf
+returns c = simp (lt-leb _ _ (c .if1 .taken))
+
+returns-2 : tie.Need-returns-2
+unfolding memberOf
+returns-2 c = simp (le-leb _ _ (c .before .if1 .left), lt-leb _ _ (c .if2 .taken))
+
+part-header-start : tie.Need-part-header-start
+part-header-start c = search needs
+
+part-header-end : tie.Need-part-header-end
+part-header-end c = search needs
+
+header-requires : tie.Need-header-requires
+header-requires c κs = search needs
+
+enum-known-tag : tie.Need-enum-known-tag
+enum-known-tag c = search needs
+
+-- the element ends within the part
+ended : (c : tie.After-known-told) → c .before .tag .given .0 .1 .0 + c .before .tag .given .0 .1 .1 .0 ≤ c .before .before .before .before .before .before .before .before .args .end - c .before .before .before .before .before .before .before .before .args .from
+ended c =
+    let a = c .before .before .before .before .before .before .before .before .args in
+    let rest : a .end - a .from ≤ length (drop (a .from) (a .item .now)) = rw length-drop (omega arith) in
+    let part : length (take (a .end - a .from) (drop (a .from) (a .item .now))) ≡ a .end - a .from = length-take-le _ _ rest in
+    rw part at (header-inside paper _ _ _ _ (sym (c .before .before .before .header .ensures) ∙ c .before .tag .given .1) .1)
+
+add-t14 : tie.Need-add-t14
+add-t14 c = omega (arith, ended c)
+
+add-t15 : tie.Need-add-t15
+add-t15 c = omega (arith, ended c)
+
+add-t16 : tie.Need-add-t16
+add-t16 c = omega (arith, ended c)
+
+enum-told : tie.Need-enum-told
+enum-told c = search needs
+
+returns-3 : tie.Need-returns-3
+unfolding memberOf placed
+returns-3 c =
+    simp (le-leb _ _ (c .before .before .before .before .before .before .if1 .left), le-leb _ _ (c .before .before .before .before .before .if2 .left), sym (c .before .before .before .header .ensures) ∙ c .before .tag .given .1)
+
+returns-4 : tie.Need-returns-4
+unfolding memberOf placed
+returns-4 c =
+    simp (le-leb _ _ (c .before .before .before .before .before .if1 .left), le-leb _ _ (c .before .before .before .before .if2 .left), sym (c .before .before .header .ensures) ∙ c .enum-told .given .1)
+
+pub member-spec : {M : Type 1} → statement M
+member-spec =
+    tie.close
+    (tie.spec
+    returns
+    returns-2
+    part-header-start
+    part-header-end
+    header-requires
+    enum-known-tag
+    add-t14
+    add-t15
+    add-t16
+    enum-told
+    returns-3
+    returns-4)
