@@ -1,0 +1,143 @@
+-- Laws of the day number: it adds up whole years and whole months, and of 1950 to 2099 each fourth year is a leap year.
+use mathlib.Core.Path.{_≡_, refl, sym, _∙_, ap}
+use mathlib.Core.Bool.{Bool, true, false, cond}
+use mathlib.Core.Logic.{⊎-elim}
+use Prim.Native.Nat.{ℕ, zero, suc, _+_, _-_, _*_, _/_, _%_, _≤_, _<_}
+use native.Mathlib.Nat.{not-suc-le-zero, le-of-suc-le-suc, eq-or-lt-of-le, le-trans, le-refl}
+use native.Mathlib.Omega.{arith}
+use lib.Dec.{ltb, eqb}
+use borrow.Author.Tests.{ltb-true, ltb-false, eqb-true, eqb-false, eq-eqb}
+use Rattle.calendar.specs.Days.{leap, february, monthLength, realDay, yearOf, monthOf, dayOf}
+use Rattle.calendar.specs.Number.{daysOfMonths, daysOfYears, dayNumber, dayOn, dayAfter}
+use Rattle.calendar.proofs.Days.{by-test, passes-at, year-on, month-on, day-on, length-most, february-most, february-leap, february-common, Real}
+
+-- of 1950 to 2099 each fourth year is a leap year, since 2000 is one
+pub leap-fourth : (y : ℕ) → 1950 ≤ y → y ≤ 2099 → leap y ≡ eqb (y % 4) 0
+unfolding leap
+leap-fourth y low high =
+    by-test (eqb (y % 4) 0)
+    (λ e. by-test (eqb (y % 100) 0)
+    (λ f. simp (e, f, eq-eqb (y % 400) 0 (omega (arith, eqb-true (y % 100) 0 f))))
+    (λ f. simp (e, f)))
+    (λ e. simp e)
+
+pub year-length : (y : ℕ) → daysOfMonths y 12 ≡ 337 + february y
+unfolding daysOfMonths monthLength
+year-length y = omega arith
+
+-- the days of the first k years, without a sum
+pub years : (k : ℕ) → k ≤ 150 → daysOfYears k ≡ 365 * k + (k + 1) / 4
+unfolding daysOfYears
+years zero h = refl
+years (suc k) h =
+    let before : daysOfYears k ≡ 365 * k + (k + 1) / 4 = years k (omega arith) in
+    let fourth : leap (1950 + k) ≡ eqb ((1950 + k) % 4) 0 = leap-fourth (1950 + k) (omega arith) (omega arith) in
+    by-test (eqb ((1950 + k) % 4) 0)
+    (λ e. omega (arith, eqb-true ((1950 + k) % 4) 0 e, year-length (1950 + k), february-leap (1950 + k) (fourth ∙ e)))
+    (λ e. omega (arith, eqb-false ((1950 + k) % 4) 0 e, year-length (1950 + k), february-common (1950 + k) (fourth ∙ e)))
+
+-- the days before a month of a year without a leap day follow a rule
+early : ℕ → Bool
+early n = eqb (daysOfMonths 1951 n) ((367 * n + 5) / 12 - cond (ltb n 2) 0 2)
+
+pub months-rule : (n : ℕ) → n < 12 → daysOfMonths 1951 n ≡ (367 * n + 5) / 12 - cond (ltb n 2) 0 2
+unfolding early daysOfMonths monthLength february leap
+months-rule n h = eqb-true _ _ (passes-at early 12 refl n h)
+
+common : february 1951 ≡ 28
+unfolding february leap
+common = refl
+
+-- a leap day counts from March on
+pub months-to-february : (y n : ℕ) → n < 2 → daysOfMonths y n ≡ daysOfMonths 1951 n
+unfolding daysOfMonths monthLength
+months-to-february y zero h = refl
+months-to-february y (suc zero) h = refl
+months-to-february y (suc (suc n)) h = absurd (omega arith)
+
+pub months-from-march : (y n : ℕ) → 2 ≤ n → daysOfMonths y n + 28 ≡ daysOfMonths 1951 n + february y
+unfolding daysOfMonths monthLength
+months-from-march y zero h = absurd (omega arith)
+months-from-march y (suc zero) h = absurd (omega arith)
+months-from-march y (suc (suc zero)) h = omega (arith, common)
+months-from-march y (suc (suc (suc n))) h = omega (arith, months-from-march y (suc (suc n)) (omega arith))
+
+-- what grows at each step grows over any
+grows : (f : ℕ → ℕ) → ((k : ℕ) → f k ≤ f (suc k)) → (j k : ℕ) → j ≤ k → f j ≤ f k
+grows f step j zero h = let e : j ≡ zero = omega arith in rw e (le-refl _)
+grows f step j (suc k) h =
+    ⊎-elim (λ e. rw e (le-refl _)) (λ l. le-trans (grows f step j k (le-of-suc-le-suc l)) (step k)) (eq-or-lt-of-le h)
+
+pub months-grow : (y j k : ℕ) → j ≤ k → daysOfMonths y j ≤ daysOfMonths y k
+unfolding daysOfMonths
+months-grow y = grows (daysOfMonths y) (λ k. omega arith)
+
+pub years-grow : (j k : ℕ) → j ≤ k → daysOfYears j ≤ daysOfYears k
+unfolding daysOfYears
+years-grow = grows daysOfYears (λ k. omega arith)
+
+-- a part of a year is no longer than a leap year
+pub months-most : (y n : ℕ) → n ≤ 12 → daysOfMonths y n ≤ 366
+months-most y n h = omega (arith, months-grow y n 12 h, year-length y, february-most y)
+
+-- one month more, and one year more
+pub month-more : (y m : ℕ) → 1 ≤ m → daysOfMonths y m ≡ daysOfMonths y (m - 1) + monthLength y m
+unfolding daysOfMonths
+month-more y zero h = absurd (omega arith)
+month-more y (suc m) h = let e : suc m - 1 ≡ m = omega arith in rw e
+
+pub year-more : (y : ℕ) → 1950 ≤ y → daysOfYears (y + 1 - 1950) ≡ daysOfYears (y - 1950) + daysOfMonths y 12
+unfolding daysOfYears
+year-more y h =
+    let e : y + 1 - 1950 ≡ suc (y - 1950) = omega arith in
+    let back : 1950 + (y - 1950) ≡ y = omega arith in
+    rw (e, back)
+
+-- the number of a day that is put together
+pub number-on : (y m d : ℕ) → m < 100 → d < 100 → dayNumber (dayOn y m d) ≡ daysOfYears (y - 1950) + daysOfMonths y (m - 1) + (d - 1)
+unfolding dayNumber
+number-on y m d hm hd = rw (year-on y m d hm hd, month-on y m d hm hd, day-on y m d hm hd)
+
+module _ (day : ℕ) (r : Real 1950 2099 day) where
+  -- a real day lies before the next month, and so before the next year
+  pub month-ends : daysOfMonths (yearOf day) (monthOf day - 1) + (dayOf day - 1) < daysOfMonths (yearOf day) (monthOf day)
+  month-ends = omega (arith, month-more (yearOf day) (monthOf day) (r .month-low), r .day-low, r .day-high)
+
+  pub year-ends : dayNumber day < daysOfYears (yearOf day + 1 - 1950)
+  unfolding dayNumber
+  year-ends =
+      omega
+      (arith,
+      month-ends,
+      months-grow (yearOf day) (monthOf day) 12 (r .month-high),
+      year-more (yearOf day) (r .since))
+
+  pub number-most : dayNumber day ≤ 54786
+  number-most =
+      omega (arith, year-ends, years-grow (yearOf day + 1 - 1950) 150 (omega (arith, r .until)), years 150 (omega arith))
+
+-- a later real day has a greater number: it is of a later year, or of a later month of the year, or later in the month
+pub later : (a b : ℕ) → Real 1950 2099 a → Real 1950 2099 b → a < b → dayNumber a < dayNumber b
+unfolding dayNumber
+later a b ra rb h =
+    by-test (ltb (yearOf a) (yearOf b))
+    (λ e.
+    let y : yearOf a < yearOf b = ltb-true _ _ e in
+    omega (arith, year-ends a ra, years-grow (yearOf a + 1 - 1950) (yearOf b - 1950) (omega arith)))
+    (λ e.
+    let y : yearOf a ≡ yearOf b = omega (arith, ltb-false (yearOf a) (yearOf b) e) in
+    rw y
+    (by-test (ltb (monthOf a) (monthOf b))
+    (λ f.
+    let m : monthOf a < monthOf b = ltb-true _ _ f in
+    let grow : daysOfMonths (yearOf b) (monthOf a) ≤ daysOfMonths (yearOf b) (monthOf b - 1) = months-grow _ _ _ (omega arith) in
+    let ends : daysOfMonths (yearOf b) (monthOf a - 1) + (dayOf a - 1) < daysOfMonths (yearOf b) (monthOf a) = rw y at (month-ends a ra) in
+    omega arith)
+    (λ f.
+    let m : monthOf a ≡ monthOf b = omega (arith, ltb-false (monthOf a) (monthOf b) f) in
+    rw m (omega (arith, ra .day-low)))))
+
+-- after a real day comes the next number
+pub after : (day : ℕ) → Real 1950 2099 day → dayNumber (dayAfter day) ≡ suc (dayNumber day)
+unfolding dayAfter
+after day r = ?

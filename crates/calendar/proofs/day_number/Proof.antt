@@ -1,0 +1,73 @@
+-- The years, the months and the leap day are counted by the laws of the day number.
+use mathlib.Core.Path.{_≡_, _∙_, sym}
+use native.Mathlib.Omega.{arith}
+use borrow.Author.Needs.{needs}
+use borrow.Author.Tests.{eq-eqb, ne-eqb}
+use Prim.Native.Nat.{_-_, _%_, _≤_}
+use Rattle.calendar.specs.Days.{yearOf, monthOf}
+use Rattle.calendar.specs.Number.{daysOfMonths, dayNumber}
+use Rattle.calendar.proofs.Days.{Real, real, february-leap, february-common}
+use Rattle.calendar.proofs.Number.{years, leap-fourth, months-most, months-to-february, months-from-march}
+use Rattle.calendar.proofs.day_number.Statement.{statement}
+use Rattle.calendar.proofs.day_number.Tie as tie
+
+known : (c : tie.Start) → Real 1950 2099 (c .args .day)
+known c = real 1950 2099 (c .args .day) (c .pre)
+
+-- what `days_before` gives is at most a year
+before : (c : tie.After-days-before) → c .days-before .result ≤ 366
+before c =
+    omega (arith, c .days-before .ensures, months-most 1951 (monthOf (c .before .args .day) - 1) (omega (arith, known (c .before))))
+
+sub-years : tie.Need-sub-years
+sub-years c = known c .since
+
+mul-before : tie.Need-mul-before
+mul-before c = search needs
+
+add-before : tie.Need-add-before
+add-before c = search needs
+
+add-before-2 : tie.Need-add-before-2
+add-before-2 c = search needs
+
+days-before-requires : tie.Need-days-before-requires
+days-before-requires c κs = (known c .month-low, known c .month-high)
+
+add-before-3 : tie.Need-add-before-3
+add-before-3 c = omega (arith, known (c .before), before c)
+
+add-before-4 : tie.Need-add-before-4
+add-before-4 c = omega (arith, known (c .before), before c)
+
+sub-before : tie.Need-sub-before
+sub-before c = omega (arith, known (c .before))
+
+returns : tie.Need-returns
+returns c = ?
+
+returns-2 : tie.Need-returns-2
+returns-2 c = ?
+
+add-result : tie.Need-add-result
+add-result c = omega (arith, known (c .before .before .before), before (c .before .before))
+
+returns-3 : tie.Need-returns-3
+returns-3 c = ?
+
+pub day-number-spec : {M : Type 1} → statement M
+day-number-spec =
+    tie.close
+    (tie.spec
+    sub-years
+    mul-before
+    add-before
+    add-before-2
+    days-before-requires
+    add-before-3
+    add-before-4
+    sub-before
+    returns
+    returns-2
+    add-result
+    returns-3)
