@@ -80,15 +80,20 @@ pub february-common : (y : ℕ) → leap y ≡ false → february y ≡ 28
 unfolding february
 february-common y e = rw e
 
-pub february-most : (y : ℕ) → february y ≤ 29
-february-most y =
+pub february-between : (y : ℕ) → (1 ≤ february y) × (february y ≤ 29)
+february-between y =
     by-test (leap y) (λ e. omega (arith, february-leap y e)) (λ e. omega (arith, february-common y e))
+
+pub length-least : (y m : ℕ) → 1 ≤ m → m ≤ 12 → 1 ≤ monthLength y m
+length-least y m low high =
+    by-test (eqb m 2) (λ e. omega (arith, length-two y m (eqb-true m 2 e), february-between y))
+    (λ e. omega (arith, length-rule y m low high (eqb-false m 2 e)))
 
 pub length-most : (y m : ℕ) → monthLength y m ≤ 31
 length-most y m =
     by-test (ltb m 1) (λ e. omega (arith, length-zero y m (ltb-true m 1 e)))
     (λ e. by-test (ltb 12 m) (λ f. omega (arith, length-none y m (ltb-true 12 m f)))
-    (λ f. by-test (eqb m 2) (λ g. omega (arith, length-two y m (eqb-true m 2 g), february-most y))
+    (λ f. by-test (eqb m 2) (λ g. omega (arith, length-two y m (eqb-true m 2 g), february-between y))
     (λ g. omega (arith, length-rule y m (ltb-false m 1 e) (ltb-false 12 m f) (eqb-false m 2 g)))))
 
 -- what a real day is, in its parts

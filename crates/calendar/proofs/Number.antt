@@ -9,7 +9,7 @@ use lib.Dec.{ltb, eqb}
 use borrow.Author.Tests.{ltb-true, ltb-false, eqb-true, eqb-false, eq-eqb}
 use Rattle.calendar.specs.Days.{leap, february, monthLength, realDay, yearOf, monthOf, dayOf}
 use Rattle.calendar.specs.Number.{daysOfMonths, daysOfYears, dayNumber, dayOn, dayAfter}
-use Rattle.calendar.proofs.Days.{by-test, passes-at, year-on, month-on, day-on, length-most, february-most, february-leap, february-common, Real}
+use Rattle.calendar.proofs.Days.{by-test, passes-at, year-on, month-on, day-on, real-on, length-rule, length-least, length-most, february-between, february-leap, february-common, Real, real}
 
 -- of 1950 to 2099 each fourth year is a leap year, since 2000 is one
 pub leap-fourth : (y : ℕ) → 1950 ≤ y → y ≤ 2099 → leap y ≡ eqb (y % 4) 0
@@ -78,7 +78,7 @@ years-grow = grows daysOfYears (λ k. omega arith)
 
 -- a part of a year is no longer than a leap year
 pub months-most : (y n : ℕ) → n ≤ 12 → daysOfMonths y n ≤ 366
-months-most y n h = omega (arith, months-grow y n 12 h, year-length y, february-most y)
+months-most y n h = omega (arith, months-grow y n 12 h, year-length y, february-between y)
 
 -- one month more, and one year more
 pub month-more : (y m : ℕ) → 1 ≤ m → daysOfMonths y m ≡ daysOfMonths y (m - 1) + monthLength y m
@@ -137,7 +137,113 @@ later a b ra rb h =
     let m : monthOf a ≡ monthOf b = omega (arith, ltb-false (monthOf a) (monthOf b) f) in
     rw m (omega (arith, ra .day-low)))))
 
--- after a real day comes the next number
-pub after : (day : ℕ) → Real 1950 2099 day → dayNumber (dayAfter day) ≡ suc (dayNumber day)
+-- the day after a real day is one of three
+by-after : (P : ℕ → Type 0) (day : ℕ) → Real 1950 2099 day
+    → (dayOf day < monthLength (yearOf day) (monthOf day) → P (dayOn (yearOf day) (monthOf day) (dayOf day + 1)))
+    → (dayOf day ≡ monthLength (yearOf day) (monthOf day) → monthOf day < 12 → P (dayOn (yearOf day) (monthOf day + 1) 1))
+    → (dayOf day ≡ monthLength (yearOf day) (monthOf day) → monthOf day ≡ 12 → P (dayOn (yearOf day + 1) 1 1))
+    → P (dayAfter day)
 unfolding dayAfter
-after day r = ?
+by-after P day r in-month next-month next-year =
+    by-test (ltb (dayOf day) (monthLength (yearOf day) (monthOf day)))
+    (λ e. simp e (in-month (ltb-true _ _ e)))
+    (λ e.
+    let last : dayOf day ≡ monthLength (yearOf day) (monthOf day) =
+        omega (arith, r, ltb-false (dayOf day) (monthLength (yearOf day) (monthOf day)) e) in
+    by-test (ltb (monthOf day) 12)
+    (λ f. simp (e, f) (next-month last (ltb-true _ _ f)))
+    (λ f. simp (e, f) (next-year last (omega (arith, r, ltb-false (monthOf day) 12 f)))))
+
+no-month : (y : ℕ) → daysOfMonths y 0 ≡ 0
+unfolding daysOfMonths
+no-month y = refl
+
+-- the day after has the next number
+pub after : (day : ℕ) → Real 1950 2099 day → dayNumber (dayAfter day) ≡ suc (dayNumber day)
+unfolding dayNumber
+after day r =
+    let y : ℕ = yearOf day in
+    let m : ℕ = monthOf day in
+    let d : ℕ = dayOf day in
+    let whole : daysOfMonths y m ≡ daysOfMonths y (m - 1) + monthLength y m = month-more y m (r .month-low) in
+    by-after (λ n. dayNumber n ≡ suc (dayNumber day)) day r
+    (λ e. number-on y m (d + 1) (omega (arith, r)) (omega (arith, length-most y m)) ∙ omega (arith, r))
+    (λ e f.
+    let back : m + 1 - 1 ≡ m = omega arith in
+    number-on y (m + 1) 1 (omega arith) (omega arith) ∙ rw back (omega (arith, r)))
+    (λ e f.
+    let twelve : daysOfMonths y m ≡ daysOfMonths y 12 = ap (daysOfMonths y) f in
+    number-on (y + 1) 1 1 (omega arith) (omega arith) ∙ omega (arith, r, no-month (y + 1), year-more y (r .since)))
+
+-- the day after is a real day, but after the last
+pub after-real : (day : ℕ) → Real 1950 2099 day → day < 20991231 → realDay 1950 2099 (dayAfter day) ≡ true
+after-real day r h =
+    let y : ℕ = yearOf day in
+    let m : ℕ = monthOf day in
+    let d : ℕ = dayOf day in
+    by-after (λ n. realDay 1950 2099 n ≡ true) day r
+    (λ e. real-on 1950 2099 y m (d + 1) (r .since) (r .until) (r .month-low) (r .month-high) (omega arith) (omega arith))
+    (λ e f. real-on 1950 2099 y (m + 1) 1 (r .since) (r .until) (omega arith) (omega arith) (omega arith) (length-least y (m + 1) (omega arith) (omega arith)))
+    (λ e f.
+    let long : monthLength y m ≡ 31 = length-rule y m (r .month-low) (r .month-high) (omega arith) ∙ rw f in
+    real-on 1950 2099 (y + 1) 1 1 (omega (arith, r)) (omega (arith, r)) (omega arith) (omega arith) (omega arith)
+    (length-least (y + 1) 1 (omega arith) (omega arith)))
+
+pub first-real : realDay 1950 2099 19500101 ≡ true
+unfolding realDay monthLength
+first-real = refl
+
+pub first-number : dayNumber 19500101 ≡ 0
+unfolding dayNumber daysOfYears daysOfMonths
+first-number = refl
+
+pub last-real : realDay 1950 2099 20991231 ≡ true
+unfolding realDay monthLength
+last-real = refl
+
+pub last-number : dayNumber 20991231 ≡ 54786
+unfolding dayNumber daysOfYears daysOfMonths monthLength february leap
+last-number = refl
+
+-- two real days with one number are one day
+pub same-number : (a b : ℕ) → Real 1950 2099 a → Real 1950 2099 b → dayNumber a ≡ dayNumber b → a ≡ b
+same-number a b ra rb e =
+    by-test (ltb a b) (λ l. absurd (omega (arith, later a b ra rb (ltb-true a b l))))
+    (λ l. by-test (ltb b a) (λ m. absurd (omega (arith, later b a rb ra (ltb-true b a m))))
+    (λ m. omega (arith, ltb-false a b l, ltb-false b a m)))
+
+not-last : (day : ℕ) → Real 1950 2099 day → dayNumber day < 54786 → day < 20991231
+not-last day r h =
+    by-test (ltb day 20991231) (λ l. ltb-true _ _ l)
+    (λ l.
+    ⊎-elim (λ e. absurd (omega (arith, ap dayNumber e, last-number)))
+    (λ m. absurd (omega (arith, later 20991231 day (real 1950 2099 20991231 last-real) r m, last-number)))
+    (eq-or-lt-of-le (ltb-false day 20991231 l)))
+
+-- the days in turn, from the first
+nth : ℕ → ℕ
+nth zero = 19500101
+nth (suc n) = dayAfter (nth n)
+
+nth-day : (n : ℕ) → n ≤ 54786 → (realDay 1950 2099 (nth n) ≡ true) × (dayNumber (nth n) ≡ n)
+unfolding nth
+nth-day zero h = (first-real, first-number)
+nth-day (suc n) h =
+    let (t, e) = nth-day n (omega arith) in
+    let r : Real 1950 2099 (nth n) = real 1950 2099 (nth n) t in
+    (after-real (nth n) r (not-last (nth n) r (omega (arith, e))), after (nth n) r ∙ ap suc e)
+
+-- no second numbering from 0 rises by one from each day to the next
+module _ (f : ℕ → ℕ) (zeroth : f 19500101 ≡ 0) (step : (day : ℕ) → realDay 1950 2099 day ≡ true → day < 20991231 → f (dayAfter day) ≡ suc (f day)) where
+  counted : (n : ℕ) → n ≤ 54786 → f (nth n) ≡ n
+  unfolding nth
+  counted zero h = zeroth
+  counted (suc n) h =
+      let (t, e) = nth-day n (omega arith) in
+      step (nth n) t (not-last (nth n) (real 1950 2099 (nth n) t) (omega (arith, e))) ∙ ap suc (counted n (omega arith))
+
+  pub no-other : (day : ℕ) → Real 1950 2099 day → f day ≡ dayNumber day
+  no-other day r =
+      let most : dayNumber day ≤ 54786 = number-most day r in
+      let (t, e) = nth-day (dayNumber day) most in
+      ap f (sym (same-number (nth (dayNumber day)) day (real 1950 2099 _ t) r e)) ∙ counted (dayNumber day) most

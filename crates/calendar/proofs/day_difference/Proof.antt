@@ -1,50 +1,80 @@
+-- Both day numbers are at most 54786, so their signed difference is that of the numbers.
+use mathlib.Core.Path.{_≡_, _∙_, sym, ap}
+use mathlib.Core.Bool.{true, false}
+use Prim.Native.Nat.{_<_, _^_}
+use native.Mathlib.Omega.{arith}
 use borrow.Author.Needs.{needs}
+use borrow.Author.Tests.{not-true, not-false}
+use lib.IntN.{pos, _-ℤ_}
+use mir.Syntax.{w64}
+use mir.Val.{toZ}
+use mir.ValLaws.{toZ-pos, toZ-ofZ}
+use Rattle.calendar.specs.Days.{realDay}
+use Rattle.calendar.specs.Difference.{differenceOf}
+use Rattle.calendar.specs.declared.Difference.the-variants.{Days}
+use Rattle.calendar.proofs.Days.{real}
+use Rattle.calendar.proofs.Number.{number-most}
+use Rattle.calendar.proofs.Signed.{fits}
 use Rattle.calendar.proofs.day_difference.Statement.{statement}
 use Rattle.calendar.proofs.day_difference.Tie as tie
-use Rattle.calendar.proofs.day_difference.Reads as reads
-use Rattle.calendar.proofs.day_difference.Lts as lts
-use Rattle.calendar.proofs.day_number.Reads as day-number-reads
-use Rattle.calendar.proofs.real_day.Reads as real-day-reads
 
--- src/lib.rt:47:9
 real-day-requires : tie.Need-real-day-requires
 real-day-requires c κs = search needs
 
--- src/lib.rt:48:9
 returns : tie.Need-returns
-returns c = ?
+unfolding differenceOf
+returns c = simp (sym (c .before .real-day .ensures) ∙ not-true _ (c .if1 .taken))
 
--- src/lib.rt:50:9
 real-day-requires-2 : tie.Need-real-day-requires-2
 real-day-requires-2 c κs = search needs
 
--- src/lib.rt:51:9
+first-real : (c : tie.Else1) → realDay 1950 2099 (c .before .before .args .first) ≡ true
+first-real c = sym (c .before .real-day .ensures) ∙ not-false _ (c .if1 .left)
+
 returns-2 : tie.Need-returns-2
-returns-2 c = ?
+unfolding differenceOf
+returns-2 c =
+    simp (first-real (c .before .before), sym (c .before .real-day2 .ensures) ∙ not-true _ (c .if2 .taken))
 
--- src/lib.rt:53:9
+second-real : (c : tie.Else2) → realDay 1950 2099 (c .before .before .before .before .args .second) ≡ true
+second-real c = sym (c .before .real-day2 .ensures) ∙ not-false _ (c .if2 .left)
+
 day-number-requires : tie.Need-day-number-requires
-day-number-requires c κs = ?
+day-number-requires c κs = first-real (c .before .before)
 
--- src/lib.rt:54:9
 day-number-requires-2 : tie.Need-day-number-requires-2
-day-number-requires-2 c κs = ?
+day-number-requires-2 c κs = second-real (c .before)
 
--- src/lib.rt:55:22
+from-small : (c : tie.After-day-number2) → c .before .day-number .result < 2 ^ 63
+from-small c =
+    omega (arith, c .before .day-number .ensures, number-most _ (real 1950 2099 _ (first-real (c .before .before .before .before))))
+
+to-small : (c : tie.After-day-number2) → c .day-number2 .result < 2 ^ 63
+to-small c =
+    omega (arith, c .day-number2 .ensures, number-most _ (real 1950 2099 _ (second-real (c .before .before))))
+
 cast-t9 : tie.Need-cast-t9
-cast-t9 c = ?
+cast-t9 c = record { sfits = to-small c }
 
--- src/lib.rt:55:34
 cast-t10 : tie.Need-cast-t10
-cast-t10 c = ?
+cast-t10 c = record { sfits = from-small c }
 
--- src/lib.rt:55:22
+-- read as signed, the numbers are the same
+same : (c : tie.After-day-number2) → toZ w64 (c .day-number2 .result) -ℤ toZ w64 (c .before .day-number .result) ≡ pos (c .day-number2 .result) -ℤ pos (c .before .day-number .result)
+same c = rw (toZ-pos w64 _ (to-small c), toZ-pos w64 _ (from-small c))
+
 sub-t11 : tie.Need-sub-t11
-sub-t11 c = ?
+sub-t11 c = rw (same c) (fits _ _ (to-small c) (from-small c))
 
--- src/lib.rt:44:1
 returns-3 : tie.Need-returns-3
-returns-3 c = ?
+unfolding differenceOf
+returns-3 c =
+    ap Days (toZ-ofZ w64 _ (sub-t11 c) ∙ same c)
+    ∙ simp
+    (first-real (c .before .before .before .before),
+    second-real (c .before .before),
+    c .day-number2 .ensures,
+    c .before .day-number .ensures)
 
 pub day-difference-spec : {M : Type 1} → statement M
 day-difference-spec =
