@@ -1,6 +1,6 @@
 -- Laws of the difference of two days: it is that of their numbers, which are in the order of the days.
 use mathlib.Core.Path.{_≡_, sym, _∙_, ap}
-use mathlib.Core.Bool.{true, false, _&&_, and-eq-true-iff}
+use mathlib.Core.Bool.{true, _&&_, and-eq-true-iff}
 use Prim.Native.Nat.{ℕ, suc, _-_, _<_, _≤_}
 use native.Mathlib.Omega.{arith}
 use lib.Dec.{ltb}
@@ -14,7 +14,8 @@ use Rattle.calendar.proofs.Days.{by-test, Real, real}
 use Rattle.calendar.proofs.Number.{later}
 use Rattle.calendar.proofs.Signed.{less, more}
 
-pub answer : (a b : ℕ) → realDay 1950 2099 a ≡ true → realDay 1950 2099 b ≡ true → differenceOf a b ≡ Days (pos (dayNumber b) -ℤ pos (dayNumber a))
+pub answer : (a b : ℕ) → realDay 1950 2099 a ≡ true → realDay 1950 2099 b ≡ true
+    → differenceOf a b ≡ Days (pos (dayNumber b) -ℤ pos (dayNumber a))
 unfolding differenceOf
 answer a b ta tb = simp (ta, tb)
 
@@ -35,7 +36,8 @@ answered a b x e =
     (λ t. let no = simp t at e in let z : _≡_ {A = ℕ} 0 1 = cc in absurd (omega arith))
 
 -- an earlier second day makes it negative, and no other
-pub below-zero : (a b : ℕ) → realDay 1950 2099 a ≡ true → realDay 1950 2099 b ≡ true → b < a → differenceOf a b ≡ Days (negsuc (dayNumber a - suc (dayNumber b)))
+pub below-zero : (a b : ℕ) → realDay 1950 2099 a ≡ true → realDay 1950 2099 b ≡ true → b < a
+    → differenceOf a b ≡ Days (negsuc (dayNumber a - suc (dayNumber b)))
 below-zero a b ta tb h =
     answer a b ta tb ∙ ap Days (less _ _ (later b a (real 1950 2099 b tb) (real 1950 2099 a ta) h))
 

@@ -1,12 +1,12 @@
 -- Laws of days and months: a day is its three parts, and a real day's parts lie in their bounds.
-use mathlib.Core.Path.{_≡_, refl, sym, _∙_, ap, subst}
-use mathlib.Core.Bool.{Bool, true, false, cond, _&&_, _||_, and-eq-true-iff}
+use mathlib.Core.Path.{_≡_, refl, sym, subst}
+use mathlib.Core.Bool.{Bool, true, false, _&&_, _||_, and-eq-true-iff}
 use mathlib.Core.Logic.{⊎-elim}
-use Prim.Native.Nat.{ℕ, zero, suc, _+_, _*_, _/_, _%_, _≤_, _<_}
+use Prim.Native.Nat.{ℕ, zero, suc, _+_, _/_, _%_, _≤_, _<_}
 use native.Mathlib.Nat.{not-suc-le-zero, le-of-suc-le-suc, eq-or-lt-of-le}
 use native.Mathlib.Omega.{arith}
 use lib.Dec.{leb, ltb, eqb}
-use lib.ListN.{getD, List·getD-eq-default}
+use lib.ListN.{List·getD-eq-default}
 use borrow.Author.Tests.{ltb-true, ltb-false, leb-true, le-leb, eqb-true, eqb-false, ne-eqb}
 use Rattle.calendar.specs.Days.{leap, february, monthLength, realDay, yearOf, monthOf, dayOf}
 use Rattle.calendar.specs.Number.{dayOn}
@@ -43,11 +43,6 @@ module _ (y m d : ℕ) (hm : m < 100) (hd : d < 100) where
   pub day-on : dayOf (dayOn y m d) ≡ d
   unfolding dayOn
   day-on = omega arith
-
--- a day is put together of its parts
-pub parts : (day : ℕ) → dayOn (yearOf day) (monthOf day) (dayOf day) ≡ day
-unfolding dayOn
-parts day = omega arith
 
 -- but for February a month's length follows a rule
 rule : ℕ → ℕ → Bool
@@ -107,9 +102,10 @@ pub record Real (from to day : ℕ) : Type 0 where
 
 -- a month that has a day is one of the twelve
 month-in : (y m : ℕ) → 1 ≤ monthLength y m → (1 ≤ m) × (m ≤ 12)
-month-in y m h =
-    (by-test (ltb m 1) (λ e. omega (arith, length-zero y m (ltb-true m 1 e))) (λ e. ltb-false m 1 e),
-    by-test (ltb 12 m) (λ e. omega (arith, length-none y m (ltb-true 12 m e))) (λ e. ltb-false 12 m e))
+month-in y m h = (
+  by-test (ltb m 1) (λ e. omega (arith, length-zero y m (ltb-true m 1 e))) (λ e. ltb-false m 1 e),
+  by-test (ltb 12 m) (λ e. omega (arith, length-none y m (ltb-true 12 m e))) (λ e. ltb-false 12 m e),
+)
 
 pub real : (from to day : ℕ) → realDay from to day ≡ true → Real from to day
 unfolding realDay
@@ -126,12 +122,22 @@ real from to day t =
       month-low = month .0;
       month-high = month .1;
       day-low = d₁;
-      day-high = d₂ }
+      day-high = d₂;
+    }
 
 -- and back
-pub real-on : (from to y m d : ℕ) → from ≤ y → y ≤ to → 1 ≤ m → m ≤ 12 → 1 ≤ d → d ≤ monthLength y m → realDay from to (dayOn y m d) ≡ true
+pub real-on : (from to y m d : ℕ) → from ≤ y → y ≤ to → 1 ≤ m → m ≤ 12 → 1 ≤ d → d ≤ monthLength y m
+    → realDay from to (dayOn y m d) ≡ true
 unfolding realDay
 real-on from to y m d since until low high d₁ d₂ =
     let hm : m < 100 = omega arith in
     let hd : d < 100 = omega (arith, length-most y m) in
-    simp (year-on y m d hm hd, month-on y m d hm hd, day-on y m d hm hd, le-leb _ _ since, le-leb _ _ until, le-leb _ _ d₁, le-leb _ _ d₂)
+    simp (
+      year-on y m d hm hd,
+      month-on y m d hm hd,
+      day-on y m d hm hd,
+      le-leb _ _ since,
+      le-leb _ _ until,
+      le-leb _ _ d₁,
+      le-leb _ _ d₂,
+    )

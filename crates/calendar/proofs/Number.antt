@@ -1,15 +1,16 @@
 -- Laws of the day number: it adds up whole years and whole months, and of 1950 to 2099 each fourth year is a leap year.
 use mathlib.Core.Path.{_≡_, refl, sym, _∙_, ap}
-use mathlib.Core.Bool.{Bool, true, false, cond}
+use mathlib.Core.Bool.{Bool, true, cond}
 use mathlib.Core.Logic.{⊎-elim}
 use Prim.Native.Nat.{ℕ, zero, suc, _+_, _-_, _*_, _/_, _%_, _≤_, _<_}
-use native.Mathlib.Nat.{not-suc-le-zero, le-of-suc-le-suc, eq-or-lt-of-le, le-trans, le-refl}
+use native.Mathlib.Nat.{le-of-suc-le-suc, eq-or-lt-of-le, le-trans, le-refl}
 use native.Mathlib.Omega.{arith}
 use lib.Dec.{ltb, eqb}
-use borrow.Author.Tests.{ltb-true, ltb-false, eqb-true, eqb-false, eq-eqb}
+use borrow.Author.Tests.{ltb-true, ltb-false, eqb-true, eqb-false, eq-eqb, ne-eqb}
 use Rattle.calendar.specs.Days.{leap, february, monthLength, realDay, yearOf, monthOf, dayOf}
 use Rattle.calendar.specs.Number.{daysOfMonths, daysOfYears, dayNumber, dayOn, dayAfter}
-use Rattle.calendar.proofs.Days.{by-test, passes-at, year-on, month-on, day-on, real-on, length-rule, length-least, length-most, february-between, february-leap, february-common, Real, real}
+use Rattle.calendar.proofs.Days.{by-test, passes-at, year-on, month-on, day-on, Real, real, real-on}
+use Rattle.calendar.proofs.Days.{length-rule, length-least, length-most, february-between, february-leap, february-common}
 
 -- of 1950 to 2099 each fourth year is a leap year, since 2000 is one
 pub leap-fourth : (y : ℕ) → 1950 ≤ y → y ≤ 2099 → leap y ≡ eqb (y % 4) 0
@@ -36,13 +37,13 @@ years (suc k) h =
     (λ e. omega (arith, eqb-true ((1950 + k) % 4) 0 e, year-length (1950 + k), february-leap (1950 + k) (fourth ∙ e)))
     (λ e. omega (arith, eqb-false ((1950 + k) % 4) 0 e, year-length (1950 + k), february-common (1950 + k) (fourth ∙ e)))
 
--- the days before a month of a year without a leap day follow a rule
-early : ℕ → Bool
-early n = eqb (daysOfMonths 1951 n) ((367 * n + 5) / 12 - cond (ltb n 2) 0 2)
+-- the days before a month of a year without a leap day: 367 shared evenly, but two less from March on
+even : ℕ → Bool
+even n = eqb (daysOfMonths 1951 n) ((367 * n + 5) / 12 - cond (ltb n 2) 0 2)
 
 pub months-rule : (n : ℕ) → n < 12 → daysOfMonths 1951 n ≡ (367 * n + 5) / 12 - cond (ltb n 2) 0 2
-unfolding early daysOfMonths monthLength february leap
-months-rule n h = eqb-true _ _ (passes-at early 12 refl n h)
+unfolding even daysOfMonths monthLength february leap
+months-rule n h = eqb-true _ _ (passes-at even 12 refl n h)
 
 common : february 1951 ≡ 28
 unfolding february leap
@@ -94,11 +95,39 @@ year-more y h =
     rw (e, back)
 
 -- the number of a day that is put together
-pub number-on : (y m d : ℕ) → m < 100 → d < 100 → dayNumber (dayOn y m d) ≡ daysOfYears (y - 1950) + daysOfMonths y (m - 1) + (d - 1)
+pub number-on : (y m d : ℕ) → m < 100 → d < 100
+    → dayNumber (dayOn y m d) ≡ daysOfYears (y - 1950) + daysOfMonths y (m - 1) + (d - 1)
 unfolding dayNumber
 number-on y m d hm hd = rw (year-on y m d hm hd, month-on y m d hm hd, day-on y m d hm hd)
 
+-- the number of a day, counted from 1, with the leap days of the years before but not that of its own
+abbrev pub plain : ℕ → ℕ
+plain day =
+    (yearOf day - 1950) * 365 + (yearOf day - 1950 + 1) / 4 + daysOfMonths 1951 (monthOf day - 1) + dayOf day
+
 module _ (day : ℕ) (r : Real 1950 2099 day) where
+  years-before : daysOfYears (yearOf day - 1950) ≡ 365 * (yearOf day - 1950) + (yearOf day - 1950 + 1) / 4
+  years-before = years (yearOf day - 1950) (omega (arith, r))
+
+  pub number-to-february : monthOf day < 3 → dayNumber day + 1 ≡ plain day
+  unfolding dayNumber
+  number-to-february h =
+      omega (arith, r, years-before, months-to-february (yearOf day) (monthOf day - 1) (omega (arith, r)))
+
+  from-march : 3 ≤ monthOf day → dayNumber day + 29 ≡ plain day + february (yearOf day)
+  unfolding dayNumber
+  from-march h =
+      omega (arith, r, years-before, months-from-march (yearOf day) (monthOf day - 1) (omega (arith, r)))
+
+  fourth : leap (yearOf day) ≡ eqb (yearOf day % 4) 0
+  fourth = leap-fourth (yearOf day) (r .since) (r .until)
+
+  pub number-common : 3 ≤ monthOf day → (yearOf day % 4 ≡ 0 → ⊥) → dayNumber day + 1 ≡ plain day
+  number-common h e = omega (arith, from-march h, february-common (yearOf day) (fourth ∙ ne-eqb _ _ e))
+
+  pub number-leap : 3 ≤ monthOf day → yearOf day % 4 ≡ 0 → dayNumber day ≡ plain day
+  number-leap h e = omega (arith, from-march h, february-leap (yearOf day) (fourth ∙ eq-eqb _ _ e))
+
   -- a real day lies before the next month, and so before the next year
   pub month-ends : daysOfMonths (yearOf day) (monthOf day - 1) + (dayOf day - 1) < daysOfMonths (yearOf day) (monthOf day)
   month-ends = omega (arith, month-more (yearOf day) (monthOf day) (r .month-low), r .day-low, r .day-high)
@@ -106,11 +135,12 @@ module _ (day : ℕ) (r : Real 1950 2099 day) where
   pub year-ends : dayNumber day < daysOfYears (yearOf day + 1 - 1950)
   unfolding dayNumber
   year-ends =
-      omega
-      (arith,
-      month-ends,
-      months-grow (yearOf day) (monthOf day) 12 (r .month-high),
-      year-more (yearOf day) (r .since))
+      omega (
+        arith,
+        month-ends,
+        months-grow (yearOf day) (monthOf day) 12 (r .month-high),
+        year-more (yearOf day) (r .since),
+      )
 
   pub number-most : dayNumber day ≤ 54786
   number-most =
@@ -130,9 +160,8 @@ later a b ra rb h =
     (by-test (ltb (monthOf a) (monthOf b))
     (λ f.
     let m : monthOf a < monthOf b = ltb-true _ _ f in
-    let grow : daysOfMonths (yearOf b) (monthOf a) ≤ daysOfMonths (yearOf b) (monthOf b - 1) = months-grow _ _ _ (omega arith) in
-    let ends : daysOfMonths (yearOf b) (monthOf a - 1) + (dayOf a - 1) < daysOfMonths (yearOf b) (monthOf a) = rw y at (month-ends a ra) in
-    omega arith)
+    omega
+    (arith, rw y at (month-ends a ra), months-grow (yearOf b) (monthOf a) (monthOf b - 1) (omega arith)))
     (λ f.
     let m : monthOf a ≡ monthOf b = omega (arith, ltb-false (monthOf a) (monthOf b) f) in
     rw m (omega (arith, ra .day-low)))))
@@ -149,7 +178,7 @@ by-after P day r in-month next-month next-year =
     (λ e. simp e (in-month (ltb-true _ _ e)))
     (λ e.
     let last : dayOf day ≡ monthLength (yearOf day) (monthOf day) =
-        omega (arith, r, ltb-false (dayOf day) (monthLength (yearOf day) (monthOf day)) e) in
+    omega (arith, r, ltb-false (dayOf day) (monthLength (yearOf day) (monthOf day)) e) in
     by-test (ltb (monthOf day) 12)
     (λ f. simp (e, f) (next-month last (ltb-true _ _ f)))
     (λ f. simp (e, f) (next-year last (omega (arith, r, ltb-false (monthOf day) 12 f)))))
@@ -183,7 +212,9 @@ after-real day r h =
     let d : ℕ = dayOf day in
     by-after (λ n. realDay 1950 2099 n ≡ true) day r
     (λ e. real-on 1950 2099 y m (d + 1) (r .since) (r .until) (r .month-low) (r .month-high) (omega arith) (omega arith))
-    (λ e f. real-on 1950 2099 y (m + 1) 1 (r .since) (r .until) (omega arith) (omega arith) (omega arith) (length-least y (m + 1) (omega arith) (omega arith)))
+    (λ e f.
+    real-on 1950 2099 y (m + 1) 1 (r .since) (r .until) (omega arith) (omega arith) (omega arith)
+    (length-least y (m + 1) (omega arith) (omega arith)))
     (λ e f.
     let long : monthLength y m ≡ 31 = length-rule y m (r .month-low) (r .month-high) (omega arith) ∙ rw f in
     real-on 1950 2099 (y + 1) 1 1 (omega (arith, r)) (omega (arith, r)) (omega arith) (omega arith) (omega arith)
@@ -234,7 +265,10 @@ nth-day (suc n) h =
     (after-real (nth n) r (not-last (nth n) r (omega (arith, e))), after (nth n) r ∙ ap suc e)
 
 -- no second numbering from 0 rises by one from each day to the next
-module _ (f : ℕ → ℕ) (zeroth : f 19500101 ≡ 0) (step : (day : ℕ) → realDay 1950 2099 day ≡ true → day < 20991231 → f (dayAfter day) ≡ suc (f day)) where
+module _
+    (f : ℕ → ℕ)
+    (zeroth : f 19500101 ≡ 0)
+    (step : (day : ℕ) → realDay 1950 2099 day ≡ true → day < 20991231 → f (dayAfter day) ≡ suc (f day)) where
   counted : (n : ℕ) → n ≤ 54786 → f (nth n) ≡ n
   unfolding nth
   counted zero h = zeroth

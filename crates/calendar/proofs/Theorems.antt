@@ -45,7 +45,8 @@ pub answered : (a b : ℕ) → realDay 1950 2099 a ≡ true → realDay 1950 209
 answered a b ta tb = (_, answer a b ta tb)
 
 -- If b is x days after a, and c is y days after b, then c is x + y days after a.
-pub additive : (a b c : ℕ) (x y : ℤ) → differenceOf a b ≡ Days x → differenceOf b c ≡ Days y → differenceOf a c ≡ Days (x +ℤ y)
+pub additive : (a b c : ℕ) (x y : ℤ)
+    → differenceOf a b ≡ Days x → differenceOf b c ≡ Days y → differenceOf a c ≡ Days (x +ℤ y)
 additive a b c x y p q =
     let k : Answered a b x = between a b x p in
     let l : Answered b c y = between b c y q in
@@ -58,5 +59,6 @@ turned a b x p =
     answer b a (k .to) (k .from) ∙ ap Days (rw (k .days) (turns (pos (dayNumber a)) (pos (dayNumber b))))
 
 -- Between real days the number is negative if, and only if, the second is earlier.
-pub negative : (a b : ℕ) → realDay 1950 2099 a ≡ true → realDay 1950 2099 b ≡ true → (b < a) ↔ ((n : ℕ) × (differenceOf a b ≡ Days (negsuc n)))
+pub negative : (a b : ℕ) → realDay 1950 2099 a ≡ true → realDay 1950 2099 b ≡ true
+    → (b < a) ↔ ((n : ℕ) × (differenceOf a b ≡ Days (negsuc n)))
 negative a b ta tb = (λ h. (_, below-zero a b ta tb h), λ p. earlier a b (p .0) (p .1))

@@ -146,8 +146,8 @@ fn days_before(month: u64) -> u64
     ensures { λ r. ⌜ r ≡ daysOfMonths 1951 (month - 1) ⌝ }
 {
     let even = (367 * month - 362) / 12;
-    if month < 3 {
-        return even;
+    if 2 < month {
+        return even - 2;
     }
-    even - 2
+    even
 }

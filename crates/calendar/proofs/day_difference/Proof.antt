@@ -1,6 +1,6 @@
 -- Both day numbers are at most 54786, so their signed difference is that of the numbers.
 use mathlib.Core.Path.{_≡_, _∙_, sym, ap}
-use mathlib.Core.Bool.{true, false}
+use mathlib.Core.Bool.{true}
 use Prim.Native.Nat.{_<_, _^_}
 use native.Mathlib.Omega.{arith}
 use borrow.Author.Needs.{needs}
@@ -47,11 +47,13 @@ day-number-requires-2 c κs = second-real (c .before)
 
 from-small : (c : tie.After-day-number2) → c .before .day-number .result < 2 ^ 63
 from-small c =
-    omega (arith, c .before .day-number .ensures, number-most _ (real 1950 2099 _ (first-real (c .before .before .before .before))))
+    let r = real 1950 2099 _ (first-real (c .before .before .before .before)) in
+    omega (arith, c .before .day-number .ensures, number-most _ r)
 
 to-small : (c : tie.After-day-number2) → c .day-number2 .result < 2 ^ 63
 to-small c =
-    omega (arith, c .day-number2 .ensures, number-most _ (real 1950 2099 _ (second-real (c .before .before))))
+    let r = real 1950 2099 _ (second-real (c .before .before)) in
+    omega (arith, c .day-number2 .ensures, number-most _ r)
 
 cast-t9 : tie.Need-cast-t9
 cast-t9 c = record { sfits = to-small c }
@@ -60,7 +62,9 @@ cast-t10 : tie.Need-cast-t10
 cast-t10 c = record { sfits = from-small c }
 
 -- read as signed, the numbers are the same
-same : (c : tie.After-day-number2) → toZ w64 (c .day-number2 .result) -ℤ toZ w64 (c .before .day-number .result) ≡ pos (c .day-number2 .result) -ℤ pos (c .before .day-number .result)
+same : (c : tie.After-day-number2)
+    → toZ w64 (c .day-number2 .result) -ℤ toZ w64 (c .before .day-number .result)
+    ≡ pos (c .day-number2 .result) -ℤ pos (c .before .day-number .result)
 same c = rw (toZ-pos w64 _ (to-small c), toZ-pos w64 _ (from-small c))
 
 sub-t11 : tie.Need-sub-t11
@@ -70,11 +74,12 @@ returns-3 : tie.Need-returns-3
 unfolding differenceOf
 returns-3 c =
     ap Days (toZ-ofZ w64 _ (sub-t11 c) ∙ same c)
-    ∙ simp
-    (first-real (c .before .before .before .before),
-    second-real (c .before .before),
-    c .day-number2 .ensures,
-    c .before .day-number .ensures)
+    ∙ simp (
+      first-real (c .before .before .before .before),
+      second-real (c .before .before),
+      c .day-number2 .ensures,
+      c .before .day-number .ensures,
+    )
 
 pub day-difference-spec : {M : Type 1} → statement M
 day-difference-spec =

@@ -1,14 +1,10 @@
--- The years, the months and the leap day are counted by the laws of the day number.
-use mathlib.Core.Path.{_≡_, _∙_, sym}
+-- The years, the months and the leap day are counted by the closed forms of the day number.
+use Prim.Native.Nat.{_-_, _≤_}
 use native.Mathlib.Omega.{arith}
 use borrow.Author.Needs.{needs}
-use borrow.Author.Tests.{eq-eqb, ne-eqb}
-use Prim.Native.Nat.{_+_, _-_, _*_, _/_, _%_, _≤_}
-use lib.Dec.{eqb}
-use Rattle.calendar.specs.Days.{leap, february, yearOf, monthOf}
-use Rattle.calendar.specs.Number.{daysOfMonths, daysOfYears, dayNumber}
-use Rattle.calendar.proofs.Days.{Real, real, february-leap, february-common}
-use Rattle.calendar.proofs.Number.{years, leap-fourth, months-most, months-to-february, months-from-march}
+use Rattle.calendar.specs.Days.{monthOf}
+use Rattle.calendar.proofs.Days.{Real, real}
+use Rattle.calendar.proofs.Number.{months-most, number-to-february, number-common, number-leap}
 use Rattle.calendar.proofs.day_number.Statement.{statement}
 use Rattle.calendar.proofs.day_number.Tie as tie
 
@@ -18,7 +14,8 @@ known c = real 1950 2099 (c .args .day) (c .pre)
 -- what `days_before` gives is at most a year
 before : (c : tie.After-days-before) → c .days-before .result ≤ 366
 before c =
-    omega (arith, c .days-before .ensures, months-most 1951 (monthOf (c .before .args .day) - 1) (omega (arith, known (c .before))))
+    let r = known (c .before) in
+    omega (arith, c .days-before .ensures, months-most 1951 (monthOf (c .before .args .day) - 1) (omega arith))
 
 sub-years : tie.Need-sub-years
 sub-years c = known c .since
@@ -44,54 +41,29 @@ add-before-4 c = omega (arith, known (c .before), before c)
 sub-before : tie.Need-sub-before
 sub-before c = omega (arith, known (c .before))
 
--- the years before are counted by their law
-counted : (c : tie.Start) → daysOfYears (yearOf (c .args .day) - 1950) ≡ 365 * (yearOf (c .args .day) - 1950) + (yearOf (c .args .day) - 1950 + 1) / 4
-counted c = years _ (omega (arith, known c))
-
 returns : tie.Need-returns
-unfolding dayNumber
 returns c =
-    let s : tie.Start = c .before .before in
-    omega
-    (arith,
-    known s,
-    counted s,
-    c .before .days-before .ensures,
-    months-to-february (yearOf (s .args .day)) (monthOf (s .args .day) - 1) (omega (arith, known s)))
-
--- from March on February counts
-later : (c : tie.Else1) → daysOfMonths (yearOf (c .before .before .args .day)) (monthOf (c .before .before .args .day) - 1) + 28 ≡ daysOfMonths 1951 (monthOf (c .before .before .args .day) - 1) + february (yearOf (c .before .before .args .day))
-later c = months-from-march _ _ (omega arith)
-
-fourth : (c : tie.Start) → leap (yearOf (c .args .day)) ≡ eqb (yearOf (c .args .day) % 4) 0
-fourth c = leap-fourth _ (known c .since) (known c .until)
+    omega (arith, c .before .days-before .ensures, number-to-february _ (known (c .before .before)) (c .if1 .taken))
 
 returns-2 : tie.Need-returns-2
-unfolding dayNumber
 returns-2 c =
-    let s : tie.Start = c .before .before .before in
-    omega
-    (arith,
-    known s,
-    counted s,
-    c .before .before .days-before .ensures,
-    later (c .before),
-    february-common (yearOf (s .args .day)) (fourth s ∙ ne-eqb _ _ (c .if2 .taken)))
+    omega (
+      arith,
+      c .before .before .days-before .ensures,
+      number-common _ (known (c .before .before .before)) (c .before .if1 .left) (c .if2 .taken),
+    )
 
 add-result : tie.Need-add-result
 add-result c = omega (arith, known (c .before .before .before), before (c .before .before))
 
 returns-3 : tie.Need-returns-3
-unfolding dayNumber
 returns-3 c =
-    let s : tie.Start = c .before .before .before in
-    omega
-    (arith,
-    known s,
-    counted s,
-    c .before .before .days-before .ensures,
-    later (c .before),
-    february-leap (yearOf (s .args .day)) (fourth s ∙ eq-eqb _ _ (c .if2 .left)))
+    omega (
+      arith,
+      c .before .before .days-before .ensures,
+      known (c .before .before .before),
+      number-leap _ (known (c .before .before .before)) (c .before .if1 .left) (c .if2 .left),
+    )
 
 pub day-number-spec : {M : Type 1} → statement M
 day-number-spec =

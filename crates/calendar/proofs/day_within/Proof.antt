@@ -24,11 +24,12 @@ month-length-requires c κs = search needs
 returns-4 : tie.Need-returns-4
 unfolding realDay
 returns-4 c =
-    simp
-    (le-leb _ _ (c .before .before .before .if1 .left),
-    le-leb _ _ (c .before .before .if2 .left),
-    le-leb _ _ (c .before .if3 .left),
-    c .month-length .ensures)
+    simp (
+      le-leb _ _ (c .before .before .before .if1 .left),
+      le-leb _ _ (c .before .before .if2 .left),
+      le-leb _ _ (c .before .if3 .left),
+      c .month-length .ensures,
+    )
 
 pub day-within-spec : {M : Type 1} → statement M
 day-within-spec = tie.close (tie.spec returns returns-2 returns-3 month-length-requires returns-4)

@@ -1,6 +1,5 @@
 -- The rule is the law of the months of a year without a leap day.
 use native.Mathlib.Omega.{arith}
-use borrow.Author.Needs.{needs}
 use borrow.Author.Tests.{lt-ltb, le-ltb}
 use Prim.Native.Nat.{_-_}
 use Rattle.calendar.proofs.Number.{months-rule}
@@ -13,20 +12,18 @@ mul-even c = omega arith
 sub-even : tie.Need-sub-even
 sub-even c = omega arith
 
-returns : tie.Need-returns
-returns c =
-    omega
-    (arith,
-    simp (lt-ltb (c .before .args .month - 1) 2 (omega arith)) at (months-rule (c .before .args .month - 1) (omega arith)))
-
 sub-result : tie.Need-sub-result
 sub-result c = omega arith
 
+returns : tie.Need-returns
+returns c =
+    let n = c .before .args .month - 1 in
+    omega (arith, simp (le-ltb n 2 (omega arith)) at (months-rule n (omega arith)))
+
 returns-2 : tie.Need-returns-2
 returns-2 c =
-    omega
-    (arith,
-    simp (le-ltb (c .before .args .month - 1) 2 (omega arith)) at (months-rule (c .before .args .month - 1) (omega arith)))
+    let n = c .before .args .month - 1 in
+    omega (arith, simp (lt-ltb n 2 (omega arith)) at (months-rule n (omega arith)))
 
 pub days-before-spec : {M : Type 1} → statement M
-days-before-spec = tie.close (tie.spec mul-even sub-even returns sub-result returns-2)
+days-before-spec = tie.close (tie.spec mul-even sub-even sub-result returns returns-2)

@@ -1,9 +1,8 @@
 -- The tests are those of the definition, in its order.
 use borrow.Author.Needs.{needs}
 use borrow.Author.Tests.{le-leb, lt-leb, not-true, not-false}
-use mathlib.Core.Path.{_≡_, _∙_, sym}
-use mathlib.Core.Bool.{true, false}
-use Rattle.calendar.specs.Days.{realDay, realMoment}
+use mathlib.Core.Path.{_∙_, sym}
+use Rattle.calendar.specs.Days.{realMoment}
 use Rattle.calendar.proofs.moment_within.Statement.{statement}
 use Rattle.calendar.proofs.moment_within.Tie as tie
 
@@ -22,18 +21,20 @@ returns-2 c =
 returns-3 : tie.Need-returns-3
 unfolding realMoment
 returns-3 c =
-    simp
-    (sym (c .before .before .before .day-within .ensures) ∙ not-false _ (c .before .before .if1 .left),
-    le-leb _ _ (c .before .if2 .left),
-    lt-leb _ _ (c .if3 .taken))
+    simp (
+      sym (c .before .before .before .day-within .ensures) ∙ not-false _ (c .before .before .if1 .left),
+      le-leb _ _ (c .before .if2 .left),
+      lt-leb _ _ (c .if3 .taken),
+    )
 
 returns-4 : tie.Need-returns-4
 unfolding realMoment
 returns-4 c =
-    simp
-    (sym (c .before .before .before .day-within .ensures) ∙ not-false _ (c .before .before .if1 .left),
-    le-leb _ _ (c .before .if2 .left),
-    le-leb _ _ (c .if3 .left))
+    simp (
+      sym (c .before .before .before .day-within .ensures) ∙ not-false _ (c .before .before .if1 .left),
+      le-leb _ _ (c .before .if2 .left),
+      le-leb _ _ (c .if3 .left),
+    )
 
 pub moment-within-spec : {M : Type 1} → statement M
 moment-within-spec = tie.close (tie.spec day-within-requires returns returns-2 returns-3 returns-4)

@@ -1,5 +1,5 @@
 -- February's length goes by the leap year, and the other months' by the law of their lengths.
-use mathlib.Core.Path.{_≡_, _∙_, sym}
+use mathlib.Core.Path.{_∙_, sym}
 use native.Mathlib.Omega.{arith}
 use borrow.Author.Needs.{needs}
 use Rattle.calendar.proofs.Days.{length-rule, length-two, length-none, length-zero, february-leap, february-common}
