@@ -30,7 +30,8 @@ pub after-real : (day : ℕ) → realDay 1950 2099 day ≡ true → day < 209912
 after-real day t h = after-is-real day (real 1950 2099 day t) h
 
 -- A later real day has a greater number.
-pub later-is-more : (a b : ℕ) → realDay 1950 2099 a ≡ true → realDay 1950 2099 b ≡ true → a < b → dayNumber a < dayNumber b
+pub later-is-more : (a b : ℕ) → realDay 1950 2099 a ≡ true → realDay 1950 2099 b ≡ true
+    → a < b → dayNumber a < dayNumber b
 later-is-more a b ta tb h = later a b (real 1950 2099 a ta) (real 1950 2099 b tb) h
 
 -- There is no other numbering: one that gives the first day 0 and rises by one from each day to the next is this one.
@@ -41,7 +42,8 @@ pub only : (f : ℕ → ℕ)
 only f zeroth step d t = no-other f zeroth step d (real 1950 2099 d t)
 
 -- Between two real days there is a number of days.
-pub answered : (a b : ℕ) → realDay 1950 2099 a ≡ true → realDay 1950 2099 b ≡ true → (x : ℤ) × (differenceOf a b ≡ Days x)
+pub answered : (a b : ℕ) → realDay 1950 2099 a ≡ true → realDay 1950 2099 b ≡ true
+    → (x : ℤ) × (differenceOf a b ≡ Days x)
 answered a b ta tb = (_, answer a b ta tb)
 
 -- If b is x days after a, and c is y days after b, then c is x + y days after a.
@@ -50,13 +52,15 @@ pub additive : (a b c : ℕ) (x y : ℤ)
 additive a b c x y p q =
     let k : Answered a b x = between a b x p in
     let l : Answered b c y = between b c y q in
-    answer a c (k .from) (l .to) ∙ ap Days (rw (k .days, l .days) (adds (pos (dayNumber a)) (pos (dayNumber b)) (pos (dayNumber c))))
+    answer a c (k .from) (l .to)
+    ∙ ap Days (rw (k .days, l .days) (adds (pos (dayNumber a)) (pos (dayNumber b)) (pos (dayNumber c))))
 
 -- If b is x days after a, then a is -x days after b.
 pub turned : (a b : ℕ) (x : ℤ) → differenceOf a b ≡ Days x → differenceOf b a ≡ Days (negℤ x)
 turned a b x p =
     let k : Answered a b x = between a b x p in
-    answer b a (k .to) (k .from) ∙ ap Days (rw (k .days) (turns (pos (dayNumber a)) (pos (dayNumber b))))
+    answer b a (k .to) (k .from)
+    ∙ ap Days (rw (k .days) (turns (pos (dayNumber a)) (pos (dayNumber b))))
 
 -- Between real days the number is negative if, and only if, the second is earlier.
 pub negative : (a b : ℕ) → realDay 1950 2099 a ≡ true → realDay 1950 2099 b ≡ true

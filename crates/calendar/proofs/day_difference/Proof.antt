@@ -5,9 +5,7 @@ use Prim.Native.Nat.{_<_, _^_}
 use native.Mathlib.Omega.{arith}
 use borrow.Author.Needs.{needs}
 use borrow.Author.Tests.{not-true, not-false}
-use lib.IntN.{pos, _-ℤ_}
 use mir.Syntax.{w64}
-use mir.Val.{toZ}
 use mir.ValLaws.{toZ-pos, toZ-ofZ}
 use Rattle.calendar.specs.Days.{realDay}
 use Rattle.calendar.specs.Difference.{differenceOf}
@@ -45,41 +43,32 @@ day-number-requires c κs = first-real (c .before .before)
 day-number-requires-2 : tie.Need-day-number-requires-2
 day-number-requires-2 c κs = second-real (c .before)
 
-from-small : (c : tie.After-day-number2) → c .before .day-number .result < 2 ^ 63
-from-small c =
-    let r = real 1950 2099 _ (first-real (c .before .before .before .before)) in
-    omega (arith, c .before .day-number .ensures, number-most _ r)
-
-to-small : (c : tie.After-day-number2) → c .day-number2 .result < 2 ^ 63
-to-small c =
-    let r = real 1950 2099 _ (second-real (c .before .before)) in
-    omega (arith, c .day-number2 .ensures, number-most _ r)
+small : (c : tie.After-day-number2) → (c .before .day-number .result < 2 ^ 63) × (c .day-number2 .result < 2 ^ 63)
+small c =
+    let from = number-most _ (real 1950 2099 _ (first-real (c .before .before .before .before))) in
+    let to = number-most _ (real 1950 2099 _ (second-real (c .before .before))) in
+    omega (arith, from, to, c .before .day-number .ensures, c .day-number2 .ensures)
 
 cast-t9 : tie.Need-cast-t9
-cast-t9 c = record { sfits = to-small c }
+cast-t9 c = omega (arith, small c)
 
 cast-t10 : tie.Need-cast-t10
-cast-t10 c = record { sfits = from-small c }
-
--- read as signed, the numbers are the same
-same : (c : tie.After-day-number2)
-    → toZ w64 (c .day-number2 .result) -ℤ toZ w64 (c .before .day-number .result)
-    ≡ pos (c .day-number2 .result) -ℤ pos (c .before .day-number .result)
-same c = rw (toZ-pos w64 _ (to-small c), toZ-pos w64 _ (from-small c))
+cast-t10 c = omega (arith, small c)
 
 sub-t11 : tie.Need-sub-t11
-sub-t11 c = rw (same c) (fits _ _ (to-small c) (from-small c))
+sub-t11 c = let (from, to) = small c in search fits
 
 returns-3 : tie.Need-returns-3
 unfolding differenceOf
 returns-3 c =
-    ap Days (toZ-ofZ w64 _ (sub-t11 c) ∙ same c)
-    ∙ simp (
+    ap Days (toZ-ofZ w64 _ (sub-t11 c))
+    ∙ simp (toZ-pos w64 _ (small c .0), toZ-pos w64 _ (small c .1))
+    (simp (
       first-real (c .before .before .before .before),
       second-real (c .before .before),
-      c .day-number2 .ensures,
       c .before .day-number .ensures,
-    )
+      c .day-number2 .ensures,
+    ))
 
 pub day-difference-spec : {M : Type 1} → statement M
 day-difference-spec =

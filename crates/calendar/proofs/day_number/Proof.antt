@@ -43,14 +43,14 @@ sub-before c = omega (arith, known (c .before))
 
 returns : tie.Need-returns
 returns c =
-    omega (arith, c .before .days-before .ensures, number-to-february _ (known (c .before .before)) (c .if1 .taken))
+    omega (arith, c .before .days-before .ensures, number-to-february _ (known (c .before .before)) (omega arith))
 
 returns-2 : tie.Need-returns-2
 returns-2 c =
     omega (
       arith,
       c .before .before .days-before .ensures,
-      number-common _ (known (c .before .before .before)) (c .before .if1 .left) (c .if2 .taken),
+      number-common _ (known (c .before .before .before)) (omega arith) (c .if2 .taken),
     )
 
 add-result : tie.Need-add-result
@@ -62,7 +62,7 @@ returns-3 c =
       arith,
       c .before .before .days-before .ensures,
       known (c .before .before .before),
-      number-leap _ (known (c .before .before .before)) (c .before .if1 .left) (c .if2 .left),
+      number-leap _ (known (c .before .before .before)) (omega arith) (c .if2 .left),
     )
 
 pub day-number-spec : {M : Type 1} → statement M
