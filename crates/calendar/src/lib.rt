@@ -101,22 +101,24 @@ fn leap_year(year: u64) -> bool
     year % 400 == 0
 }
 
-// The days of a month of a year, 0 for a month that is none.
+// The days of a month of a year, 0 for a month that is none. To July the odd months are the long ones, from August
+// the even.
 fn month_length(year: u64, month: u64) -> u64
     ensures { λ r. ⌜ r ≡ monthLength year month ⌝ }
 {
-    match month {
-        1 | 3 | 5 | 7 | 8 | 10 | 12 => 31,
-        4 | 6 | 9 | 11 => 30,
-        2 => {
-            if leap_year(year) {
-                29
-            } else {
-                28
-            }
+    if month == 2 {
+        if leap_year(year) {
+            return 29;
         }
-        _ => 0,
+        return 28;
     }
+    if month < 1 {
+        return 0;
+    }
+    if 12 < month {
+        return 0;
+    }
+    30 + (month + month / 8) % 2
 }
 
 // The number of a day, from 0 for 19500101. Of 1950 to 2099 each fourth year is a leap year.
@@ -137,24 +139,15 @@ fn day_number(day: u64) -> u64
     before + 1
 }
 
-// The days of a year without a leap day before a month of it.
+// The days of a year without a leap day before a month of it: as if the months shared 367 days evenly, but February
+// has two days less.
 fn days_before(month: u64) -> u64
     requires { ⌜ (1 ≤ month) × (month ≤ 12) ⌝ }
     ensures { λ r. ⌜ r ≡ daysOfMonths 1951 (month - 1) ⌝ }
 {
-    match month {
-        1 => 0,
-        2 => 31,
-        3 => 59,
-        4 => 90,
-        5 => 120,
-        6 => 151,
-        7 => 181,
-        8 => 212,
-        9 => 243,
-        10 => 273,
-        11 => 304,
-        12 => 334,
-        _ => 0,
+    let even = (367 * month - 362) / 12;
+    if 2 < month {
+        return even - 2;
     }
+    even
 }

@@ -2,7 +2,7 @@
 use mathlib.Core.Path.{_≡_, refl}
 use mathlib.Core.Bool.{Bool, true, false, cond}
 use mathlib.Core.List.{List, []}
-use Prim.Native.Nat.{ℕ, suc, _+_, _≤_, _<_}
+use Prim.Native.Nat.{ℕ, suc, _+_, _*_, _≤_, _<_}
 use borrow.Author.Tests.{lt-ltb, le-ltb, le-leb, lt-leb, eq-eqb, ne-eqb}
 use lib.ListN.{length, take, drop}
 use Rattle.refusal.specs.declared.Refusal.{Refusal}
@@ -15,7 +15,7 @@ use Rattle.der.specs.declared.walking.Walked.the-variants.{Passed, Refus
 use Rattle.der.specs.Forms.{Forms}
 use Rattle.der.specs.Heading.{headingOf, constructed}
 use Rattle.der.specs.Contents.{contentsGood}
-use Rattle.der.specs.Walk.{opened, filled, after, elementAt, listAt}
+use Rattle.der.specs.Walk.{opened, filled, after, elementAt, listAt, whole, walkOf}
 
 module _ (forms : Forms) (fuel : ℕ) (s : List ℕ) (base depth count : ℕ) where
   pub element-bad : headingOf forms s ≡ Bad → elementAt (suc fuel) forms s base depth count ≡ Fault (Der base)
@@ -62,3 +62,23 @@ module _ (forms : Forms) (fuel : ℕ) (s : List ℕ) (base depth count : ℕ) wh
       → listAt (suc fuel) forms s base depth count ≡ Refused refusal
     unfolding listAt after
     list-fault refusal e = simp (ne-eqb _ _ left, e)
+
+module _ (forms : Forms) (s : List ℕ) where
+  pub walk-long : forms .itemSize < length s → walkOf forms s ≡ Refused (Limit 0)
+  unfolding walkOf
+  walk-long h = simp (lt-ltb _ _ h)
+
+  module _ (short : length s ≤ forms .itemSize) where
+    pub walk-fault :
+      {refusal : Refusal} → elementAt (2 * length s + 2) forms s 0 1 0 ≡ Fault refusal → walkOf forms s ≡ Refused refusal
+    unfolding walkOf whole
+    walk-fault e = simp (le-ltb _ _ short, e)
+
+    module _ {used n : ℕ} (e : elementAt (2 * length s + 2) forms s 0 1 0 ≡ Past used n) where
+      pub walk-passed : used ≡ length s → walkOf forms s ≡ Passed n
+      unfolding walkOf whole
+      walk-passed h = simp (le-ltb _ _ short, e, eq-eqb _ _ h)
+
+      pub walk-left : (used ≡ length s → ⊥) → walkOf forms s ≡ Refused (Der used)
+      unfolding walkOf whole
+      walk-left h = simp (le-ltb _ _ short, e, ne-eqb _ _ h)

@@ -1,3 +1,5 @@
 pub mod Laws
+pub mod Bounds
+pub mod Enough
 pub mod Weights
 pub mod Inside
