@@ -2,4 +2,3 @@ pub mod Laws
 pub mod Bounds
 pub mod Enough
 pub mod Weights
-pub mod Inside

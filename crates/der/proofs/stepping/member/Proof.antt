@@ -8,7 +8,7 @@ use lib.ListN.{length, take, drop, length-drop}
 use lib.Seq.{length-take-le}
 use Rattle.der.specs.Forms.{paper}
 use Rattle.der.specs.Member.{placed, memberOf}
-use Rattle.der.proofs.Inside.{header-inside}
+use Rattle.der.proofs.Bounds.{heading-within}
 use Rattle.der.proofs.stepping.member.Statement.{statement}
 use Rattle.der.proofs.stepping.member.Tie as tie
 
@@ -38,7 +38,7 @@ ended c =
     let a = c .before .before .before .before .before .before .before .before .args in
     let rest : a .end - a .from ≤ length (drop (a .from) (a .item .now)) = rw length-drop (omega arith) in
     let part : length (take (a .end - a .from) (drop (a .from) (a .item .now))) ≡ a .end - a .from = length-take-le _ _ rest in
-    rw part at (header-inside paper _ _ _ _ (sym (c .before .before .before .header .ensures) ∙ c .before .tag .given .1) .1)
+    rw part at (heading-within paper _ _ _ _ (sym (c .before .before .before .header .ensures) ∙ c .before .tag .given .1) .1)
 
 add-t14 : tie.Need-add-t14
 add-t14 c = omega (arith, ended c)

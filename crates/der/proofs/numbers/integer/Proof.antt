@@ -1,0 +1,104 @@
+-- The code makes the definition's tests in its order, and the header's element ends within the item.
+use Prim.Native.Nat.{_+_, _-_, _≤_}
+use mathlib.Core.Path.{_≡_, ap, sym, _∙_}
+use borrow.Author.Needs.{needs}
+use borrow.Author.Tests.{lt-ltb, le-ltb, eq-eqb, ne-eqb}
+use native.Mathlib.Nat.{add-sub-cancel-left}
+use native.Mathlib.Omega.{arith}
+use lib.ListN.{length}
+use mir.Syntax.{w64}
+use mir.ValLaws.{toZ-ofZ}
+use Rattle.der.specs.Forms.{paper}
+use Rattle.der.specs.Integer.{held, asked, integerOf}
+use Rattle.der.proofs.Bounds.{heading-within}
+use Rattle.der.proofs.numbers.integer.Statement.{statement}
+use Rattle.der.proofs.numbers.integer.Tie as tie
+
+walk-requires : tie.Need-walk-requires
+walk-requires c κs = search needs
+
+enum-known-refusal : tie.Need-enum-known-refusal
+enum-known-refusal c = search needs
+
+returns : tie.Need-returns
+unfolding integerOf asked
+returns c = simp (sym (c .before .before .before .walk .ensures .0) ∙ c .before .refusal .given .1)
+
+enum-told : tie.Need-enum-told
+enum-told c = search needs
+
+header-requires : tie.Need-header-requires
+header-requires c κs = search needs
+
+enum-known-tag : tie.Need-enum-known-tag
+enum-known-tag c = search needs
+
+enum-told-2 : tie.Need-enum-told-2
+enum-told-2 c = search needs
+
+returns-2 : tie.Need-returns-2
+unfolding integerOf asked held
+returns-2 c =
+    simp (sym (c .before .before .before .before .before .walk .ensures .0) ∙ c .before .before .before .enum-told .given .1, sym (c .before .before .header .ensures) ∙ c .enum-told2 .given .1)
+
+returns-3 : tie.Need-returns-3
+unfolding integerOf asked held
+returns-3 c =
+    simp (sym (c .before .before .before .before .before .before .before .walk .ensures .0) ∙ c .before .before .before .before .before .enum-told .given .1, sym (c .before .before .before .before .header .ensures) ∙ c .before .before .tag .given .1, ne-eqb _ _ (c .if1 .taken))
+
+returns-4 : tie.Need-returns-4
+unfolding integerOf asked held
+returns-4 c =
+    simp
+      (sym (c .before .before .before .before .before .before .before .before .walk .ensures .0) ∙ c .before .before .before .before .before .before .enum-told .given .1,
+      sym (c .before .before .before .before .before .header .ensures) ∙ c .before .before .before .tag .given .1,
+      eq-eqb _ _ (c .before .if1 .left),
+      lt-ltb _ _ (c .if2 .taken))
+
+add-end : tie.Need-add-end
+add-end c = omega (arith, heading-within paper _ _ _ _ (sym (c .before .before .before .before .before .header .ensures) ∙ c .before .before .before .tag .given .1) .1)
+
+sub-signed : tie.Need-sub-signed
+sub-signed c = search needs
+
+part-signed-start : tie.Need-part-signed-start
+part-signed-start c = search needs
+
+part-signed-end : tie.Need-part-signed-end
+part-signed-end c = heading-within paper _ _ _ _ (sym (c .before .before .before .before .before .header .ensures) ∙ c .before .before .before .tag .given .1) .1
+
+signed-requires : tie.Need-signed-requires
+signed-requires c κs = search needs
+
+returns-5 : tie.Need-returns-5
+unfolding integerOf asked held
+returns-5 c =
+    rw (toZ-ofZ w64 (c .signed .result) (record { sfits = c .signed .ok }))
+    (simp
+      (sym (c .before .before .before .before .before .before .before .before .before .before .walk .ensures .0) ∙ c .before .before .before .before .before .before .before .before .enum-told .given .1,
+      sym (c .before .before .before .before .before .before .before .header .ensures) ∙ c .before .before .before .before .before .tag .given .1,
+      eq-eqb _ _ (c .before .before .before .if1 .left),
+      le-ltb _ _ (c .before .before .if2 .left),
+      c .signed .ensures,
+      add-sub-cancel-left))
+
+pub integer-spec : {M : Type 1} → statement M
+integer-spec =
+    tie.close
+    (tie.spec
+    walk-requires
+    enum-known-refusal
+    returns
+    enum-told
+    header-requires
+    enum-known-tag
+    enum-told-2
+    returns-2
+    returns-3
+    returns-4
+    add-end
+    sub-signed
+    part-signed-start
+    part-signed-end
+    signed-requires
+    returns-5)
