@@ -1,1 +1,10 @@
+pub mod Cases
+pub mod Numbers
+pub mod Lengths
+pub mod Headings
+pub mod Reading
+pub mod Answers
+pub mod Bounds
+pub mod Fuel
+pub mod Found
 pub mod Theorems

@@ -60,15 +60,15 @@ unfoldable mutual
   depthAll (more tree trees) = max (depth tree) (depthAll trees)
 
 -- An identifier that may stand, primitive over contents that may stand and constructed over sound members, each length
--- one that the forms can tell.
+-- one that the forms can tell: below 128 in the short form.
 mutual
   pub data Sound (forms : Forms) : Tree → Type 0 where
     sound-leaf :
       {tag : ℕ} {c : List ℕ} → tag < 256 → identifierGood tag ≡ true → constructed tag ≡ false → Octets c
-      → length c < 256 ^ forms .lengthOctets → contentsGood tag c ≡ true → Sound forms (leaf tag c)
+      → length c < max 128 (256 ^ forms .lengthOctets) → contentsGood tag c ≡ true → Sound forms (leaf tag c)
     sound-node :
       {tag : ℕ} {members : Trees} → tag < 256 → identifierGood tag ≡ true → constructed tag ≡ true
-      → length (encodedAll members) < 256 ^ forms .lengthOctets → SoundAll forms members → Sound forms (node tag members)
+      → length (encodedAll members) < max 128 (256 ^ forms .lengthOctets) → SoundAll forms members → Sound forms (node tag members)
 
   pub data SoundAll (forms : Forms) : Trees → Type 0 where
     sound-none : SoundAll forms none
