@@ -1,8 +1,8 @@
 -- A fact of the walk's answer holds if it holds of each answer under the tests that lead there.
-use mathlib.Core.Path.{_≡_, refl}
+use mathlib.Core.Path.{_≡_, refl, ap}
 use mathlib.Core.Bool.{true, false}
 use mathlib.Core.List.{List}
-use Prim.Native.Nat.{ℕ, suc, _+_, _≤_, _<_}
+use Prim.Native.Nat.{ℕ, suc, _+_, _*_, _≤_, _<_}
 use borrow.Author.Tests.{ltb-false, leb-false, eqb-true}
 use lib.Dec.{ltb, leb, eqb}
 use lib.ListN.{length, take, drop}
@@ -16,7 +16,7 @@ use Rattle.der.specs.declared.walking.Walked.the-variants.{Passed, Refused}
 use Rattle.der.specs.Forms.{Forms}
 use Rattle.der.specs.Heading.{headingOf, constructed}
 use Rattle.der.specs.Contents.{contentsGood}
-use Rattle.der.specs.Walk.{opened, filled, after, elementAt, listAt}
+use Rattle.der.specs.Walk.{opened, filled, after, elementAt, listAt, whole, walkOf}
 use Rattle.tree.proofs.Cases.{cond-by}
 
 module _ (P : Read → Type 0) where
@@ -39,7 +39,12 @@ module _ (P : Walked → Type 0) (p : (refusal : Refusal) → P (Refused refusal
   after-by (Past used m) q = q used m refl
   after-by (Fault refusal) q = p refusal
 
-  walked-by : (w : Walked) → ((m : ℕ) → w ≡ Passed m → P (Passed m)) → P w
+  whole-by : (n : ℕ) (r : Read) → ((m : ℕ) → r ≡ Past n m → P (Passed m)) → P (whole n r)
+  unfolding whole
+  whole-by n (Past used m) q = cond-by P (eqb used n) (λ e. q m (ap (λ (u : ℕ). Past u m) (eqb-true _ _ e))) λ over. p _
+  whole-by n (Fault refusal) q = p refusal
+
+  pub walked-by : (w : Walked) → ((m : ℕ) → w ≡ Passed m → P (Passed m)) → P w
   walked-by (Passed m) q = q m refl
   walked-by (Refused refusal) q = p refusal
 
@@ -74,3 +79,12 @@ module _ (forms : Forms) (fuel : ℕ) (s : List ℕ) (base d n : ℕ) where
   list-by P refused done more =
       cond-by P (eqb (length s) 0) (λ z. done (eqb-true _ _ z)) λ left.
       after-by P refused (elementAt fuel forms s base d n) λ used k first. walked-by P refused _ λ m rest. more used k m first rest
+
+pub walk-by :
+  (forms : Forms) (s : List ℕ) (P : Walked → Type 0) → ((refusal : Refusal) → P (Refused refusal))
+  → ((m : ℕ) → length s ≤ forms .itemSize → elementAt (2 * length s + 2) forms s 0 1 0 ≡ Past (length s) m → P (Passed m))
+  → P (walkOf forms s)
+unfolding walkOf
+walk-by forms s P refused passed =
+    cond-by P (ltb (forms .itemSize) (length s)) (λ over. refused _) λ short.
+    whole-by P refused (length s) _ λ m e. passed m (ltb-false _ _ short) e

@@ -7,4 +7,5 @@ pub mod Answers
 pub mod Bounds
 pub mod Fuel
 pub mod Found
+pub mod Same
 pub mod Theorems
