@@ -7,5 +7,9 @@ pub mod Answers
 pub mod Bounds
 pub mod Fuel
 pub mod Found
+pub mod Passes
 pub mod Same
+pub mod Parts
+pub mod Members
+pub mod Integers
 pub mod Theorems

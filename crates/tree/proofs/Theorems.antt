@@ -2,59 +2,37 @@
 use mathlib.Core.Path.{_≡_, refl, sym, _∙_, ap, ap₂, subst}
 use mathlib.Core.Logic.{_↔_}
 use mathlib.Core.List.{List, [], _++_, append-nil}
-use Prim.Native.Nat.{ℕ, _+_, _*_, _≤_, _<_}
+use Prim.Native.Nat.{ℕ, _+_, _-_, _*_, _≤_, _<_}
 use native.Mathlib.Omega.{arith}
 use borrow.Author.Tests.{le-ltb, eq-eqb}
-use lib.ListN.{length, drop}
+use lib.IntN.{ℤ}
+use lib.ListN.{length, take, drop}
 use lib.Seq.{drop-length}
 use Rattle.der.specs.declared.walking.Read.the-variants.{Past}
 use Rattle.der.specs.declared.walking.Walked.{Walked}
 use Rattle.der.specs.declared.walking.Walked.the-variants.{Passed, Refused}
+use Rattle.der.specs.declared.stepping.Step.the-variants.{At, Nothing}
+use Rattle.der.specs.declared.numbers.Number.the-variants.{Value}
 use Rattle.der.specs.Forms.{Forms}
 use Rattle.der.specs.Octets.{Octets}
 use Rattle.der.specs.Walk.{elementAt, listAt, whole, walkOf, counted}
-use Rattle.tree.specs.Tree.{Tree, encoded, size, depth, Sound, Encodes}
+use Rattle.der.specs.Member.{memberOf}
+use Rattle.der.specs.Integer.{integerOf}
+use Rattle.tree.specs.Tree.{Tree, Trees, none, more, encoded, encodedAll, tagOf, contentsOf, headerOf, placesOf, stepsOf, Sound, SoundAll, Encodes, EncodesInteger}
 use Rattle.tree.proofs.Reading.{reads}
 use Rattle.tree.proofs.Answers.{walk-by}
 use Rattle.tree.proofs.Bounds.{Bound, ReadBound, element-bound}
 use Rattle.tree.proofs.Fuel.{element-fuel, list-fuel}
-use Rattle.tree.proofs.Found.{Found, ReadFound, element-found}
+use Rattle.tree.proofs.Passes.{passed-encodes, encodes-passed}
 use Rattle.tree.proofs.Same.{tree-one}
-
-abbrev WalkedEncodes : Forms → List ℕ → Walked → Type 0
-WalkedEncodes forms item (Passed n) = Encodes forms item n
-WalkedEncodes forms item (Refused refusal) = Unit {0}
-
-passed-encodes : (forms : Forms) → forms .lengthOctets ≤ 3 → (item : List ℕ) → Octets item → WalkedEncodes forms item (walkOf forms item)
-passed-encodes forms limit item o =
-    walk-by forms item (WalkedEncodes forms item) (λ refusal. tt) λ m short e.
-    let f : Found forms item 1 0 (length item) m = subst (ReadFound forms item 1 0) e (element-found forms limit _ item 0 1 0 o) in
-    let b : Bound forms item (length item) m = subst (ReadBound forms item) e (element-bound forms _ item 0 1 0) in
-    record {
-      tree = f .tree;
-      bytes = sym (append-nil (encoded (f .tree))) ∙ rw (drop-length) at (f .bytes);
-      sound = f .sound;
-      count = omega (arith, f .count);
-      shallow = omega (arith, f .shallow);
-      few = b .few;
-      short = short }
-
-encodes-passed : (forms : Forms) → forms .lengthOctets ≤ 3 → (item : List ℕ) (n : ℕ) → Encodes forms item n → walkOf forms item ≡ Passed n
-unfolding walkOf whole
-encodes-passed forms limit item n e =
-    let x : Tree = e .tree in
-    let back : encoded x ++ [] ≡ item = append-nil (encoded x) ∙ e .bytes in
-    let read : elementAt (2 * length item + 2) forms item 0 1 0 ≡ Past (length item) n =
-        rw back at (reads forms limit x (e .sound) [] (2 * length item + 2) 0 1 0
-          (omega (arith, ap length back)) (omega (arith, e .shallow)) (omega (arith, e .count, e .few)))
-        ∙ ap₂ Past (ap length (e .bytes)) (omega (arith, e .count)) in
-    simp (le-ltb _ _ (e .short), read, eq-eqb (length item) (length item) refl)
+use Rattle.tree.proofs.Members.{step-at-end, step-at, contents-at, item-next, item-inside, steps-through}
+use Rattle.tree.proofs.Integers.{NumberEncodes, integer-encodes, encodes-integer}
 
 -- The walk passes, and counts n, exactly when the octets are those of a sound tree of n elements within the limits.
 pub walk-passes :
   (forms : Forms) → forms .lengthOctets ≤ 3 → (item : List ℕ) (n : ℕ) → Octets item → (walkOf forms item ≡ Passed n) ↔ Encodes forms item n
 walk-passes forms limit item n o =
-    (λ e. subst (WalkedEncodes forms item) e (passed-encodes forms limit item o), encodes-passed forms limit item n)
+    (passed-encodes forms limit item n o, encodes-passed forms limit item n)
 
 -- Two sound trees with the same octets are the same tree.
 pub one-tree : (forms : Forms) → forms .lengthOctets ≤ 3 → (a b : Tree) → Sound forms a → Sound forms b → encoded a ≡ encoded b → a ≡ b
@@ -74,3 +52,50 @@ pub fuel-enough :
   → (2 * length s + 1 ≤ f → 2 * length s + 1 ≤ g → elementAt f forms s base d n ≡ elementAt g forms s base d n)
     × (2 * length s + 2 ≤ f → 2 * length s + 2 ≤ g → listAt f forms s base d n ≡ listAt g forms s base d n)
 fuel-enough forms f g s base d n = (element-fuel forms f g s base d n, list-fuel forms f g s base d n)
+
+-- Stepping ends where no member is left.
+pub step-none :
+  (forms : Forms) (before behind : List ℕ)
+  → memberOf forms (before ++ encodedAll none ++ behind) (length before) (length before + length (encodedAll none)) ≡ Nothing
+step-none = step-at-end
+
+-- A step finds the first of the members that are left: its identifier, where its contents start, and where it ends.
+pub step-more :
+  (forms : Forms) → forms .lengthOctets ≤ 3 → (before behind : List ℕ) (tree : Tree) (trees : Trees) → Sound forms tree
+  → memberOf forms (before ++ encodedAll (more tree trees) ++ behind) (length before) (length before + length (encodedAll (more tree trees)))
+    ≡ At (tagOf tree) (length before + length (headerOf tree)) (length before + length (encoded tree))
+step-more = step-at
+
+-- Between the two offsets of that step stand the member's contents: a leaf's octets, or a node's members.
+pub step-contents :
+  (before behind : List ℕ) (tree : Tree) (trees : Trees)
+  → take (length before + length (encoded tree) - (length before + length (headerOf tree)))
+      (drop (length before + length (headerOf tree)) (before ++ encodedAll (more tree trees) ++ behind))
+    ≡ contentsOf tree
+step-contents = contents-at
+
+-- The next step, from the end of the first member, sees the members after it.
+pub step-next :
+  (before behind : List ℕ) (tree : Tree) (trees : Trees)
+  → before ++ encodedAll (more tree trees) ++ behind ≡ (before ++ encoded tree) ++ encodedAll trees ++ behind
+step-next = item-next
+
+-- A step into a node, from where its contents start, sees its members.
+pub step-inside :
+  (before behind : List ℕ) (tree : Tree) (trees : Trees)
+  → before ++ encodedAll (more tree trees) ++ behind ≡ (before ++ headerOf tree) ++ contentsOf tree ++ (encodedAll trees ++ behind)
+step-inside = item-inside
+
+-- Stepping through members gives the tree's members in order, with their offsets, and then ends.
+pub steps-members :
+  (forms : Forms) → forms .lengthOctets ≤ 3 → (members : Trees) (fuel : ℕ) (before behind : List ℕ) → SoundAll forms members
+  → length (encodedAll members) < fuel
+  → stepsOf fuel forms (before ++ encodedAll members ++ behind) (length before) (length before + length (encodedAll members))
+    ≡ placesOf (length before) members
+steps-members = steps-through
+
+-- An item is read as the number v exactly when it is one INTEGER of at most eight octets that write v, within the limits.
+pub integer-value :
+  (forms : Forms) → forms .lengthOctets ≤ 3 → (item : List ℕ) → Octets item → (v : ℤ) → (integerOf forms item ≡ Value v) ↔ EncodesInteger forms item v
+integer-value forms limit item o v =
+    (λ e. subst (NumberEncodes forms item) e (integer-encodes forms limit item o), encodes-integer forms limit item v)
