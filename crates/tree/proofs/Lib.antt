@@ -12,4 +12,5 @@ pub mod Same
 pub mod Parts
 pub mod Members
 pub mod Integers
+pub mod Minimal
 pub mod Theorems

@@ -1,5 +1,6 @@
 -- What the walk means, as theorems over the definitions.
 use mathlib.Core.Path.{_≡_, refl, sym, _∙_, ap, ap₂, subst}
+use mathlib.Core.Bool.{true}
 use mathlib.Core.Logic.{_↔_}
 use mathlib.Core.List.{List, [], _++_, append-nil}
 use Prim.Native.Nat.{ℕ, _+_, _-_, _*_, _≤_, _<_}
@@ -14,7 +15,8 @@ use Rattle.der.specs.declared.walking.Walked.the-variants.{Passed, Refused}
 use Rattle.der.specs.declared.stepping.Step.the-variants.{At, Nothing}
 use Rattle.der.specs.declared.numbers.Number.the-variants.{Value}
 use Rattle.der.specs.Forms.{Forms}
-use Rattle.der.specs.Octets.{Octets}
+use Rattle.der.specs.Octets.{Octets, twos}
+use Rattle.der.specs.Contents.{integerGood}
 use Rattle.der.specs.Walk.{elementAt, listAt, whole, walkOf, counted}
 use Rattle.der.specs.Member.{memberOf}
 use Rattle.der.specs.Integer.{integerOf}
@@ -27,6 +29,7 @@ use Rattle.tree.proofs.Passes.{passed-encodes, encodes-passed}
 use Rattle.tree.proofs.Same.{tree-one}
 use Rattle.tree.proofs.Members.{step-at-end, step-at, contents-at, item-next, item-inside, steps-through}
 use Rattle.tree.proofs.Integers.{NumberEncodes, integer-encodes, encodes-integer}
+use Rattle.tree.proofs.Minimal.{twos-same}
 
 -- The walk passes, and counts n, exactly when the octets are those of a sound tree of n elements within the limits.
 pub walk-passes :
@@ -99,3 +102,7 @@ pub integer-value :
   (forms : Forms) → forms .lengthOctets ≤ 3 → (item : List ℕ) → Octets item → (v : ℤ) → (integerOf forms item ≡ Value v) ↔ EncodesInteger forms item v
 integer-value forms limit item o v =
     (λ e. subst (NumberEncodes forms item) e (integer-encodes forms limit item o), encodes-integer forms limit item v)
+
+-- Two contents of an INTEGER that may stand and write one value are the same octets: a value has no second encoding.
+pub twos-one : (a b : List ℕ) → Octets a → Octets b → integerGood a ≡ true → integerGood b ≡ true → twos a ≡ twos b → a ≡ b
+twos-one = twos-same
