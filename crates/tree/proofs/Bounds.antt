@@ -1,17 +1,17 @@
 -- An element takes two octets or more and ends within what holds it, and it is counted only below the limit.
-use mathlib.Core.Path.{_≡_, subst}
+use mathlib.Core.Path.{subst}
 use mathlib.Core.List.{List}
-use Prim.Native.Nat.{ℕ, zero, suc, _+_, _≤_, _<_}
+use Prim.Native.Nat.{ℕ, zero, suc, _≤_}
 use native.Mathlib.Omega.{arith}
-use lib.ListN.{length, take, drop}
+use lib.ListN.{length}
 use Rattle.der.specs.declared.walking.Read.{Read}
 use Rattle.der.specs.declared.walking.Read.the-variants.{Past, Fault}
 use Rattle.der.specs.declared.walking.Walked.{Walked}
 use Rattle.der.specs.declared.walking.Walked.the-variants.{Passed, Refused}
 use Rattle.der.specs.Forms.{Forms}
 use Rattle.der.specs.Walk.{elementAt, listAt}
-use Rattle.tree.proofs.Headings.{Headed, heading-fits}
-use Rattle.tree.proofs.Answers.{Opened, element-by, list-by}
+use Rattle.tree.proofs.Written.{Headed, heading-fits}
+use Rattle.tree.proofs.Answers.{element-by, list-by}
 
 pub record Bound (forms : Forms) (s : List ℕ) (used m : ℕ) : Type 0 where
   pub some : 2 ≤ used

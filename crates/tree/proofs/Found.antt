@@ -1,7 +1,7 @@
 -- What the walk passes is a sound tree: each header read is one that `tagged` writes, over members found before.
-use mathlib.Core.Path.{_≡_, refl, sym, _∙_, ap, subst}
+use mathlib.Core.Path.{_≡_, refl, subst}
 use mathlib.Core.List.{List, [], _∷_, _++_}
-use Prim.Native.Nat.{ℕ, zero, suc, _+_, _≤_, _<_, max}
+use Prim.Native.Nat.{ℕ, zero, suc, _+_, _≤_}
 use native.Mathlib.Omega.{arith}
 use lib.ListN.{length, take, drop}
 use Rattle.der.specs.declared.walking.Read.{Read}
@@ -11,10 +11,10 @@ use Rattle.der.specs.declared.walking.Walked.the-variants.{Passed, Refused}
 use Rattle.der.specs.Forms.{Forms}
 use Rattle.der.specs.Octets.{Octets}
 use Rattle.der.specs.Walk.{elementAt, listAt}
-use Rattle.tree.specs.Tree.{Tree, leaf, node, Trees, none, more, tagged, encoded, encodedAll, size, sizeAll, depth, depthAll, Sound, sound-leaf, sound-node, SoundAll, sound-none, sound-more}
+use Rattle.tree.specs.Tree.{Tree, leaf, node, Trees, none, more, encoded, encodedAll, size, sizeAll, depth, depthAll, Sound, sound-leaf, sound-node, SoundAll, sound-none, sound-more}
 use Rattle.tree.proofs.Numbers.{octets-take, octets-drop}
-use Rattle.tree.proofs.Headings.{told, Headed, heading-fits, Taken, heading-taken}
-use Rattle.tree.proofs.Answers.{Opened, element-by, list-by}
+use Rattle.tree.proofs.Written.{Headed, heading-fits, Taken, heading-taken}
+use Rattle.tree.proofs.Answers.{element-by, list-by}
 
 -- the tree of an element that takes `used` octets of s
 pub record Found (forms : Forms) (s : List ℕ) (d n used m : ℕ) : Type 0 where

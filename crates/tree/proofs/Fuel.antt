@@ -1,11 +1,8 @@
 -- Each call is on fewer octets, so fuel that is enough at the start is enough all the way, and more changes nothing.
-use mathlib.Core.Path.{_≡_, refl, ap, subst, _∙_}
-use mathlib.Core.Bool.{Bool, true, false, cond}
+use mathlib.Core.Path.{_≡_, refl, subst}
 use mathlib.Core.List.{List}
-use Prim.Native.Nat.{ℕ, zero, suc, _+_, _*_, _≤_, _<_}
+use Prim.Native.Nat.{ℕ, zero, suc, _+_, _*_, _≤_}
 use native.Mathlib.Omega.{arith}
-use borrow.Author.Tests.{eqb-false}
-use lib.Dec.{eqb, ltb, leb}
 use lib.ListN.{length, take, drop, length-take, length-drop}
 use Rattle.der.specs.declared.heading.Heading.{Heading}
 use Rattle.der.specs.declared.heading.Heading.the-variants.{Header, Bad}
@@ -15,7 +12,7 @@ use Rattle.der.specs.declared.walking.Walked.{Walked}
 use Rattle.der.specs.Forms.{Forms}
 use Rattle.der.specs.Heading.{headingOf}
 use Rattle.der.specs.Walk.{opened, after, elementAt, listAt}
-use Rattle.tree.proofs.Headings.{Headed, heading-fits}
+use Rattle.tree.proofs.Written.{Headed, heading-fits}
 use Rattle.tree.proofs.Bounds.{Bound, ReadBound, element-bound}
 
 opened-same :

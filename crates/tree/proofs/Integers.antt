@@ -1,8 +1,8 @@
 -- A passed item is one tree, and its header tells whether that is an INTEGER of at most eight octets.
 use mathlib.Core.Path.{_≡_, refl, sym, _∙_, ap, subst}
-use mathlib.Core.Bool.{true, false}
+use mathlib.Core.Bool.{true}
 use mathlib.Core.List.{List, [], _++_, append-nil}
-use Prim.Native.Nat.{ℕ, _+_, _≤_, _<_}
+use Prim.Native.Nat.{ℕ, _≤_}
 use native.Mathlib.Omega.{arith}
 use borrow.Author.Tests.{le-ltb, eqb-true, ltb-false}
 use lib.Dec.{eqb, ltb}
@@ -14,14 +14,16 @@ use Rattle.der.specs.declared.walking.Walked.the-variants as walked
 use Rattle.der.specs.declared.numbers.Number.{Number}
 use Rattle.der.specs.declared.numbers.Number.the-variants.{Value, Refused}
 use Rattle.der.specs.Forms.{Forms}
-use Rattle.der.specs.Octets.{Octets, twos}
+use Rattle.der.specs.Octets.{Octets}
 use Rattle.der.specs.Heading.{headingOf}
+use Rattle.der.specs.Contents.{integerGood, contentsGood}
 use Rattle.der.specs.Walk.{walkOf}
 use Rattle.der.specs.Integer.{held, asked, integerOf}
-use Rattle.tree.specs.Tree.{Tree, leaf, encoded, tagOf, contentsOf, headerOf, size, depth, Sound, Encodes, EncodesInteger}
+use Rattle.tree.specs.Tree.{Tree, leaf, encoded, tagOf, contentsOf, headerOf, size, depth, Sound, sound-leaf, Encodes, EncodesInteger}
 use Rattle.tree.proofs.Cases.{cond-by}
 use Rattle.tree.proofs.Parts.{encoded-parts, heading-tree, leaf-two}
 use Rattle.tree.proofs.Members.{part-at}
+use Rattle.tree.proofs.Minimal.{twos-same}
 use Rattle.tree.proofs.Passes.{passed-encodes, encodes-passed}
 
 abbrev pub NumberEncodes : Forms → List ℕ → Number → Type 0
@@ -77,3 +79,15 @@ module _ (forms : Forms) (limit : forms .lengthOctets ≤ 3) (item : List ℕ) w
             record { tree = x; bytes = e .bytes; sound = e .sound; count = refl; shallow = e .shallow; few = e .few; short = e .short } in
       let (header, contents) = whole-heading forms limit item x (e .sound) (e .bytes) in
       simp (passed, header, le-ltb 8 (length (e .contents)) (e .narrow), contents, e .value)
+
+-- the contents of a sound INTEGER
+integer-contents : (forms : Forms) (c : List ℕ) → Sound forms (leaf 2 c) → Octets c × (integerGood c ≡ true)
+unfolding contentsGood
+integer-contents forms c (sound-leaf b good primitive o below contents) = (o, contents)
+
+pub one-item : (forms : Forms) (a b : List ℕ) (v : ℤ) → EncodesInteger forms a v → EncodesInteger forms b v → a ≡ b
+one-item forms a b v e f =
+    let (o, good) = integer-contents forms (e .contents) (e .sound) in
+    let (o′, good′) = integer-contents forms (f .contents) (f .sound) in
+    let same : e .contents ≡ f .contents = twos-same (e .contents) (f .contents) o o′ good good′ (e .value ∙ sym (f .value)) in
+    sym (e .bytes) ∙ ap (λ (c : List ℕ). encoded (leaf 2 c)) same ∙ f .bytes

@@ -1,21 +1,18 @@
 -- A step looks at the octets between its two offsets, which are the members that are left, and reads the first one's header.
-use mathlib.Core.Path.{_≡_, refl, sym, _∙_, ap, ap₂}
-use mathlib.Core.Bool.{true, false}
-use mathlib.Core.List.{List, [], _∷_, _++_, append-assoc}
+use mathlib.Core.Path.{_≡_, refl, sym, _∙_, ap}
+use mathlib.Core.List.{List, [], _++_, append-assoc, append-nil}
 use Prim.Native.Nat.{ℕ, zero, suc, _+_, _-_, _≤_, _<_}
 use native.Mathlib.Omega.{arith}
 use borrow.Author.Tests.{le-leb}
 use lib.ListN.{length, take, drop, length-append}
 use lib.Seq.{take-append-seam, drop-append-seam}
-use Rattle.der.specs.declared.heading.Heading.the-variants.{Header, Bad}
-use Rattle.der.specs.declared.stepping.Step.{Step}
 use Rattle.der.specs.declared.stepping.Step.the-variants.{At, Nothing}
 use Rattle.der.specs.Forms.{Forms}
 use Rattle.der.specs.Heading.{headingOf}
 use Rattle.der.specs.Member.{placed, memberOf}
-use Rattle.tree.specs.Tree.{Tree, Trees, none, more, encoded, encodedAll, tagOf, contentsOf, headerOf, placesOf, onward, stepsOf, Sound, SoundAll, sound-none, sound-more}
+use Rattle.tree.specs.Tree.{Tree, node, Trees, none, more, encoded, encodedAll, tagOf, contentsOf, headerOf, placesOf, onward, stepsOf, Sound, SoundAll, sound-more}
 use Rattle.tree.proofs.Parts.{encoded-parts, heading-tree}
-use Rattle.tree.proofs.Reading.{encoded-long}
+use Rattle.tree.proofs.Reading.{encoded-some}
 
 -- the part of a list behind `before` that is as long as `s`
 pub part-at : (before s behind : List ℕ) (size : ℕ) → size ≡ length s → take size (drop (length before) (before ++ s ++ behind)) ≡ s
@@ -88,5 +85,17 @@ steps-through forms limit (more tree trees) (suc fuel) before behind (sound-more
     let start : length (before ++ encoded tree) ≡ length before + length (encoded tree) = length-append before (encoded tree) in
     let stop : length before + length (encodedAll (more tree trees)) ≡ length (before ++ encoded tree) + length (encodedAll trees) =
         omega (arith, length-more tree trees) in
-    let others = steps-through forms limit trees fuel (before ++ encoded tree) behind rest (omega (arith, length-more tree trees, encoded-long tree)) in
+    let others = steps-through forms limit trees fuel (before ++ encoded tree) behind rest (omega (arith, length-more tree trees, encoded-some tree)) in
     rw (step-at forms limit before behind tree trees sound, item-next before behind tree trees, stop, ← start, others)
+
+pub steps-within :
+  (forms : Forms) → forms .lengthOctets ≤ 3 → (tag : ℕ) (members : Trees) (fuel : ℕ) → SoundAll forms members → length (encodedAll members) < fuel
+  → stepsOf fuel forms (encoded (node tag members)) (length (headerOf (node tag members))) (length (encoded (node tag members)))
+    ≡ placesOf (length (headerOf (node tag members))) members
+unfolding contentsOf
+steps-within forms limit tag members fuel sound enough =
+    let x : Tree = node tag members in
+    let item : headerOf x ++ encodedAll members ++ [] ≡ encoded x = append-nil (headerOf x ++ encodedAll members) ∙ sym (encoded-parts x) in
+    let end : length (encoded x) ≡ length (headerOf x) + length (encodedAll members) =
+        ap length (encoded-parts x) ∙ length-append (headerOf x) (encodedAll members) in
+    rw (end, ← item) (steps-through forms limit members fuel (headerOf x) [] sound enough)

@@ -1,14 +1,14 @@
 -- An encoded tree is its header before its contents, and its header is read back, whatever follows.
-use mathlib.Core.Path.{_≡_, refl, sym, _∙_, ap, subst}
-use mathlib.Core.Bool.{true, false, true≢false}
-use mathlib.Core.List.{List, [], _∷_, _++_}
-use Prim.Native.Nat.{ℕ, suc, _+_, _≤_, _<_}
+use mathlib.Core.Path.{_≡_, refl, sym, _∙_, ap}
+use mathlib.Core.Bool.{true≢false}
+use mathlib.Core.List.{List, _++_}
+use Prim.Native.Nat.{ℕ, _≤_}
 use native.Mathlib.Omega.{arith}
-use lib.ListN.{length, take, drop, length-append}
+use lib.ListN.{length}
 use Rattle.der.specs.declared.heading.Heading.the-variants.{Header}
 use Rattle.der.specs.Forms.{Forms}
 use Rattle.der.specs.Heading.{headingOf, constructed}
-use Rattle.tree.specs.Tree.{Tree, leaf, node, lengthEncoded, tagged, encoded, encodedAll, tagOf, contentsOf, headerOf, Sound, sound-leaf, sound-node}
+use Rattle.tree.specs.Tree.{Tree, leaf, node, tagged, encoded, encodedAll, tagOf, contentsOf, headerOf, Sound, sound-leaf, sound-node}
 use Rattle.tree.proofs.Headings.{heading-of}
 
 pub encoded-parts : (x : Tree) → encoded x ≡ headerOf x ++ contentsOf x

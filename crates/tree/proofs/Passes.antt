@@ -1,25 +1,22 @@
 -- The outermost element fills the item, so the walk passes what it reads as one tree, and nothing else.
 use mathlib.Core.Path.{_≡_, refl, sym, _∙_, ap, ap₂, subst}
-use mathlib.Core.Logic.{_↔_}
 use mathlib.Core.List.{List, [], _++_, append-nil}
-use Prim.Native.Nat.{ℕ, _+_, _*_, _≤_, _<_}
+use Prim.Native.Nat.{ℕ, _+_, _*_, _≤_}
 use native.Mathlib.Omega.{arith}
 use borrow.Author.Tests.{le-ltb, eq-eqb}
-use lib.ListN.{length, drop}
+use lib.ListN.{length}
 use lib.Seq.{drop-length}
 use Rattle.der.specs.declared.walking.Read.the-variants.{Past}
 use Rattle.der.specs.declared.walking.Walked.{Walked}
 use Rattle.der.specs.declared.walking.Walked.the-variants.{Passed, Refused}
 use Rattle.der.specs.Forms.{Forms}
 use Rattle.der.specs.Octets.{Octets}
-use Rattle.der.specs.Walk.{elementAt, listAt, whole, walkOf, counted}
-use Rattle.tree.specs.Tree.{Tree, encoded, size, depth, Sound, Encodes}
+use Rattle.der.specs.Walk.{elementAt, whole, walkOf}
+use Rattle.tree.specs.Tree.{Tree, encoded, Encodes}
 use Rattle.tree.proofs.Reading.{reads}
 use Rattle.tree.proofs.Answers.{walk-by}
 use Rattle.tree.proofs.Bounds.{Bound, ReadBound, element-bound}
-use Rattle.tree.proofs.Fuel.{element-fuel, list-fuel}
 use Rattle.tree.proofs.Found.{Found, ReadFound, element-found}
-use Rattle.tree.proofs.Same.{tree-one}
 
 abbrev WalkedEncodes : Forms → List ℕ → Walked → Type 0
 WalkedEncodes forms item (Passed n) = Encodes forms item n

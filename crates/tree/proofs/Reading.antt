@@ -1,25 +1,22 @@
 -- The walk reads a sound tree: each header tells the very contents that were written, and the fuel, the depth and the count last.
 use mathlib.Core.Path.{_≡_, refl, sym, _∙_, ap, ap₂}
-use mathlib.Core.Bool.{true, false}
-use mathlib.Core.List.{List, [], _∷_, _++_}
-use Prim.Native.Nat.{ℕ, zero, suc, _+_, _*_, _≤_, _<_, max}
+use mathlib.Core.List.{List, [], _++_}
+use Prim.Native.Nat.{ℕ, zero, suc, _+_, _*_, _≤_}
 use native.Mathlib.Omega.{arith}
-use lib.ListN.{length, take, drop, length-append}
+use lib.ListN.{length, length-append}
 use lib.Seq.{drop-append-seam}
-use Rattle.der.specs.declared.heading.Heading.the-variants.{Header}
 use Rattle.der.specs.declared.walking.Read.the-variants.{Past}
 use Rattle.der.specs.declared.walking.Walked.the-variants.{Passed}
 use Rattle.der.specs.Forms.{Forms}
-use Rattle.der.specs.Heading.{headingOf, identifierGood, constructed}
 use Rattle.der.specs.Walk.{filled, elementAt, listAt}
 use Rattle.der.proofs.Laws.{element-node, element-leaf, list-done, list-more}
 use Rattle.tree.specs.Tree.{Tree, leaf, node, Trees, none, more, lengthEncoded, tagged, encoded, encodedAll, size, sizeAll, depth, depthAll, Sound, sound-leaf, sound-node, SoundAll, sound-none, sound-more}
-use Rattle.tree.proofs.Headings.{told, heading-of, length-tagged, length-encoded-some, tagged-contents}
+use Rattle.tree.proofs.Headings.{heading-of, length-tagged, length-encoded-some, tagged-contents}
 
-pub encoded-long : (x : Tree) → 2 ≤ length (encoded x)
+pub encoded-some : (x : Tree) → 2 ≤ length (encoded x)
 unfolding encoded
-encoded-long (leaf tag c) = omega (arith, length-tagged tag c, length-encoded-some (length c))
-encoded-long (node tag members) = omega (arith, length-tagged tag (encodedAll members), length-encoded-some (length (encodedAll members)))
+encoded-some (leaf tag c) = omega (arith, length-tagged tag c, length-encoded-some (length c))
+encoded-some (node tag members) = omega (arith, length-tagged tag (encodedAll members), length-encoded-some (length (encodedAll members)))
 
 module _ (forms : Forms) (limit : forms .lengthOctets ≤ 3) where
   mutual
@@ -54,6 +51,6 @@ module _ (forms : Forms) (limit : forms .lengthOctets ≤ 3) where
         let s : List ℕ = encoded x ++ encodedAll xs in
         let long : length s ≡ length (encoded x) + length (encodedAll xs) = length-append (encoded x) (encodedAll xs) in
         let first = reads x sound (encodedAll xs) fuel base d n (omega arith) (omega arith) (omega arith) in
-        let others = reads-all xs rest fuel (base + length (encoded x)) d (n + size x) (omega (arith, encoded-long x)) (omega arith) (omega arith) in
-        list-more forms fuel s base d n (omega (arith, encoded-long x)) _ _ first
+        let others = reads-all xs rest fuel (base + length (encoded x)) d (n + size x) (omega (arith, encoded-some x)) (omega arith) (omega arith) in
+        list-more forms fuel s base d n (omega (arith, encoded-some x)) _ _ first
         ∙ rw drop-append-seam (others ∙ ap Passed (omega arith))

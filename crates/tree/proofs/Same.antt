@@ -1,18 +1,16 @@
 -- The octets tell the identifier and the contents, and the contents tell the members: two trees with one encoding are one.
 use mathlib.Core.Path.{_≡_, refl, sym, _∙_, ap, ap₂}
-use mathlib.Core.Bool.{true, false, true≢false}
-use mathlib.Core.List.{List, [], _++_}
+use mathlib.Core.Bool.{true, true≢false}
+use mathlib.Core.List.{List, _++_}
 use Prim.Native.Nat.{ℕ, _+_, _≤_, _<_}
 use native.Mathlib.Omega.{arith}
 use lib.ListN.{length, take, drop, length-append}
 use lib.Seq.{drop-append-seam}
-use Rattle.der.specs.declared.heading.Heading.{Heading}
-use Rattle.der.specs.declared.heading.Heading.the-variants.{Header}
 use Rattle.der.specs.Forms.{Forms}
 use Rattle.der.specs.Heading.{headingOf, identifierGood, constructed}
-use Rattle.tree.specs.Tree.{Tree, leaf, node, Trees, none, more, lengthEncoded, tagged, encoded, encodedAll, Sound, sound-leaf, sound-node, SoundAll, sound-none, sound-more}
+use Rattle.tree.specs.Tree.{Tree, leaf, node, Trees, none, more, lengthEncoded, tagged, encoded, encodedAll, Sound, sound-leaf, sound-node, SoundAll, sound-more}
 use Rattle.tree.proofs.Headings.{told, heading-of, tagged-contents}
-use Rattle.tree.proofs.Reading.{encoded-long}
+use Rattle.tree.proofs.Reading.{encoded-some}
 
 module _ (forms : Forms) (limit : forms .lengthOctets ≤ 3) where
   tagged-one :
@@ -49,8 +47,8 @@ module _ (forms : Forms) (limit : forms .lengthOctets ≤ 3) where
 
     pub trees-one : (xs ys : Trees) → SoundAll forms xs → SoundAll forms ys → encodedAll xs ≡ encodedAll ys → xs ≡ ys
     trees-one none none sx sy e = refl
-    trees-one none (more y ys) sx sy e = absurd (omega (arith, ap length e, length-append (encoded y) (encodedAll ys), encoded-long y))
-    trees-one (more x xs) none sx sy e = absurd (omega (arith, ap length e, length-append (encoded x) (encodedAll xs), encoded-long x))
+    trees-one none (more y ys) sx sy e = absurd (omega (arith, ap length e, length-append (encoded y) (encodedAll ys), encoded-some y))
+    trees-one (more x xs) none sx sy e = absurd (omega (arith, ap length e, length-append (encoded x) (encodedAll xs), encoded-some x))
     trees-one (more x xs) (more y ys) (sound-more sx sxs) (sound-more sy sys) e =
         let both : (x ≡ y) × (encodedAll xs ≡ encodedAll ys) = tree-one x y (encodedAll xs) (encodedAll ys) sx sy e in
         ap₂ more (both .0) (trees-one xs ys sxs sys (both .1))

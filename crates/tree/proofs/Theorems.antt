@@ -1,34 +1,30 @@
 -- What the walk means, as theorems over the definitions.
-use mathlib.Core.Path.{_≡_, refl, sym, _∙_, ap, ap₂, subst}
+use mathlib.Core.Path.{_≡_, ap, subst}
 use mathlib.Core.Bool.{true}
 use mathlib.Core.Logic.{_↔_}
-use mathlib.Core.List.{List, [], _++_, append-nil}
+use mathlib.Core.List.{List, [], _++_}
 use Prim.Native.Nat.{ℕ, _+_, _-_, _*_, _≤_, _<_}
 use native.Mathlib.Omega.{arith}
-use borrow.Author.Tests.{le-ltb, eq-eqb}
 use lib.IntN.{ℤ}
 use lib.ListN.{length, take, drop}
-use lib.Seq.{drop-length}
-use Rattle.der.specs.declared.walking.Read.the-variants.{Past}
 use Rattle.der.specs.declared.walking.Walked.{Walked}
-use Rattle.der.specs.declared.walking.Walked.the-variants.{Passed, Refused}
+use Rattle.der.specs.declared.walking.Walked.the-variants.{Passed}
 use Rattle.der.specs.declared.stepping.Step.the-variants.{At, Nothing}
 use Rattle.der.specs.declared.numbers.Number.the-variants.{Value}
 use Rattle.der.specs.Forms.{Forms}
 use Rattle.der.specs.Octets.{Octets, twos}
 use Rattle.der.specs.Contents.{integerGood}
-use Rattle.der.specs.Walk.{elementAt, listAt, whole, walkOf, counted}
+use Rattle.der.specs.Walk.{elementAt, listAt, walkOf, counted}
 use Rattle.der.specs.Member.{memberOf}
 use Rattle.der.specs.Integer.{integerOf}
-use Rattle.tree.specs.Tree.{Tree, Trees, none, more, encoded, encodedAll, tagOf, contentsOf, headerOf, placesOf, stepsOf, Sound, SoundAll, Encodes, EncodesInteger}
-use Rattle.tree.proofs.Reading.{reads}
+use Rattle.tree.specs.Tree.{Tree, node, Trees, none, more, encoded, encodedAll, tagOf, contentsOf, headerOf, placesOf, stepsOf, Sound, SoundAll, Encodes, EncodesInteger}
 use Rattle.tree.proofs.Answers.{walk-by}
 use Rattle.tree.proofs.Bounds.{Bound, ReadBound, element-bound}
 use Rattle.tree.proofs.Fuel.{element-fuel, list-fuel}
 use Rattle.tree.proofs.Passes.{passed-encodes, encodes-passed}
 use Rattle.tree.proofs.Same.{tree-one}
-use Rattle.tree.proofs.Members.{step-at-end, step-at, contents-at, item-next, item-inside, steps-through}
-use Rattle.tree.proofs.Integers.{NumberEncodes, integer-encodes, encodes-integer}
+use Rattle.tree.proofs.Members.{step-at-end, step-at, contents-at, item-next, item-inside, steps-through, steps-within}
+use Rattle.tree.proofs.Integers.{NumberEncodes, integer-encodes, encodes-integer, one-item}
 use Rattle.tree.proofs.Minimal.{twos-same}
 
 -- The walk passes, and counts n, exactly when the octets are those of a sound tree of n elements within the limits.
@@ -97,6 +93,13 @@ pub steps-members :
     ≡ placesOf (length before) members
 steps-members = steps-through
 
+-- So stepping through the item of a node, from the end of its header to its end, gives its members.
+pub steps-node :
+  (forms : Forms) → forms .lengthOctets ≤ 3 → (tag : ℕ) (members : Trees) (fuel : ℕ) → SoundAll forms members → length (encodedAll members) < fuel
+  → stepsOf fuel forms (encoded (node tag members)) (length (headerOf (node tag members))) (length (encoded (node tag members)))
+    ≡ placesOf (length (headerOf (node tag members))) members
+steps-node = steps-within
+
 -- An item is read as the number v exactly when it is one INTEGER of at most eight octets that write v, within the limits.
 pub integer-value :
   (forms : Forms) → forms .lengthOctets ≤ 3 → (item : List ℕ) → Octets item → (v : ℤ) → (integerOf forms item ≡ Value v) ↔ EncodesInteger forms item v
@@ -106,3 +109,10 @@ integer-value forms limit item o v =
 -- Two contents of an INTEGER that may stand and write one value are the same octets: a value has no second encoding.
 pub twos-one : (a b : List ℕ) → Octets a → Octets b → integerGood a ≡ true → integerGood b ≡ true → twos a ≡ twos b → a ≡ b
 twos-one = twos-same
+
+-- Two items that are read as one value are the same item.
+pub integer-one :
+  (forms : Forms) → forms .lengthOctets ≤ 3 → (a b : List ℕ) → Octets a → Octets b → (v : ℤ)
+  → integerOf forms a ≡ Value v → integerOf forms b ≡ Value v → a ≡ b
+integer-one forms limit a b oa ob v e f =
+    one-item forms a b v (integer-value forms limit a oa v .0 e) (integer-value forms limit b ob v .0 f)
