@@ -21,14 +21,14 @@ use Rattle.tree.proofs.Cases.{cond-by}
 
 module _ (P : Read → Type 0) where
   opened-by :
-    (h : Heading) {fault : Read} {next : ℕ → ℕ → ℕ → Read} → P fault
-    → ((tag skip size : ℕ) → h ≡ Header tag skip size → P (next tag skip size)) → P (opened h fault next)
+      (h : Heading) {fault : Read} {next : ℕ → ℕ → ℕ → Read} → P fault
+      → ((tag skip size : ℕ) → h ≡ Header tag skip size → P (next tag skip size)) → P (opened h fault next)
   unfolding opened
   opened-by Bad p q = p
   opened-by (Header tag skip size) p q = q tag skip size refl
 
   filled-by :
-    (used : ℕ) (w : Walked) → ((refusal : Refusal) → P (Fault refusal)) → ((m : ℕ) → w ≡ Passed m → P (Past used m)) → P (filled used w)
+      (used : ℕ) (w : Walked) → ((refusal : Refusal) → P (Fault refusal)) → ((m : ℕ) → w ≡ Passed m → P (Past used m)) → P (filled used w)
   unfolding filled
   filled-by used (Passed m) p q = q m refl
   filled-by used (Refused refusal) p q = p refusal
@@ -56,12 +56,12 @@ module _ (forms : Forms) (fuel : ℕ) (s : List ℕ) (base d n : ℕ) where
     pub few : n < forms .elements
 
   pub element-by :
-    (P : Read → Type 0) → ((refusal : Refusal) → P (Fault refusal))
-    → ((tag skip size m : ℕ) → Opened tag skip size → constructed tag ≡ true
+      (P : Read → Type 0) → ((refusal : Refusal) → P (Fault refusal))
+      → ((tag skip size m : ℕ) → Opened tag skip size → constructed tag ≡ true
       → listAt fuel forms (take size (drop skip s)) (base + skip) (d + 1) (n + 1) ≡ Passed m → P (Past (skip + size) m))
-    → ((tag skip size : ℕ) → Opened tag skip size → constructed tag ≡ false → contentsGood tag (take size (drop skip s)) ≡ true
+      → ((tag skip size : ℕ) → Opened tag skip size → constructed tag ≡ false → contentsGood tag (take size (drop skip s)) ≡ true
       → P (Past (skip + size) (n + 1)))
-    → P (elementAt (suc fuel) forms s base d n)
+      → P (elementAt (suc fuel) forms s base d n)
   unfolding elementAt
   element-by P fault node leaf =
       opened-by P (headingOf forms s) (fault _) λ tag skip size e.
@@ -72,18 +72,18 @@ module _ (forms : Forms) (fuel : ℕ) (s : List ℕ) (base d n : ℕ) where
       λ primitive. cond-by P (contentsGood tag (take size (drop skip s))) (λ good. leaf tag skip size o primitive good) λ spoilt. fault _
 
   pub list-by :
-    (P : Walked → Type 0) → ((refusal : Refusal) → P (Refused refusal)) → (length s ≡ 0 → P (Passed n))
-    → ((used k m : ℕ) → elementAt fuel forms s base d n ≡ Past used k → listAt fuel forms (drop used s) (base + used) d k ≡ Passed m → P (Passed m))
-    → P (listAt (suc fuel) forms s base d n)
+      (P : Walked → Type 0) → ((refusal : Refusal) → P (Refused refusal)) → (length s ≡ 0 → P (Passed n))
+      → ((used k m : ℕ) → elementAt fuel forms s base d n ≡ Past used k → listAt fuel forms (drop used s) (base + used) d k ≡ Passed m → P (Passed m))
+      → P (listAt (suc fuel) forms s base d n)
   unfolding listAt
   list-by P refused done more =
       cond-by P (eqb (length s) 0) (λ z. done (eqb-true _ _ z)) λ left.
       after-by P refused (elementAt fuel forms s base d n) λ used k first. walked-by P refused _ λ m rest. more used k m first rest
 
 pub walk-by :
-  (forms : Forms) (s : List ℕ) (P : Walked → Type 0) → ((refusal : Refusal) → P (Refused refusal))
-  → ((m : ℕ) → length s ≤ forms .itemSize → elementAt (2 * length s + 2) forms s 0 1 0 ≡ Past (length s) m → P (Passed m))
-  → P (walkOf forms s)
+    (forms : Forms) (s : List ℕ) (P : Walked → Type 0) → ((refusal : Refusal) → P (Refused refusal))
+    → ((m : ℕ) → length s ≤ forms .itemSize → elementAt (2 * length s + 2) forms s 0 1 0 ≡ Past (length s) m → P (Passed m))
+    → P (walkOf forms s)
 unfolding walkOf
 walk-by forms s P refused passed =
     cond-by P (ltb (forms .itemSize) (length s)) (λ over. refused _) λ short.

@@ -29,19 +29,21 @@ WalkedBound forms (Refused refusal) = Unit {0}
 module _ (forms : Forms) where
   mutual
     unfolding elementAt listAt
+
     pub element-bound : (fuel : ℕ) (s : List ℕ) (base d n : ℕ) → ReadBound forms s (elementAt fuel forms s base d n)
     element-bound zero s base d n = tt
     element-bound (suc fuel) s base d n =
         element-by forms fuel s base d n (ReadBound forms s) (λ refusal. tt)
-          (λ tag skip size m o built inner.
-            let h : Headed forms s tag skip size = heading-fits forms s tag skip size (o .header) in
-            record {
-              some = omega (arith, h .some);
-              fits = h .fits;
-              few = subst (WalkedBound forms) inner (list-bound fuel _ _ _ _ (omega (arith, o .few))) })
-          λ tag skip size o primitive good.
-          let h : Headed forms s tag skip size = heading-fits forms s tag skip size (o .header) in
-          record { some = omega (arith, h .some); fits = h .fits; few = omega (arith, o .few) }
+        (λ tag skip size m o built inner.
+        let h : Headed forms s tag skip size = heading-fits forms s tag skip size (o .header) in
+        record {
+          some = omega (arith, h .some);
+          fits = h .fits;
+          few = subst (WalkedBound forms) inner (list-bound fuel _ _ _ _ (omega (arith, o .few)));
+        })
+        λ tag skip size o primitive good.
+        let h : Headed forms s tag skip size = heading-fits forms s tag skip size (o .header) in
+        record { some = omega (arith, h .some); fits = h .fits; few = omega (arith, o .few) }
 
     pub list-bound : (fuel : ℕ) (s : List ℕ) (base d n : ℕ) → n ≤ forms .elements → WalkedBound forms (listAt fuel forms s base d n)
     list-bound zero s base d n few = tt

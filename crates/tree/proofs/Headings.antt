@@ -36,8 +36,8 @@ module _ (forms : Forms) (s : List ℕ) (tag : ℕ) (two : 2 ≤ length s) (firs
   heading-short second small fits = simp (le-ltb _ _ two, first, good, second, lt-ltb _ _ small, le-leb _ _ fits)
 
   heading-long :
-    (k : ℕ) → getD s 1 0 ≡ 128 + k → 1 ≤ k → k ≤ forms .lengthOctets → number (take k (drop 2 s)) ≡ size → smallest k ≤ size
-    → 2 + k + size ≤ length s → headingOf forms s ≡ Header tag (2 + k) size
+      (k : ℕ) → getD s 1 0 ≡ 128 + k → 1 ≤ k → k ≤ forms .lengthOctets → number (take k (drop 2 s)) ≡ size → smallest k ≤ size
+      → 2 + k + size ≤ length s → headingOf forms s ≡ Header tag (2 + k) size
   unfolding headingOf long within
   heading-long k second some most value needed fits =
       let after : 128 + k - 128 ≡ k = omega arith in
@@ -47,26 +47,26 @@ module _ (forms : Forms) (s : List ℕ) (tag : ℕ) (two : 2 ≤ length s) (firs
 
 -- the header of an encoded element, whatever follows it
 pub heading-of :
-  (forms : Forms) → forms .lengthOctets ≤ 3 → (tag : ℕ) (c rest : List ℕ) → identifierGood tag ≡ true → length c < told forms
-  → headingOf forms (tagged tag c ++ rest) ≡ Header tag (1 + length (lengthEncoded (length c))) (length c)
+    (forms : Forms) → forms .lengthOctets ≤ 3 → (tag : ℕ) (c rest : List ℕ) → identifierGood tag ≡ true → length c < told forms
+    → headingOf forms (tagged tag c ++ rest) ≡ Header tag (1 + length (lengthEncoded (length c))) (length c)
 unfolding tagged
 heading-of forms limit tag c rest good below =
     let n = length c in
     by-test (ltb n 128)
-      (λ t. let small : n < 128 = ltb-true _ _ t in
-        rw (encoded-short n small)
-          (heading-short forms _ tag (omega arith) refl good n refl small (omega (arith, length-append c rest))))
-      λ f.
-      let large : 128 ≤ n = ltb-false _ _ f in
-      let most : 256 ^ forms .lengthOctets ≤ 256 ^ 3 = pow-le-pow-right (omega arith) limit in
-      let w = lengthWidth n in
-      let fit : Width n w = width-fits n large (omega arith) in
-      let skip : 1 + suc (length (big w n)) ≡ 2 + w = omega (arith, length-big w n) in
-      let value : number (take w (big w n ++ c ++ rest)) ≡ n =
-          rw (append-assoc, take-at (big w n) (c ++ rest) w (length-big w n)) (number-big w n ∙ mod-eq-of-lt (fit .holds)) in
-      rw (encoded-long n large, skip)
-        (heading-long forms _ tag (omega arith) refl good n w refl (fit .some) (width-told n w _ fit below) value (fit .needed)
-          (omega (arith, length-append (big w n ++ c) rest, length-append (big w n) c, length-big w n)))
+    (λ t. let small : n < 128 = ltb-true _ _ t in
+    rw (encoded-short n small)
+    (heading-short forms _ tag (omega arith) refl good n refl small (omega (arith, length-append c rest))))
+    λ f.
+    let large : 128 ≤ n = ltb-false _ _ f in
+    let most : 256 ^ forms .lengthOctets ≤ 256 ^ 3 = pow-le-pow-right (omega arith) limit in
+    let w = lengthWidth n in
+    let fit : Width n w = width-fits n large (omega arith) in
+    let skip : 1 + suc (length (big w n)) ≡ 2 + w = omega (arith, length-big w n) in
+    let value : number (take w (big w n ++ c ++ rest)) ≡ n =
+    rw (append-assoc, take-at (big w n) (c ++ rest) w (length-big w n)) (number-big w n ∙ mod-eq-of-lt (fit .holds)) in
+    rw (encoded-long n large, skip)
+    (heading-long forms _ tag (omega arith) refl good n w refl (fit .some) (width-told n w _ fit below) value (fit .needed)
+    (omega (arith, length-append (big w n ++ c) rest, length-append (big w n) c, length-big w n)))
 
 pub length-tagged : (tag : ℕ) (c : List ℕ) → length (tagged tag c) ≡ 1 + length (lengthEncoded (length c)) + length c
 unfolding tagged

@@ -32,13 +32,14 @@ NumberEncodes forms item (Refused refusal) = Unit {0}
 
 -- the header and the contents of a whole item
 whole-heading :
-  (forms : Forms) → forms .lengthOctets ≤ 3 → (item : List ℕ) (x : Tree) → Sound forms x → encoded x ≡ item
-  → (headingOf forms item ≡ Header (tagOf x) (length (headerOf x)) (length (contentsOf x)))
+    (forms : Forms) → forms .lengthOctets ≤ 3 → (item : List ℕ) (x : Tree) → Sound forms x → encoded x ≡ item
+    → (headingOf forms item ≡ Header (tagOf x) (length (headerOf x)) (length (contentsOf x)))
     × (take (length (contentsOf x)) (drop (length (headerOf x)) item) ≡ contentsOf x)
 whole-heading forms limit item x sound bytes =
-    let back : encoded x ++ [] ≡ item = append-nil (encoded x) ∙ bytes in
-    (rw back at (heading-tree forms limit x [] sound),
-      rw (← back, encoded-parts x) (part-at (headerOf x) (contentsOf x) [] (length (contentsOf x)) refl))
+    let back : encoded x ++ [] ≡ item = append-nil (encoded x) ∙ bytes in (
+      rw back at (heading-tree forms limit x [] sound),
+      rw (← back, encoded-parts x) (part-at (headerOf x) (contentsOf x) [] (length (contentsOf x)) refl),
+    )
 
 module _ (forms : Forms) (limit : forms .lengthOctets ≤ 3) (item : List ℕ) where
   held-encodes : (n : ℕ) → Encodes forms item n → NumberEncodes forms item (held item (headingOf forms item))
@@ -48,19 +49,20 @@ module _ (forms : Forms) (limit : forms .lengthOctets ≤ 3) (item : List ℕ) w
       let (header, contents) = whole-heading forms limit item x (e .sound) (e .bytes) in
       let P : Number → Type 0 = NumberEncodes forms item in
       rw (header, contents)
-        (cond-by P (eqb (tagOf x) 2)
-          (λ two. cond-by P (ltb 8 (length (contentsOf x))) (λ wide. tt) λ narrow.
-            let same : x ≡ leaf 2 (contentsOf x) = leaf-two forms x (e .sound) (eqb-true _ _ two) in
-            record {
-              contents = contentsOf x;
-              bytes = rw same at (e .bytes);
-              sound = subst (Sound forms) same (e .sound);
-              narrow = ltb-false _ _ narrow;
-              value = refl;
-              shallow = omega (arith, ap depth same, e .shallow);
-              few = omega (arith, ap size same, e .count, e .few);
-              short = e .short })
-          λ other. tt)
+      (cond-by P (eqb (tagOf x) 2)
+      (λ two. cond-by P (ltb 8 (length (contentsOf x))) (λ wide. tt) λ narrow.
+      let same : x ≡ leaf 2 (contentsOf x) = leaf-two forms x (e .sound) (eqb-true _ _ two) in
+      record {
+        contents = contentsOf x;
+        bytes = rw same at (e .bytes);
+        sound = subst (Sound forms) same (e .sound);
+        narrow = ltb-false _ _ narrow;
+        value = refl;
+        shallow = omega (arith, ap depth same, e .shallow);
+        few = omega (arith, ap size same, e .count, e .few);
+        short = e .short;
+      })
+      λ other. tt)
 
   pub integer-encodes : Octets item → NumberEncodes forms item (integerOf forms item)
   unfolding integerOf asked
@@ -75,8 +77,8 @@ module _ (forms : Forms) (limit : forms .lengthOctets ≤ 3) (item : List ℕ) w
   encodes-integer v e =
       let x : Tree = leaf 2 (e .contents) in
       let passed : walkOf forms item ≡ walked.Passed 1 =
-          encodes-passed forms limit item 1
-            record { tree = x; bytes = e .bytes; sound = e .sound; count = refl; shallow = e .shallow; few = e .few; short = e .short } in
+      encodes-passed forms limit item 1
+      record { tree = x; bytes = e .bytes; sound = e .sound; count = refl; shallow = e .shallow; few = e .few; short = e .short } in
       let (header, contents) = whole-heading forms limit item x (e .sound) (e .bytes) in
       simp (passed, header, le-ltb 8 (length (e .contents)) (e .narrow), contents, e .value)
 

@@ -21,8 +21,8 @@ unfolding lengthWidth smallest
 width-fits n l h =
     by-test (ltb n 256) (λ one. rw one record { some = omega arith; three = omega arith; needed = omega arith; holds = omega (arith, ltb-true) })
     λ more. by-test (ltb n 65536)
-      (λ two. rw (more, two) record { some = omega arith; three = omega arith; needed = omega (arith, ltb-false); holds = omega (arith, ltb-true) })
-      (λ three. rw (more, three) record { some = omega arith; three = omega arith; needed = omega (arith, ltb-false); holds = omega (arith, ltb-true) })
+    (λ two. rw (more, two) record { some = omega arith; three = omega arith; needed = omega (arith, ltb-false); holds = omega (arith, ltb-true) })
+    (λ three. rw (more, three) record { some = omega arith; three = omega arith; needed = omega (arith, ltb-false); holds = omega (arith, ltb-true) })
 
 pub width-one : (n w : ℕ) → Width n w → lengthWidth n ≡ w
 unfolding lengthWidth smallest

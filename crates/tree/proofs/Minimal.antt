@@ -46,14 +46,15 @@ minimal : (x y : ℕ) (t : List ℕ) → integerGood (x ∷ y ∷ t) ≡ true �
 unfolding integerGood
 minimal x y t good =
     let many : suc (suc (length t)) ≡ 0 → ⊥ = omega arith in
-    let more : suc (suc (length t)) ≡ 1 → ⊥ = omega arith in
-    (λ e. leb-true _ _ (simp (ne-eqb _ _ many, ne-eqb _ _ more, eq-eqb x 0 e) at good),
+    let more : suc (suc (length t)) ≡ 1 → ⊥ = omega arith in (
+      λ e. leb-true _ _ (simp (ne-eqb _ _ many, ne-eqb _ _ more, eq-eqb x 0 e) at good),
       λ e. let some : x ≡ 0 → ⊥ = omega arith in
-        ltb-true _ _ (simp (ne-eqb _ _ many, ne-eqb _ _ more, ne-eqb x 0 some, eq-eqb x 255 e) at good))
+          ltb-true _ _ (simp (ne-eqb _ _ many, ne-eqb _ _ more, ne-eqb x 0 some, eq-eqb x 255 e) at good),
+    )
 
 signed-by :
-  (c : List ℕ) → (getD c 0 0 < 128 → Magnitude (length c) (number c))
-  → (128 ≤ getD c 0 0 → (m : ℕ) × (number c + suc m ≡ 256 ^ length c) × Magnitude (length c) m) → Signed c (twos c)
+    (c : List ℕ) → (getD c 0 0 < 128 → Magnitude (length c) (number c))
+    → (128 ≤ getD c 0 0 → (m : ℕ) × (number c + suc m ≡ 256 ^ length c) × Magnitude (length c) m) → Signed c (twos c)
 unfolding twos
 signed-by c small large =
     by-test (ltb (getD c 0 0) 128) (λ t. plus (number c) (rw t) refl (small (ltb-true _ _ t)))
@@ -79,20 +80,20 @@ signed (x ∷ y ∷ t) (octet b (octet b′ o)) good =
     let most : x * p ≤ 255 * p = mul-le-mul-right p (omega arith) in
     let most′ : y * p ≤ 255 * p = mul-le-mul-right p (omega arith) in
     signed-by (x ∷ y ∷ t)
-      (λ small.
-        let less : x * p ≤ 127 * p = mul-le-mul-right p (omega arith) in
-        let needed : 128 * p ≤ number (x ∷ y ∷ t) =
-            by-test (eqb x 0)
-              (λ z. let high : 128 * p ≤ y * p = mul-le-mul-right p (minimal x y t good .0 (eqb-true _ _ z)) in omega arith)
-              λ z. let high : 1 * p ≤ x * p = mul-le-mul-right p (omega (arith, eqb-false x 0 z)) in omega arith in
-        magnitude-of (length t) _ (omega arith) needed)
-      λ large.
-      let more : 128 * p ≤ x * p = mul-le-mul-right p large in
-      let needed : number (x ∷ y ∷ t) + suc (128 * p) ≤ 65536 * p =
-          by-test (eqb x 255)
-            (λ z. let low : y * p ≤ 127 * p = mul-le-mul-right p (omega (arith, minimal x y t good .1 (eqb-true _ _ z))) in omega arith)
-            λ z. let low : x * p ≤ 254 * p = mul-le-mul-right p (omega (arith, eqb-false x 255 z)) in omega arith in
-      (65536 * p - suc (number (x ∷ y ∷ t)), rw whole (omega arith), magnitude-of (length t) _ (omega arith) (omega arith))
+    (λ small.
+    let less : x * p ≤ 127 * p = mul-le-mul-right p (omega arith) in
+    let needed : 128 * p ≤ number (x ∷ y ∷ t) =
+    by-test (eqb x 0)
+    (λ z. let high : 128 * p ≤ y * p = mul-le-mul-right p (minimal x y t good .0 (eqb-true _ _ z)) in omega arith)
+    λ z. let high : 1 * p ≤ x * p = mul-le-mul-right p (omega (arith, eqb-false x 0 z)) in omega arith in
+    magnitude-of (length t) _ (omega arith) needed)
+    λ large.
+    let more : 128 * p ≤ x * p = mul-le-mul-right p large in
+    let needed : number (x ∷ y ∷ t) + suc (128 * p) ≤ 65536 * p =
+    by-test (eqb x 255)
+    (λ z. let low : y * p ≤ 127 * p = mul-le-mul-right p (omega (arith, minimal x y t good .1 (eqb-true _ _ z))) in omega arith)
+    λ z. let low : x * p ≤ 254 * p = mul-le-mul-right p (omega (arith, eqb-false x 255 z)) in omega arith in
+    (65536 * p - suc (number (x ∷ y ∷ t)), rw whole (omega arith), magnitude-of (length t) _ (omega arith) (omega arith))
 
 pub twos-same : (a b : List ℕ) → Octets a → Octets b → integerGood a ≡ true → integerGood b ≡ true → twos a ≡ twos b → a ≡ b
 twos-same a b oa ob ga gb e = go (signed a oa ga) (signed b ob gb)

@@ -50,7 +50,7 @@ number-big (suc k) n =
 pub big-number : (k : ℕ) {s : List ℕ} → Octets s → length s ≡ k → big k (number s) ≡ s
 big-number k o l =
     number-one (octets-big k _) o (length-big k _ ∙ sym l)
-      (number-big k _ ∙ mod-eq-of-lt (rw (← l) (number-below o)))
+    (number-big k _ ∙ mod-eq-of-lt (rw (← l) (number-below o)))
 
 pub octets-take : (k : ℕ) {s : List ℕ} → Octets s → Octets (take k s)
 octets-take zero o = no-octet

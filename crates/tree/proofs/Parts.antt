@@ -2,9 +2,9 @@
 use mathlib.Core.Path.{_≡_, refl, sym, _∙_, ap}
 use mathlib.Core.Bool.{true≢false}
 use mathlib.Core.List.{List, _++_}
-use Prim.Native.Nat.{ℕ, _≤_}
+use Prim.Native.Nat.{ℕ, _+_, _≤_}
 use native.Mathlib.Omega.{arith}
-use lib.ListN.{length}
+use lib.ListN.{length, length-append}
 use Rattle.der.specs.declared.heading.Heading.the-variants.{Header}
 use Rattle.der.specs.Forms.{Forms}
 use Rattle.der.specs.Heading.{headingOf, constructed}
@@ -16,9 +16,12 @@ unfolding encoded tagged headerOf tagOf contentsOf
 encoded-parts (leaf tag c) = refl
 encoded-parts (node tag members) = refl
 
+pub length-parts : (x : Tree) → length (encoded x) ≡ length (headerOf x) + length (contentsOf x)
+length-parts x = ap length (encoded-parts x) ∙ length-append (headerOf x) (contentsOf x)
+
 pub heading-tree :
-  (forms : Forms) → forms .lengthOctets ≤ 3 → (x : Tree) (rest : List ℕ) → Sound forms x
-  → headingOf forms (encoded x ++ rest) ≡ Header (tagOf x) (length (headerOf x)) (length (contentsOf x))
+    (forms : Forms) → forms .lengthOctets ≤ 3 → (x : Tree) (rest : List ℕ) → Sound forms x
+    → headingOf forms (encoded x ++ rest) ≡ Header (tagOf x) (length (headerOf x)) (length (contentsOf x))
 unfolding encoded headerOf tagOf contentsOf
 heading-tree forms limit (leaf tag c) rest (sound-leaf b good primitive o below contents) =
     heading-of forms limit tag c rest good below ∙ ap (λ (k : ℕ). Header tag k (length c)) (omega arith)

@@ -34,7 +34,8 @@ walked-encodes forms limit item o =
       count = omega (arith, f .count);
       shallow = omega (arith, f .shallow);
       few = b .few;
-      short = short }
+      short = short;
+    }
 
 pub passed-encodes : (forms : Forms) → forms .lengthOctets ≤ 3 → (item : List ℕ) (n : ℕ) → Octets item → walkOf forms item ≡ Passed n → Encodes forms item n
 passed-encodes forms limit item n o e = subst (WalkedEncodes forms item) e (walked-encodes forms limit item o)
@@ -45,8 +46,7 @@ encodes-passed forms limit item n e =
     let x : Tree = e .tree in
     let back : encoded x ++ [] ≡ item = append-nil (encoded x) ∙ e .bytes in
     let read : elementAt (2 * length item + 2) forms item 0 1 0 ≡ Past (length item) n =
-        rw back at (reads forms limit x (e .sound) [] (2 * length item + 2) 0 1 0
-          (omega (arith, ap length back)) (omega (arith, e .shallow)) (omega (arith, e .count, e .few)))
-        ∙ ap₂ Past (ap length (e .bytes)) (omega (arith, e .count)) in
+    rw back at (reads forms limit x (e .sound) [] (2 * length item + 2) 0 1 0
+    (omega (arith, ap length back)) (omega (arith, e .shallow)) (omega (arith, e .count, e .few)))
+    ∙ ap₂ Past (ap length (e .bytes)) (omega (arith, e .count)) in
     simp (le-ltb _ _ (e .short), read, eq-eqb (length item) (length item) refl)
-

@@ -21,28 +21,29 @@ encoded-some (node tag members) = omega (arith, length-tagged tag (encodedAll me
 module _ (forms : Forms) (limit : forms .lengthOctets ≤ 3) where
   mutual
     unfolding encoded encodedAll size sizeAll depth depthAll filled
+
     pub reads :
-      (x : Tree) → Sound forms x → (rest : List ℕ) (fuel base d n : ℕ) → 2 * length (encoded x ++ rest) + 1 ≤ fuel
-      → d + depth x ≤ forms .depth + 1 → n + size x ≤ forms .elements
-      → elementAt fuel forms (encoded x ++ rest) base d n ≡ Past (length (encoded x)) (n + size x)
+        (x : Tree) → Sound forms x → (rest : List ℕ) (fuel base d n : ℕ) → 2 * length (encoded x ++ rest) + 1 ≤ fuel
+        → d + depth x ≤ forms .depth + 1 → n + size x ≤ forms .elements
+        → elementAt fuel forms (encoded x ++ rest) base d n ≡ Past (length (encoded x)) (n + size x)
     reads (leaf tag c) sound rest zero base d n f deep many = absurd (omega arith)
     reads (leaf tag c) (sound-leaf b good primitive o below contents) rest (suc fuel) base d n f deep many =
         rw (length-tagged tag c)
-          (element-leaf forms fuel _ base d n tag _ (length c) (heading-of forms limit tag c rest good below) (omega arith) (omega arith) primitive
-            (rw tagged-contents contents))
+        (element-leaf forms fuel _ base d n tag _ (length c) (heading-of forms limit tag c rest good below) (omega arith) (omega arith) primitive
+        (rw tagged-contents contents))
     reads (node tag members) sound rest zero base d n f deep many = absurd (omega arith)
     reads (node tag members) (sound-node b good built below sound) rest (suc fuel) base d n f deep many =
         let c : List ℕ = encodedAll members in
         let skip : ℕ = 1 + length (lengthEncoded (length c)) in
         let inner = reads-all members sound fuel (base + skip) (d + 1) (n + 1)
-            (omega (arith, length-append (tagged tag c) rest, length-tagged tag c)) (omega arith) (omega arith) in
+        (omega (arith, length-append (tagged tag c) rest, length-tagged tag c)) (omega arith) (omega arith) in
         element-node forms fuel _ base d n tag skip (length c) (heading-of forms limit tag c rest good below) (omega arith) (omega arith) built
         ∙ rw (tagged-contents tag c rest, inner) (ap₂ Past (sym (length-tagged tag c)) (omega arith))
 
     pub reads-all :
-      (xs : Trees) → SoundAll forms xs → (fuel base d n : ℕ) → 2 * length (encodedAll xs) + 2 ≤ fuel
-      → d + depthAll xs ≤ forms .depth + 1 → n + sizeAll xs ≤ forms .elements
-      → listAt fuel forms (encodedAll xs) base d n ≡ Passed (n + sizeAll xs)
+        (xs : Trees) → SoundAll forms xs → (fuel base d n : ℕ) → 2 * length (encodedAll xs) + 2 ≤ fuel
+        → d + depthAll xs ≤ forms .depth + 1 → n + sizeAll xs ≤ forms .elements
+        → listAt fuel forms (encodedAll xs) base d n ≡ Passed (n + sizeAll xs)
     reads-all none sound zero base d n f deep many = absurd (omega arith)
     reads-all none sound-none (suc fuel) base d n f deep many =
         list-done forms fuel [] base d n refl ∙ ap Passed (omega arith)

@@ -14,8 +14,8 @@ use Rattle.tree.proofs.Reading.{encoded-some}
 
 module _ (forms : Forms) (limit : forms .lengthOctets ≤ 3) where
   tagged-one :
-    (x y : ℕ) (c k r q : List ℕ) → identifierGood x ≡ true → identifierGood y ≡ true → length c < told forms → length k < told forms
-    → tagged x c ++ r ≡ tagged y k ++ q → (x ≡ y) × (c ≡ k) × (r ≡ q)
+      (x y : ℕ) (c k r q : List ℕ) → identifierGood x ≡ true → identifierGood y ≡ true → length c < told forms → length k < told forms
+      → tagged x c ++ r ≡ tagged y k ++ q → (x ≡ y) × (c ≡ k) × (r ≡ q)
   tagged-one x y c k r q gx gy bc bk e =
       let hc = heading-of forms limit x c r gx bc in
       let hk = heading-of forms limit y k q gy bk in
@@ -23,15 +23,16 @@ module _ (forms : Forms) (limit : forms .lengthOctets ≤ 3) where
       let tags : x ≡ y = cc in
       let sizes : length c ≡ length k = cc in
       let contents : c ≡ k =
-          sym (tagged-contents x c r) ∙ ap (λ (s : List ℕ). take (length c) (drop (1 + length (lengthEncoded (length c))) s)) e
-          ∙ rw sizes (tagged-contents y k q) in
+      sym (tagged-contents x c r) ∙ ap (λ (s : List ℕ). take (length c) (drop (1 + length (lengthEncoded (length c))) s)) e
+      ∙ rw sizes (tagged-contents y k q) in
       let heads : tagged x c ≡ tagged y k = ap₂ tagged tags contents in
       (tags, contents, sym (drop-append-seam (tagged x c) r) ∙ ap₂ (λ (l s : List ℕ). drop (length l) s) heads e ∙ drop-append-seam (tagged y k) q)
 
   mutual
     unfolding encoded encodedAll
+
     pub tree-one :
-      (a b : Tree) (r q : List ℕ) → Sound forms a → Sound forms b → encoded a ++ r ≡ encoded b ++ q → (a ≡ b) × (r ≡ q)
+        (a b : Tree) (r q : List ℕ) → Sound forms a → Sound forms b → encoded a ++ r ≡ encoded b ++ q → (a ≡ b) × (r ≡ q)
     tree-one (leaf x c) (leaf y k) r q (sound-leaf _ gx _ _ bc _) (sound-leaf _ gy _ _ bk _) e =
         let (tags, contents, rests) = tagged-one x y c k r q gx gy bc bk e in
         (ap₂ leaf tags contents, rests)

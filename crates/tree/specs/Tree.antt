@@ -80,16 +80,16 @@ unfoldable mutual
 mutual
   pub data Sound (forms : Forms) : Tree → Type 0 where
     sound-leaf :
-      {tag : ℕ} {c : List ℕ} → tag < 256 → identifierGood tag ≡ true → constructed tag ≡ false → Octets c
-      → length c < max 128 (256 ^ forms .lengthOctets) → contentsGood tag c ≡ true → Sound forms (leaf tag c)
+        {tag : ℕ} {c : List ℕ} → tag < 256 → identifierGood tag ≡ true → constructed tag ≡ false → Octets c
+        → length c < max 128 (256 ^ forms .lengthOctets) → contentsGood tag c ≡ true → Sound forms (leaf tag c)
     sound-node :
-      {tag : ℕ} {members : Trees} → tag < 256 → identifierGood tag ≡ true → constructed tag ≡ true
-      → length (encodedAll members) < max 128 (256 ^ forms .lengthOctets) → SoundAll forms members → Sound forms (node tag members)
+        {tag : ℕ} {members : Trees} → tag < 256 → identifierGood tag ≡ true → constructed tag ≡ true
+        → length (encodedAll members) < max 128 (256 ^ forms .lengthOctets) → SoundAll forms members → Sound forms (node tag members)
 
   pub data SoundAll (forms : Forms) : Trees → Type 0 where
     sound-none : SoundAll forms none
     sound-more :
-      {tree : Tree} {trees : Trees} → Sound forms tree → SoundAll forms trees → SoundAll forms (more tree trees)
+        {tree : Tree} {trees : Trees} → Sound forms tree → SoundAll forms trees → SoundAll forms (more tree trees)
 
 -- the octets of an item are those of a sound tree of n elements, within the limits
 pub record Encodes (forms : Forms) (item : List ℕ) (n : ℕ) : Type 0 where
