@@ -40,14 +40,11 @@ ended c =
     let part : length (take (a .end - a .from) (drop (a .from) (a .item .now))) ≡ a .end - a .from = length-take-le _ _ rest in
     rw part at (heading-within paper _ _ _ _ (sym (c .before .before .before .header .ensures) ∙ c .before .tag .given .1) .1)
 
-add-t14 : tie.Need-add-t14
-add-t14 c = omega (arith, ended c)
+add-contents : tie.Need-add-contents
+add-contents c = omega (arith, ended c)
 
-add-t15 : tie.Need-add-t15
-add-t15 c = omega (arith, ended c)
-
-add-t16 : tie.Need-add-t16
-add-t16 c = omega (arith, ended c)
+add-after : tie.Need-add-after
+add-after c = omega (arith, ended c)
 
 enum-told : tie.Need-enum-told
 enum-told c = search needs
@@ -72,9 +69,8 @@ member-spec =
     part-header-end
     header-requires
     enum-known-tag
-    add-t14
-    add-t15
-    add-t16
+    add-contents
+    add-after
     enum-told
     returns-3
     returns-4)
