@@ -44,21 +44,25 @@ returns-2 c =
     simp (sym (c .before .before .before .before .before .walk .ensures .0) ∙ c .before .before .before .enum-told .given .1, sym (c .before .before .header .ensures) ∙ c .enum-told2 .given .1)
 
 -- the header is that of the item's outermost element
-headed : (c : tie.After-known-told2)
-  → headingOf paper (c .before .before .before .before .before .before .before .before .args .item .now) ≡ Header (c .before .tag .given .0 .0) (c .before .tag .given .0 .1 .0) (c .before .tag .given .0 .1 .1 .0)
+headed : (c : tie.After-known-told2) →
+    let h = c .before .tag .given .0 in
+    headingOf paper (c .before .before .before .before .before .before .before .before .args .item .now) ≡ Header (h .0) (h .1 .0) (h .1 .1 .0)
 headed c = sym (c .before .before .before .header .ensures) ∙ c .before .tag .given .1
 
 -- so the answer hangs on that element alone, which ends within the item
-told : (c : tie.After-known-told2)
-  → integerOf paper (c .before .before .before .before .before .before .before .before .args .item .now)
-  ≡ held (c .before .before .before .before .before .before .before .before .args .item .now) (Header (c .before .tag .given .0 .0) (c .before .tag .given .0 .1 .0) (c .before .tag .given .0 .1 .1 .0))
+told : (c : tie.After-known-told2) →
+    let item = c .before .before .before .before .before .before .before .before .args .item .now in
+    let h = c .before .tag .given .0 in
+    integerOf paper item ≡ held item (Header (h .0) (h .1 .0) (h .1 .1 .0))
 unfolding integerOf asked
 told c =
     simp
       (sym (c .before .before .before .before .before .before .walk .ensures .0) ∙ c .before .before .before .before .enum-told .given .1,
       headed c)
 
-inside : (c : tie.After-known-told2) → c .before .tag .given .0 .1 .0 + c .before .tag .given .0 .1 .1 .0 ≤ length (c .before .before .before .before .before .before .before .before .args .item .now)
+inside : (c : tie.After-known-told2) →
+    let h = c .before .tag .given .0 in
+    h .1 .0 + h .1 .1 .0 ≤ length (c .before .before .before .before .before .before .before .before .args .item .now)
 inside c = heading-within paper _ _ _ _ (headed c) .1
 
 returns-3 : tie.Need-returns-3

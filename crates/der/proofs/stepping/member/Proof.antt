@@ -33,7 +33,10 @@ enum-known-tag : tie.Need-enum-known-tag
 enum-known-tag c = search needs
 
 -- the element ends within the part
-ended : (c : tie.After-known-told) → c .before .tag .given .0 .1 .0 + c .before .tag .given .0 .1 .1 .0 ≤ c .before .before .before .before .before .before .before .before .args .end - c .before .before .before .before .before .before .before .before .args .from
+ended : (c : tie.After-known-told) →
+    let a = c .before .before .before .before .before .before .before .before .args in
+    let h = c .before .tag .given .0 in
+    h .1 .0 + h .1 .1 .0 ≤ a .end - a .from
 ended c =
     let a = c .before .before .before .before .before .before .before .before .args in
     let rest : a .end - a .from ≤ length (drop (a .from) (a .item .now)) = rw length-drop (omega arith) in
