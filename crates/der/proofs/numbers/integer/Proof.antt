@@ -41,7 +41,10 @@ enum-told-2 c = search needs
 returns-2 : tie.Need-returns-2
 unfolding integerOf asked held
 returns-2 c =
-    simp (sym (c .before .before .before .before .before .walk .ensures .0) ∙ c .before .before .before .enum-told .given .1, sym (c .before .before .header .ensures) ∙ c .enum-told2 .given .1)
+    simp (
+      sym (c .before .before .before .before .before .walk .ensures .0) ∙ c .before .before .before .enum-told .given .1,
+      sym (c .before .before .header .ensures) ∙ c .enum-told2 .given .1,
+    )
 
 -- the header is that of the item's outermost element
 headed : (c : tie.After-known-told2) →

@@ -55,12 +55,20 @@ enum-told c = search needs
 returns-3 : tie.Need-returns-3
 unfolding memberOf placed
 returns-3 c =
-    simp (le-leb _ _ (c .before .before .before .before .before .before .if1 .left), le-leb _ _ (c .before .before .before .before .before .if2 .left), sym (c .before .before .before .header .ensures) ∙ c .before .tag .given .1)
+    simp (
+      le-leb _ _ (c .before .before .before .before .before .before .if1 .left),
+      le-leb _ _ (c .before .before .before .before .before .if2 .left),
+      sym (c .before .before .before .header .ensures) ∙ c .before .tag .given .1,
+    )
 
 returns-4 : tie.Need-returns-4
 unfolding memberOf placed
 returns-4 c =
-    simp (le-leb _ _ (c .before .before .before .before .before .if1 .left), le-leb _ _ (c .before .before .before .before .if2 .left), sym (c .before .before .header .ensures) ∙ c .enum-told .given .1)
+    simp (
+      le-leb _ _ (c .before .before .before .before .before .if1 .left),
+      le-leb _ _ (c .before .before .before .before .if2 .left),
+      sym (c .before .before .header .ensures) ∙ c .enum-told .given .1,
+    )
 
 pub member-spec : {M : Type 1} → statement M
 member-spec =
