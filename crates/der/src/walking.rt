@@ -15,7 +15,7 @@ pub enum Walked {
 }
 
 // An element that was read: the octets that it takes, and the count of elements after it.
-enum Read {
+pub enum Read {
     Past { used: usize, count: usize },
     Fault(Refusal),
 }

@@ -1,0 +1,6 @@
+pub mod Octets
+pub mod Elements
+pub mod Names
+pub mod Times
+pub mod Extensions
+pub mod Envelope
