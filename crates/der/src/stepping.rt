@@ -21,7 +21,11 @@ pub fn member(item: &[u8], from: usize, end: usize) -> Step
         return Step::Nothing;
     }
     match header(&item[from..end]) {
-        Heading::Header { tag, skip, size } => Step::At { tag, contents: from + skip, end: from + skip + size },
+        Heading::Header { tag, skip, size } => {
+            let contents = from + skip;
+            let after = contents + size;
+            Step::At { tag, contents, end: after }
+        }
         Heading::Bad => Step::Nothing,
     }
 }

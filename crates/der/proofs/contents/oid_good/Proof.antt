@@ -44,7 +44,8 @@ returns-2 c =
     let h : i < length l = c .before .before .before .loop-test .taken in
     let here : subIdentifiers (c .before .before .before .before .loop .starts) (drop i l) ≡ false =
       rw (drop-cons l i 0) (simp (c .before .if2 .taken, eq-eqb _ _ (c .if3 .taken))) in
-    simp (ne-eqb _ _ (c .before .before .before .before .before .if1 .left)) (sym here ∙ c .before .before .before .before .loop .inv .1)
+    simp (ne-eqb _ _ (c .before .before .before .before .before .if1 .left))
+    (sym here ∙ c .before .before .before .before .loop .inv .1)
 
 add-i : tie.Need-add-i Inv-loop μ-loop
 add-i c = omega arith
