@@ -1,6 +1,7 @@
 // The walk: an element before its members, left to right, and the first fault met.
 use crate::contents::contents_good;
-use crate::heading::{Heading, header};
+use crate::heading::Heading;
+use crate::heading::header;
 use refusal::Refusal;
 ghost use mathlib.Core.Path.{_≡_};
 ghost use Prim.Native.Nat.{ℕ, _+_, _*_, _≤_};
@@ -61,7 +62,10 @@ fn element(s: &[u8], base: usize, depth: usize, count: usize) -> Read
         };
     }
     if contents_good(tag, &s[skip..end]) {
-        return Read::Past { used: end, count: count + 1 };
+        return Read::Past {
+            used: end,
+            count: count + 1,
+        };
     }
     Read::Fault(Refusal::Der { at: base })
 }

@@ -67,10 +67,11 @@ returns-6 c =
     let first = getD s 1 0 in
     let not-one : first - 128 ≡ 1 → ⊥ = omega arith in
     let not-two : first - 128 ≡ 2 → ⊥ = omega arith in
-    simp
-      (identified (c .before .before .before .before),
+    simp (
+      identified (c .before .before .before .before),
       le-ltb _ _ (c .before .before .if3 .left),
-      long-bad s (getD s 0 0) (first - 128) not-one not-two)
+      long-bad s (getD s 0 0) (first - 128) not-one not-two,
+    )
 
 pub header-spec : {M : Type 1} → statement M
 header-spec =

@@ -59,9 +59,10 @@ told : (c : tie.After-known-told2) →
     integerOf paper item ≡ held item (Header (h .0) (h .1 .0) (h .1 .1 .0))
 unfolding integerOf asked
 told c =
-    simp
-      (sym (c .before .before .before .before .before .before .walk .ensures .0) ∙ c .before .before .before .before .enum-told .given .1,
-      headed c)
+    simp (
+      sym (c .before .before .before .before .before .before .walk .ensures .0) ∙ c .before .before .before .before .enum-told .given .1,
+      headed c,
+    )
 
 inside : (c : tie.After-known-told2) →
     let h = c .before .tag .given .0 in
@@ -95,12 +96,13 @@ returns-5 : tie.Need-returns-5
 unfolding held
 returns-5 c =
     rw (toZ-ofZ w64 (c .signed .result) (record { sfits = c .signed .ok }))
-    (simp
-      (told (c .before .before .before .before),
+    (simp (
+      told (c .before .before .before .before),
       eq-eqb _ _ (c .before .before .before .if1 .left),
       le-ltb _ _ (c .before .before .if2 .left),
       c .signed .ensures,
-      add-sub-cancel-left))
+      add-sub-cancel-left,
+    ))
 
 pub integer-spec : {M : Type 1} → statement M
 integer-spec =

@@ -85,7 +85,7 @@ loop-again c =
     let l = c .before .before .before .before .before .args .c .now in
     let i = c .before .before .loop .i in
     let next : number (take (i + 1) l) ≡ number (take i l) * 256 + getD l i 0 =
-      rw add-one (number-next l i (c .before .loop-test .taken)) in
+    rw add-one (number-next l i (c .before .loop-test .taken)) in
     let power : 256 ^ (i + 1) ≡ 256 ^ i * 256 = rw add-one (pow-suc 256 i) in
     (omega arith, omega arith, omega arith, omega (arith, c .shared-slice-known2 .given i))
 
@@ -147,7 +147,7 @@ returns-3 c =
     let now = c .before .before .loop in
     let w = whole (c .before) in
     let below : pos (number l) -ℤ pos (256 ^ length l) ≡ negsuc (now .most - now .value) =
-      rw (← w .0) (lacking _ _ _ (now .inv .3) (w .1)) in
+    rw (← w .0) (lacking _ _ _ (now .inv .3) (w .1)) in
     toZ-ofZ w64 _ (sub-result-2 c) ∙ (negative c ∙ simp (le-ltb _ _ (c .if2 .left)) (sym below))
 
 pub signed-spec : {M : Type 1} → statement M
