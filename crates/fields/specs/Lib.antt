@@ -4,3 +4,5 @@ pub mod Names
 pub mod Times
 pub mod Extensions
 pub mod Envelope
+pub mod Steps
+pub mod Rules

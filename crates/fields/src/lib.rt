@@ -4,6 +4,7 @@ mod envelopes;
 mod equality;
 mod extensions;
 mod names;
+mod steps;
 mod times;
 
 pub use elements::{Element, Found, contents, element_at, element_tagged, whole};
@@ -11,4 +12,5 @@ pub use envelopes::{Envelope, envelope_of};
 pub use equality::same;
 pub use extensions::{Extension, doubled, extensions_shaped, lookup, some_critical};
 pub use names::{Attribute, Letters, Name, Seen, letters_of, name_of};
+pub use steps::{only_member, past, time_at};
 pub use times::{Time, time_of, time_tag};

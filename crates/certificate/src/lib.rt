@@ -1,0 +1,74 @@
+// Whether an item is a certificate of the profile, and its fields.
+mod keys;
+mod rules;
+mod shapes;
+
+use der::{Walked, walk};
+use fields::{Letters, Seen, Time, letters_of, time_of};
+use keys::{KeyId, authority_key, subject_key};
+use refusal::Refusal;
+use rules::{rules_2_to_8, rules_9_to_14};
+use shapes::{Layout, Shape, layout_of};
+ghost use mathlib.Core.Path.{_≡_};
+ghost use Rattle.certificate.specs.Answer.{fieldsOf, profileOf, judgedOf};
+
+// Start and end as YYYYMMDDHHMMSS, the issuer's letters, offset and length of issuer, subject and key with their
+// headers, and of the contents of the serial and the key identifiers, 0 and 0 where one is absent.
+pub struct Fields {
+    pub start: u64,
+    pub end: u64,
+    pub first: u8,
+    pub second: u8,
+    pub issuer_at: usize,
+    pub issuer_len: usize,
+    pub subject_at: usize,
+    pub subject_len: usize,
+    pub key_at: usize,
+    pub key_len: usize,
+    pub serial_at: usize,
+    pub serial_len: usize,
+    pub subject_key_at: usize,
+    pub subject_key_len: usize,
+    pub authority_key_at: usize,
+    pub authority_key_len: usize,
+}
+
+pub enum Judged {
+    Passed(Fields),
+    Refused(Refusal),
+}
+
+// Role 1 is an anchor, 2 a link, 3 a document signer; any other is refusal 1, told before anything of the bytes.
+pub fn judge(item: &[u8], role: u64) -> Judged
+    ensures { λ r. ⌜ r ≡ judgedOf (now (item .entry)) role ⌝ }
+{
+    if role < 1 {
+        return Judged::Refused(Refusal::Argument);
+    }
+    if 3 < role {
+        return Judged::Refused(Refusal::Argument);
+    }
+    if let Walked::Refused(refusal) = walk(item) {
+        return Judged::Refused(refusal);
+    }
+    profile(item, role)
+}
+
+// The rules in order, and the fields where all of them hold.
+fn profile(item: &[u8], role: u64) -> Judged
+    ensures { λ r. ⌜ r ≡ profileOf (now (item .entry)) role ⌝ }
+{
+    let Shape::Parts(l) = layout_of(item) else {
+        return Judged::Refused(Refusal::Profile { rule: 1 });
+    };
+    let early = rules_2_to_8(item, l);
+    if early != 0 {
+        return Judged::Refused(Refusal::Profile { rule: early });
+    }
+    let extensions = l.extensions;
+    let late = rules_9_to_14(item, extensions, role);
+    if late != 0 {
+        return Judged::Refused(Refusal::Profile { rule: late });
+    }
+    Judged::Passed(fields_of(item, l))
+}
