@@ -55,22 +55,23 @@ keyLength (Key at end) = end - at
 unfoldable pub fieldsOf : List ℕ → Layout → Fields
 fieldsOf s l =
     record {
-        start = momentOf (timeOf s (l .start));
-        end = momentOf (timeOf s (l .finish));
-        first = firstLetter (lettersOf s (l .«issuer_country»));
-        second = secondLetter (lettersOf s (l .«issuer_country»));
-        «issuer_at» = l .issuer .at;
-        «issuer_len» = l .issuer .end - l .issuer .at;
-        «subject_at» = l .subject .at;
-        «subject_len» = l .subject .end - l .subject .at;
-        «key_at» = l .key .at;
-        «key_len» = l .key .end - l .key .at;
-        «serial_at» = l .serial .contents;
-        «serial_len» = l .serial .end - l .serial .contents;
-        «subject_key_at» = keyAt (subjectKey s (l .extensions));
-        «subject_key_len» = keyLength (subjectKey s (l .extensions));
-        «authority_key_at» = keyAt (authorityKey s (l .extensions));
-        «authority_key_len» = keyLength (authorityKey s (l .extensions)) }
+      start = momentOf (timeOf s (l .start));
+      end = momentOf (timeOf s (l .finish));
+      first = firstLetter (lettersOf s (l .«issuer_country»));
+      second = secondLetter (lettersOf s (l .«issuer_country»));
+      «issuer_at» = l .issuer .at;
+      «issuer_len» = l .issuer .end - l .issuer .at;
+      «subject_at» = l .subject .at;
+      «subject_len» = l .subject .end - l .subject .at;
+      «key_at» = l .key .at;
+      «key_len» = l .key .end - l .key .at;
+      «serial_at» = l .serial .contents;
+      «serial_len» = l .serial .end - l .serial .contents;
+      «subject_key_at» = keyAt (subjectKey s (l .extensions));
+      «subject_key_len» = keyLength (subjectKey s (l .extensions));
+      «authority_key_at» = keyAt (authorityKey s (l .extensions));
+      «authority_key_len» = keyLength (authorityKey s (l .extensions));
+    }
 
 unfoldable pub graded : ℕ → Fields → Judged
 graded rule fields = cond (eqb rule 0) (Passed fields) (Refused (Profile rule))

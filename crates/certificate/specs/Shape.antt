@@ -64,8 +64,19 @@ layoutOf s =
     onName (nameOf s subject) λ subjectCountry.
     cond (extensionsShaped s extensions)
     (Parts (record {
-        version = version; serial = serial; inner = inner; outer = outer; issuer = issuer; start = start; finish = finish;
-        subject = subject; key = key; unique = not (eqb (uniqueEnd s (key .end) (tbs .end)) (key .end));
-        extensions = extensions; «issuer_country» = issuerCountry; «subject_country» = subjectCountry }))
+      version = version;
+      serial = serial;
+      inner = inner;
+      outer = outer;
+      issuer = issuer;
+      start = start;
+      finish = finish;
+      subject = subject;
+      key = key;
+      unique = not (eqb (uniqueEnd s (key .end) (tbs .end)) (key .end));
+      extensions = extensions;
+      «issuer_country» = issuerCountry;
+      «subject_country» = subjectCountry;
+    }))
     Broken)
     Broken

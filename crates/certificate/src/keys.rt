@@ -1,6 +1,14 @@
 // Key identifiers and the document type list, inside the extensions that hold them.
-use der::{Walked, walk};
-use fields::{Element, Extension, Found, contents, element_at, element_tagged, lookup, same};
+use der::Walked;
+use der::walk;
+use fields::Element;
+use fields::Extension;
+use fields::Found;
+use fields::contents;
+use fields::element_at;
+use fields::element_tagged;
+use fields::lookup;
+use fields::same;
 ghost use mathlib.Core.Path.{_≡_};
 ghost use Rattle.certificate.specs.Keys.{walks, octetString, firstOf, subjectKey, authorityKey, typesIn, listGood, documentTypes};
 
@@ -14,7 +22,12 @@ pub enum KeyId {
 pub(crate) fn subject_key(item: &[u8], extensions: Element) -> KeyId
     ensures { λ r. ⌜ r ≡ subjectKey (now (item .entry)) extensions ⌝ }
 {
-    let Extension::Is { oid: _, critical, value } = lookup(item, extensions, b"\x55\x1d\x0e") else {
+    let Extension::Is {
+        oid: _,
+        critical,
+        value,
+    } = lookup(item, extensions, b"\x55\x1d\x0e")
+    else {
         return KeyId::Keyless;
     };
     if critical {
@@ -29,7 +42,12 @@ pub(crate) fn subject_key(item: &[u8], extensions: Element) -> KeyId
 pub(crate) fn authority_key(item: &[u8], extensions: Element) -> KeyId
     ensures { λ r. ⌜ r ≡ authorityKey (now (item .entry)) extensions ⌝ }
 {
-    let Extension::Is { oid: _, critical, value } = lookup(item, extensions, b"\x55\x1d\x23") else {
+    let Extension::Is {
+        oid: _,
+        critical,
+        value,
+    } = lookup(item, extensions, b"\x55\x1d\x23")
+    else {
         return KeyId::Keyless;
     };
     if critical {
@@ -58,7 +76,10 @@ fn octet_string(item: &[u8], value: Element) -> KeyId
     let Found::One(key) = element_tagged(item, value.contents, value.end, 0x04) else {
         return KeyId::Misformed;
     };
-    KeyId::Key { at: key.contents, end: key.end }
+    KeyId::Key {
+        at: key.contents,
+        end: key.end,
+    }
 }
 
 // A SEQUENCE whose first member is tag 80.
@@ -71,14 +92,22 @@ fn first_of(item: &[u8], value: Element) -> KeyId
     let Found::One(key) = element_tagged(item, sequence.contents, sequence.end, 0x80) else {
         return KeyId::Misformed;
     };
-    KeyId::Key { at: key.contents, end: key.end }
+    KeyId::Key {
+        at: key.contents,
+        end: key.end,
+    }
 }
 
 // The document type list, not critical.
 pub(crate) fn document_types(item: &[u8], extensions: Element) -> bool
     ensures { λ r. ⌜ r ≡ documentTypes (now (item .entry)) extensions ⌝ }
 {
-    let Extension::Is { oid: _, critical, value } = lookup(item, extensions, b"\x67\x81\x08\x01\x01\x06\x02") else {
+    let Extension::Is {
+        oid: _,
+        critical,
+        value,
+    } = lookup(item, extensions, b"\x67\x81\x08\x01\x01\x06\x02")
+    else {
         return false;
     };
     if critical {

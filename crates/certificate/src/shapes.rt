@@ -1,7 +1,16 @@
 // Rule 1: the shape of a certificate.
-use fields::{
-    Element, Envelope, Found, Name, Seen, element_tagged, envelope_of, extensions_shaped, name_of, only_member, past, time_at,
-};
+use fields::Element;
+use fields::Envelope;
+use fields::Found;
+use fields::Name;
+use fields::Seen;
+use fields::element_tagged;
+use fields::envelope_of;
+use fields::extensions_shaped;
+use fields::name_of;
+use fields::only_member;
+use fields::past;
+use fields::time_at;
 ghost use mathlib.Core.Path.{_≡_};
 ghost use Rattle.certificate.specs.Shape.{validityOf, uniqueEnd, layoutOf};
 
