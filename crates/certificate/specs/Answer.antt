@@ -9,13 +9,9 @@ use Rattle.der.specs.declared.walking.Walked.the-variants as walked
 use Rattle.der.specs.Forms.{paper}
 use Rattle.der.specs.Walk.{walkOf}
 use Rattle.fields.specs.declared.elements.Element.{Element}
-use Rattle.fields.specs.declared.names.Letters.{Letters}
-use Rattle.fields.specs.declared.names.Letters.the-variants.{Two, Unfit}
-use Rattle.fields.specs.declared.times.Time.{Time}
-use Rattle.fields.specs.declared.times.Time.the-variants.{Moment, Untimely}
-use Rattle.fields.specs.Names.{lettersOf}
+use Rattle.fields.specs.Names.{lettersOf, firstLetter, secondLetter}
 use Rattle.fields.specs.Rules.{firstBroken}
-use Rattle.fields.specs.Times.{timeOf}
+use Rattle.fields.specs.Times.{timeOf, momentOf}
 use Rattle.certificate.specs.declared.keys.KeyId.{KeyId}
 use Rattle.certificate.specs.declared.keys.KeyId.the-variants.{Key, Keyless, Misformed}
 use Rattle.certificate.specs.declared.shapes.Layout.{Layout}
@@ -27,18 +23,6 @@ use Rattle.certificate.specs.declared.Judged.the-variants.{Passed, Refus
 use Rattle.certificate.specs.Keys.{subjectKey, authorityKey}
 use Rattle.certificate.specs.Rules.{rules2to8, rules9to14}
 use Rattle.certificate.specs.Shape.{layoutOf}
-
-unfoldable pub momentOf : Time → ℕ
-momentOf Untimely = 0
-momentOf (Moment moment) = moment
-
-unfoldable pub firstLetter : Letters → ℕ
-firstLetter Unfit = 0
-firstLetter (Two a b) = a
-
-unfoldable pub secondLetter : Letters → ℕ
-secondLetter Unfit = 0
-secondLetter (Two a b) = b
 
 -- offset and length of a key identifier's contents, 0 and 0 if absent
 unfoldable pub keyAt : KeyId → ℕ

@@ -9,13 +9,11 @@ use Rattle.fields.specs.declared.extensions.Extension.{Extension}
 use Rattle.fields.specs.declared.extensions.Extension.the-variants.{Is, Absent}
 use Rattle.fields.specs.declared.names.Letters.{Letters}
 use Rattle.fields.specs.declared.names.Letters.the-variants.{Two, Unfit}
-use Rattle.fields.specs.declared.times.Time.{Time}
-use Rattle.fields.specs.declared.times.Time.the-variants.{Moment, Untimely}
 use Rattle.fields.specs.Octets.{alike}
 use Rattle.fields.specs.Elements.{inside, wholeOf, contentsOf}
 use Rattle.fields.specs.Extensions.{lookupOf, present, doubledOf, criticalOf}
 use Rattle.fields.specs.Names.{lettersOf}
-use Rattle.fields.specs.Times.{timeOf}
+use Rattle.fields.specs.Times.{timeOf, inOrder}
 use Rattle.certificate.specs.declared.keys.KeyId.{KeyId}
 use Rattle.certificate.specs.declared.keys.KeyId.the-variants.{Key, Keyless, Misformed}
 use Rattle.certificate.specs.declared.shapes.Layout.{Layout}
@@ -50,11 +48,6 @@ unfoldable pub rule6 : List ℕ → Layout → Bool
 rule6 s l = not (l .unique)
 
 -- 7: times that are times, start not after end
-unfoldable pub inOrder : Time → Time → Bool
-inOrder Untimely other = false
-inOrder (Moment start) Untimely = false
-inOrder (Moment start) (Moment end) = leb start end
-
 unfoldable pub rule7 : List ℕ → Layout → Bool
 rule7 s l = inOrder (timeOf s (l .start)) (timeOf s (l .finish))
 

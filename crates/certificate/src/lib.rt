@@ -20,7 +20,7 @@ use shapes::Layout;
 use shapes::Shape;
 use shapes::layout_of;
 ghost use mathlib.Core.Path.{_≡_};
-ghost use Rattle.certificate.specs.Answer.{fieldsOf, profileOf, judgedOf};
+ghost use Rattle.certificate.specs.Answer.{keyAt, keyLength, fieldsOf, profileOf, judgedOf};
 
 // Start and end as YYYYMMDDHHMMSS, the issuer's letters, offset and length of issuer, subject and key with their
 // headers, and of the contents of the serial and the key identifiers, 0 and 0 where one is absent.
@@ -87,24 +87,48 @@ fn fields_of(item: &[u8], l: Layout) -> Fields
     ensures { λ r. ⌜ r ≡ fieldsOf (now (item .entry)) l ⌝ }
 {
     let extensions = l.extensions;
-    let subject_key = subject_key(item, extensions);
-    let authority_key = authority_key(item, extensions);
+    let own = subject_key(item, extensions);
+    let authority = authority_key(item, extensions);
+    let country = l.issuer_country;
+    let letters = letters_of(item, country);
+    let start = l.start;
+    let finish = l.finish;
     Fields {
-        start: 0,
-        end: 0,
-        first: 0,
-        second: 0,
-        issuer_at: 0,
-        issuer_len: 0,
-        subject_at: 0,
-        subject_len: 0,
-        key_at: 0,
-        key_len: 0,
-        serial_at: 0,
-        serial_len: 0,
-        subject_key_at: 0,
-        subject_key_len: 0,
-        authority_key_at: 0,
-        authority_key_len: 0,
+        start: moment(time_of(item, start)),
+        end: moment(time_of(item, finish)),
+        first: first_letter(letters),
+        second: second_letter(letters),
+        issuer_at: l.issuer.at,
+        issuer_len: between(l.issuer.at, l.issuer.end),
+        subject_at: l.subject.at,
+        subject_len: between(l.subject.at, l.subject.end),
+        key_at: l.key.at,
+        key_len: between(l.key.at, l.key.end),
+        serial_at: l.serial.contents,
+        serial_len: between(l.serial.contents, l.serial.end),
+        subject_key_at: key_at(own),
+        subject_key_len: key_length(own),
+        authority_key_at: key_at(authority),
+        authority_key_len: key_length(authority),
+    }
+}
+
+fn key_at(key: KeyId) -> usize
+    ensures { λ r. ⌜ r ≡ keyAt key ⌝ }
+{
+    match key {
+        KeyId::Key { at, end: _ } => at,
+        KeyId::Keyless => 0,
+        KeyId::Misformed => 0,
+    }
+}
+
+fn key_length(key: KeyId) -> usize
+    ensures { λ r. ⌜ r ≡ keyLength key ⌝ }
+{
+    match key {
+        KeyId::Key { at, end } => between(at, end),
+        KeyId::Keyless => 0,
+        KeyId::Misformed => 0,
     }
 }

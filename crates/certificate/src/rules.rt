@@ -164,18 +164,6 @@ fn times_in_order(item: &[u8], l: Layout) -> bool
     in_order(time_of(item, start), time_of(item, finish))
 }
 
-fn in_order(start: Time, end: Time) -> bool
-    ensures { λ r. ⌜ r ≡ inOrder start end ⌝ }
-{
-    let Time::Moment(a) = start else {
-        return false;
-    };
-    let Time::Moment(b) = end else {
-        return false;
-    };
-    a <= b
-}
-
 // 8: at least one extension, and no extension OID stands twice.
 fn extensions_once(item: &[u8], l: Layout) -> bool
     ensures { λ r. ⌜ r ≡ rule8 (now (item .entry)) l ⌝ }

@@ -3,7 +3,7 @@ use crate::elements::{Element, Found, contents, element_at, element_tagged};
 use crate::equality::same;
 ghost use mathlib.Core.Path.{_≡_};
 ghost use Rattle.fields.specs.Elements.{inside};
-ghost use Rattle.fields.specs.Names.{attributeOf, oneMore, oneSet, nameOf, isCapital, lettersOf};
+ghost use Rattle.fields.specs.Names.{attributeOf, oneMore, oneSet, nameOf, isCapital, lettersOf, firstLetter, secondLetter};
 
 // The value of a countryName, another attribute, or what is none.
 pub enum Attribute {
@@ -139,4 +139,22 @@ fn capital(o: u8) -> bool
         return false;
     }
     o <= 90
+}
+
+pub fn first_letter(letters: Letters) -> u8
+    ensures { λ r. ⌜ r ≡ firstLetter letters ⌝ }
+{
+    match letters {
+        Letters::Two { first, second: _ } => first,
+        Letters::Unfit => 0,
+    }
+}
+
+pub fn second_letter(letters: Letters) -> u8
+    ensures { λ r. ⌜ r ≡ secondLetter letters ⌝ }
+{
+    match letters {
+        Letters::Two { first: _, second } => second,
+        Letters::Unfit => 0,
+    }
 }

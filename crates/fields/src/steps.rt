@@ -2,6 +2,7 @@
 use crate::elements::{Element, Found, element_at, element_tagged};
 use crate::times::time_tag;
 ghost use mathlib.Core.Path.{_≡_};
+ghost use Prim.Native.Nat.{_-_};
 ghost use Rattle.fields.specs.Steps.{onlyOf, pastOf, timeAt};
 
 // The one member of an element, if it has the tag.
@@ -38,4 +39,14 @@ pub fn time_at(item: &[u8], from: usize, end: usize) -> Found
         return Found::One(e);
     }
     Found::Missing
+}
+
+// How many octets stand from one offset to another.
+pub fn between(at: usize, end: usize) -> usize
+    ensures { λ r. ⌜ r ≡ end - at ⌝ }
+{
+    if end < at {
+        return 0;
+    }
+    end - at
 }

@@ -2,7 +2,7 @@
 use calendar::any_moment;
 use crate::elements::{Element, contents};
 ghost use mathlib.Core.Path.{_≡_};
-ghost use Rattle.fields.specs.Times.{decimalOf, realTime, timeIn, timeOf, timeTag};
+ghost use Rattle.fields.specs.Times.{decimalOf, realTime, timeIn, timeOf, timeTag, momentOf, inOrder};
 ghost use Prim.Native.Nat.{_≤_};
 ghost use lib.ListN.{length};
 
@@ -104,4 +104,27 @@ fn decimal(c: &[u8]) -> Figures
         i += 1;
     }
     Figures::Number(n)
+}
+
+// The moment of a time, 0 of what is none.
+pub fn moment(time: Time) -> u64
+    ensures { λ r. ⌜ r ≡ momentOf time ⌝ }
+{
+    match time {
+        Time::Moment(moment) => moment,
+        Time::Untimely => 0,
+    }
+}
+
+// Two times that are times, the first not after the second.
+pub fn in_order(start: Time, end: Time) -> bool
+    ensures { λ r. ⌜ r ≡ inOrder start end ⌝ }
+{
+    let Time::Moment(a) = start else {
+        return false;
+    };
+    let Time::Moment(b) = end else {
+        return false;
+    };
+    a <= b
 }
