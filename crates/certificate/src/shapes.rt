@@ -12,7 +12,7 @@ use fields::only_member;
 use fields::past;
 use fields::time_at;
 ghost use mathlib.Core.Path.{_≡_};
-ghost use Rattle.certificate.specs.Shape.{validityOf, uniqueEnd, layoutOf};
+ghost use Rattle.certificate.specs.Shape.{frontOf, validityOf, uniqueEnd, backOf, layoutOf};
 
 // The parts that the other rules read; `unique` says that an 81 or 82 stands there.
 pub struct Layout {
@@ -41,48 +41,42 @@ pub enum Validity {
     Timeless,
 }
 
+// The first members of the tbs.
+pub enum Front {
+    Opens {
+        version: Element,
+        serial: Element,
+        inner: Element,
+        issuer: Element,
+        validity: Element,
+    },
+    Frontless,
+}
+
+// The last members of the tbs.
+pub enum Back {
+    Closes {
+        subject: Element,
+        key: Element,
+        unique: bool,
+        extensions: Element,
+    },
+    Backless,
+}
+
 pub(crate) fn layout_of(item: &[u8]) -> Shape
     ensures { λ r. ⌜ r ≡ layoutOf (now (item .entry)) ⌝ }
 {
     let Envelope::Parts { tbs, algorithm } = envelope_of(item) else {
         return Shape::Broken;
     };
-    let end = tbs.end;
-    let Found::One(explicit) = element_tagged(item, tbs.contents, end, 0xa0) else {
-        return Shape::Broken;
-    };
-    let Found::One(version) = only_member(item, explicit, 0x02) else {
-        return Shape::Broken;
-    };
-    let Found::One(serial) = element_tagged(item, explicit.end, end, 0x02) else {
-        return Shape::Broken;
-    };
-    let Found::One(inner) = element_tagged(item, serial.end, end, 0x30) else {
-        return Shape::Broken;
-    };
-    let Found::One(issuer) = element_tagged(item, inner.end, end, 0x30) else {
-        return Shape::Broken;
-    };
-    let Found::One(validity) = element_tagged(item, issuer.end, end, 0x30) else {
+    let Front::Opens { version, serial, inner, issuer, validity } = front_of(item, tbs) else {
         return Shape::Broken;
     };
     let Validity::Times { start, finish } = validity_of(item, validity) else {
         return Shape::Broken;
     };
-    let Found::One(subject) = element_tagged(item, validity.end, end, 0x30) else {
-        return Shape::Broken;
-    };
-    let Found::One(key) = element_tagged(item, subject.end, end, 0x30) else {
-        return Shape::Broken;
-    };
-    let after = unique_end(item, key.end, end);
-    let Found::One(last) = element_tagged(item, after, end, 0xa3) else {
-        return Shape::Broken;
-    };
-    if last.end != end {
-        return Shape::Broken;
-    }
-    let Found::One(extensions) = only_member(item, last, 0x30) else {
+    let Back::Closes { subject, key, unique, extensions } = back_of(item, validity.end, tbs.end) else {
         return Shape::Broken;
     };
     let Name::Holds(issuer_country) = name_of(item, issuer) else {
@@ -104,11 +98,60 @@ pub(crate) fn layout_of(item: &[u8]) -> Shape
         finish,
         subject,
         key,
-        unique: after != key.end,
+        unique,
         extensions,
         issuer_country,
         subject_country,
     })
+}
+
+// A0 around one INTEGER; INTEGER; algorithm; issuer; SEQUENCE of times.
+fn front_of(item: &[u8], tbs: Element) -> Front
+    ensures { λ r. ⌜ r ≡ frontOf (now (item .entry)) tbs ⌝ }
+{
+    let end = tbs.end;
+    let Found::One(explicit) = element_tagged(item, tbs.contents, end, 0xa0) else {
+        return Front::Frontless;
+    };
+    let Found::One(version) = only_member(item, explicit, 0x02) else {
+        return Front::Frontless;
+    };
+    let Found::One(serial) = element_tagged(item, explicit.end, end, 0x02) else {
+        return Front::Frontless;
+    };
+    let Found::One(inner) = element_tagged(item, serial.end, end, 0x30) else {
+        return Front::Frontless;
+    };
+    let Found::One(issuer) = element_tagged(item, inner.end, end, 0x30) else {
+        return Front::Frontless;
+    };
+    let Found::One(validity) = element_tagged(item, issuer.end, end, 0x30) else {
+        return Front::Frontless;
+    };
+    Front::Opens { version, serial, inner, issuer, validity }
+}
+
+// Subject; key; optional 81; optional 82; A3 around one SEQUENCE.
+fn back_of(item: &[u8], from: usize, end: usize) -> Back
+    ensures { λ r. ⌜ r ≡ backOf (now (item .entry)) from end ⌝ }
+{
+    let Found::One(subject) = element_tagged(item, from, end, 0x30) else {
+        return Back::Backless;
+    };
+    let Found::One(key) = element_tagged(item, subject.end, end, 0x30) else {
+        return Back::Backless;
+    };
+    let after = unique_end(item, key.end, end);
+    let Found::One(last) = element_tagged(item, after, end, 0xa3) else {
+        return Back::Backless;
+    };
+    if last.end != end {
+        return Back::Backless;
+    }
+    let Found::One(extensions) = only_member(item, last, 0x30) else {
+        return Back::Backless;
+    };
+    Back::Closes { subject, key, unique: after != key.end, extensions }
 }
 
 // A SEQUENCE of two times.

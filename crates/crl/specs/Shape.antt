@@ -19,6 +19,8 @@ use Rattle.fields.specs.Names.{nameOf}
 use Rattle.fields.specs.Steps.{onlyOf, timeAt}
 use Rattle.crl.specs.declared.entries.Survey.{Survey}
 use Rattle.crl.specs.declared.entries.Survey.the-variants as survey
+use Rattle.crl.specs.declared.shapes.Front.{Front}
+use Rattle.crl.specs.declared.shapes.Front.the-variants.{Opens, Frontless}
 use Rattle.crl.specs.declared.shapes.Layout.{Layout}
 use Rattle.crl.specs.declared.shapes.Listing.{Listing}
 use Rattle.crl.specs.declared.shapes.Shape.{Shape}
@@ -42,28 +44,37 @@ unfoldable pub onSurvey : Survey → (ℕ → Bool → Bool → Shape) → Shape
 onSurvey survey.Shapeless next = Broken
 onSurvey (survey.Entries count timely calm) next = next count timely calm
 
--- the parts from the entry list on
-unfoldable pub listedLayout : List ℕ → Element → Listing → (Element → ℕ → Bool → Bool → Shape) → Shape
-listedLayout s tbs l next =
-    onFound (foundTagged s (l .after) (tbs .end) 0xA0) Broken λ last.
-    cond (eqb (last .end) (tbs .end))
-    (onFound (onlyOf s last 0x30) Broken λ extensions.
-    cond (extensionsShaped s extensions)
-    (onSurvey (surveyOf s (l .from) (l .end)) λ count timely calm. next extensions count timely calm)
-    Broken)
-    Broken
+-- the first members of the tbs: INTEGER, algorithm, issuer, time, time
+unfoldable pub frontOf : List ℕ → Element → Front
+frontOf s tbs =
+    onFound (foundTagged s (tbs .contents) (tbs .end) 0x02) Frontless λ version.
+    onFound (foundTagged s (version .end) (tbs .end) 0x30) Frontless λ inner.
+    onFound (foundTagged s (inner .end) (tbs .end) 0x30) Frontless λ issuer.
+    onFound (timeAt s (issuer .end) (tbs .end)) Frontless λ current.
+    onFound (timeAt s (current .end) (tbs .end)) Frontless λ coming.
+    Opens version inner issuer current coming
 
+-- the last: A0 around one SEQUENCE of extensions
+unfoldable pub lastOf : List ℕ → ℕ → ℕ → Found
+lastOf s from end =
+    onFound (foundTagged s from end 0xA0) Missing λ last.
+    cond (eqb (last .end) end)
+    (onFound (onlyOf s last 0x30) Missing λ extensions. cond (extensionsShaped s extensions) (One extensions) Missing)
+    Missing
+
+unfoldable pub onFront : Front → (Element → Element → Element → Element → Element → Shape) → Shape
+onFront Frontless next = Broken
+onFront (Opens version inner issuer current coming) next = next version inner issuer current coming
+
+-- SEQUENCE of tbs, algorithm, BIT STRING; between the first members and the last an entry list may stand
 unfoldable pub layoutOf : List ℕ → Shape
 layoutOf s =
     onEnvelope (envelopeOf s) λ tbs outer.
-    onFound (foundTagged s (tbs .contents) (tbs .end) 0x02) Broken λ version.
-    onFound (foundTagged s (version .end) (tbs .end) 0x30) Broken λ inner.
-    onFound (foundTagged s (inner .end) (tbs .end) 0x30) Broken λ issuer.
-    onFound (timeAt s (issuer .end) (tbs .end)) Broken λ current.
-    onFound (timeAt s (current .end) (tbs .end)) Broken λ coming.
+    onFront (frontOf s tbs) λ version inner issuer current coming.
     onName (nameOf s issuer) λ country.
-    listedLayout s tbs (listingOf (coming .end) (foundTagged s (coming .end) (tbs .end) 0x30)) λ extensions count timely calm.
+    let listing = listingOf (coming .end) (foundTagged s (coming .end) (tbs .end) 0x30) in
+    onFound (lastOf s (listing .after) (tbs .end)) Broken λ extensions.
+    onSurvey (surveyOf s (listing .from) (listing .end)) λ count timely calm.
     Parts (record {
         version = version; inner = inner; outer = outer; issuer = issuer; country = country; current = current;
-        coming = coming; listing = listingOf (coming .end) (foundTagged s (coming .end) (tbs .end) 0x30);
-        extensions = extensions; count = count; timely = timely; calm = calm })
+        coming = coming; listing = listing; extensions = extensions; count = count; timely = timely; calm = calm })

@@ -4,7 +4,7 @@ use fields::{
     Element, Envelope, Found, Name, Seen, element_tagged, envelope_of, extensions_shaped, name_of, only_member, time_at,
 };
 ghost use mathlib.Core.Path.{_≡_};
-ghost use Rattle.crl.specs.Shape.{listingOf, layoutOf};
+ghost use Rattle.crl.specs.Shape.{frontOf, lastOf, listingOf, layoutOf};
 
 // Whether the entry list is there, where its contents start and end, and the offset after it.
 pub struct Listing {
@@ -35,6 +35,18 @@ pub enum Shape {
     Broken,
 }
 
+// The first members of the tbs.
+pub enum Front {
+    Opens {
+        version: Element,
+        inner: Element,
+        issuer: Element,
+        current: Element,
+        coming: Element,
+    },
+    Frontless,
+}
+
 pub(crate) fn layout_of(item: &[u8]) -> Shape
     ensures { λ r. ⌜ r ≡ layoutOf (now (item .entry)) ⌝ }
 {
@@ -42,37 +54,16 @@ pub(crate) fn layout_of(item: &[u8]) -> Shape
         return Shape::Broken;
     };
     let end = tbs.end;
-    let Found::One(version) = element_tagged(item, tbs.contents, end, 0x02) else {
-        return Shape::Broken;
-    };
-    let Found::One(inner) = element_tagged(item, version.end, end, 0x30) else {
-        return Shape::Broken;
-    };
-    let Found::One(issuer) = element_tagged(item, inner.end, end, 0x30) else {
-        return Shape::Broken;
-    };
-    let Found::One(current) = time_at(item, issuer.end, end) else {
-        return Shape::Broken;
-    };
-    let Found::One(coming) = time_at(item, current.end, end) else {
+    let Front::Opens { version, inner, issuer, current, coming } = front_of(item, tbs) else {
         return Shape::Broken;
     };
     let Name::Holds(country) = name_of(item, issuer) else {
         return Shape::Broken;
     };
     let listing = listing_of(coming.end, element_tagged(item, coming.end, end, 0x30));
-    let Found::One(last) = element_tagged(item, listing.after, end, 0xa0) else {
+    let Found::One(extensions) = last_of(item, listing.after, end) else {
         return Shape::Broken;
     };
-    if last.end != end {
-        return Shape::Broken;
-    }
-    let Found::One(extensions) = only_member(item, last, 0x30) else {
-        return Shape::Broken;
-    };
-    if !extensions_shaped(item, extensions) {
-        return Shape::Broken;
-    }
     let Survey::Entries { count, timely, calm } = survey_of(item, listing.from, listing.end) else {
         return Shape::Broken;
     };
@@ -90,6 +81,48 @@ pub(crate) fn layout_of(item: &[u8]) -> Shape
         timely,
         calm,
     })
+}
+
+// INTEGER, algorithm, issuer, time, time.
+fn front_of(item: &[u8], tbs: Element) -> Front
+    ensures { λ r. ⌜ r ≡ frontOf (now (item .entry)) tbs ⌝ }
+{
+    let end = tbs.end;
+    let Found::One(version) = element_tagged(item, tbs.contents, end, 0x02) else {
+        return Front::Frontless;
+    };
+    let Found::One(inner) = element_tagged(item, version.end, end, 0x30) else {
+        return Front::Frontless;
+    };
+    let Found::One(issuer) = element_tagged(item, inner.end, end, 0x30) else {
+        return Front::Frontless;
+    };
+    let Found::One(current) = time_at(item, issuer.end, end) else {
+        return Front::Frontless;
+    };
+    let Found::One(coming) = time_at(item, current.end, end) else {
+        return Front::Frontless;
+    };
+    Front::Opens { version, inner, issuer, current, coming }
+}
+
+// A0 around one SEQUENCE of extensions, which ends the tbs.
+fn last_of(item: &[u8], from: usize, end: usize) -> Found
+    ensures { λ r. ⌜ r ≡ lastOf (now (item .entry)) from end ⌝ }
+{
+    let Found::One(last) = element_tagged(item, from, end, 0xa0) else {
+        return Found::Missing;
+    };
+    if last.end != end {
+        return Found::Missing;
+    }
+    let Found::One(extensions) = only_member(item, last, 0x30) else {
+        return Found::Missing;
+    };
+    if extensions_shaped(item, extensions) {
+        return Found::One(extensions);
+    }
+    Found::Missing
 }
 
 // Where the entry list stands, if it is there.
