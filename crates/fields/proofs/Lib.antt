@@ -1,2 +1,4 @@
 pub mod Likeness
 pub mod Members
+pub mod Places
+pub mod Digits
