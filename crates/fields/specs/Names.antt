@@ -78,10 +78,10 @@ lettersOf s Never = Unfit
 lettersOf s Often = Unfit
 lettersOf s (Once value) = lettersIn (value .tag) (contentsOf s value)
 
-unfoldable pub firstLetter : Letters → ℕ
+abbrev pub firstLetter : Letters → ℕ
 firstLetter Unfit = 0
 firstLetter (Two a b) = a
 
-unfoldable pub secondLetter : Letters → ℕ
+abbrev pub secondLetter : Letters → ℕ
 secondLetter Unfit = 0
 secondLetter (Two a b) = b

@@ -50,12 +50,12 @@ timeOf s e = timeIn (e .tag) (contentsOf s e)
 unfoldable pub timeTag : ℕ → Bool
 timeTag tag = cond (eqb tag 0x17) true (eqb tag 0x18)
 
-unfoldable pub momentOf : Time → ℕ
+abbrev pub momentOf : Time → ℕ
 momentOf Untimely = 0
 momentOf (Moment moment) = moment
 
 -- two times that are times, the first not after the second
-unfoldable pub inOrder : Time → Time → Bool
+abbrev pub inOrder : Time → Time → Bool
 inOrder Untimely other = false
 inOrder (Moment start) Untimely = false
 inOrder (Moment start) (Moment end) = leb start end
