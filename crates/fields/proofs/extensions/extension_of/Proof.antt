@@ -1,10 +1,8 @@
 -- The elements are read in the order of the definition; where the BOOLEAN has no octet, the definition reads 0 there.
-use Prim.Native.Nat.{_≤_}
-use mathlib.Core.Path.{_≡_, sym, _∙_}
+use mathlib.Core.Path.{sym, _∙_}
 use borrow.Author.Needs.{needs}
 use borrow.Author.Tests.{eq-eqb, ne-eqb}
-use native.Mathlib.Omega.{arith}
-use lib.ListN.{getD, List·getD-eq-default}
+use lib.ListN.{List·getD-eq-default}
 use Rattle.fields.specs.Extensions.{extensionOf}
 use Rattle.fields.proofs.Members.{on-missing, on-found}
 use Rattle.fields.proofs.extensions.extension_of.Statement.{statement}

@@ -21,14 +21,14 @@ enum-told c = search needs
 
 returns : tie.Need-returns
 unfolding lookupOf inside
-returns c = place-none _ _ _ _ (@place-of .ensures) (sym (@element-at .ensures) ∙ @enum-told .given .1)
+returns c = place-none _ _ _ _ (c .before .before .before .place-of .ensures) (sym (c .before .before .element-at .ensures) ∙ c .enum-told .given .1)
 
 extension-of-requires : tie.Need-extension-of-requires
 extension-of-requires c κs = search needs
 
 returns-2 : tie.Need-returns-2
 unfolding lookupOf inside
-returns-2 c = @extension-of .ensures ∙ place-one _ _ _ _ (@place-of .ensures) (sym (@element-at .ensures) ∙ @e .given .1)
+returns-2 c = c .extension-of .ensures ∙ place-one _ _ _ _ (c .before .before .before .before .before .place-of .ensures) (sym (c .before .before .before .before .element-at .ensures) ∙ c .before .before .e .given .1)
 
 pub lookup-spec : {M : Type 1} → statement M
 lookup-spec =

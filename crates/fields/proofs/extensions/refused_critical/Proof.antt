@@ -19,11 +19,11 @@ returns c = rw (c .enum-told .given .1)
 
 returns-2 : tie.Need-returns-2
 unfolding refusedCritical usual
-returns-2 c = rw (c .before .before .extension .given .1, not-true (@extension .given .0 .1 .0) (c .if1 .taken))
+returns-2 c = rw (c .before .before .extension .given .1, not-true (c .before .before .extension .given .0 .1 .0) (c .if1 .taken))
 
 returns-3 : tie.Need-returns-3
 unfolding refusedCritical usual
-returns-3 c = rw (c .before .before .before .extension .given .1, not-false (@extension .given .0 .1 .0) (c .before .if1 .left), not-true (@args .allow) (c .if2 .taken))
+returns-3 c = rw (c .before .before .before .extension .given .1, not-false (c .before .before .before .extension .given .0 .1 .0) (c .before .if1 .left), not-true (c .before .before .before .before .before .before .args .allow) (c .if2 .taken))
 
 contents-requires : tie.Need-contents-requires
 contents-requires c κs = search needs
@@ -36,7 +36,7 @@ same-requires c κs = search needs
 
 returns-4 : tie.Need-returns-4
 unfolding refusedCritical usual
-returns-4 c = rw (c .before .before .before .before .before .before .before .extension .given .1, not-false (@extension .given .0 .1 .0) (c .before .before .before .before .before .if1 .left), not-false (@args .allow) (c .before .before .before .before .if2 .left), ← c .before .before .before .contents .ensures, sym (c .before .same .ensures) ∙ c .if3 .taken)
+returns-4 c = rw (c .before .before .before .before .before .before .before .extension .given .1, not-false (c .before .before .before .before .before .before .before .extension .given .0 .1 .0) (c .before .before .before .before .before .if1 .left), not-false (c .before .before .before .before .before .before .before .before .before .before .args .allow) (c .before .before .before .before .if2 .left), ← c .before .before .before .contents .ensures, sym (c .before .same .ensures) ∙ c .if3 .taken)
 
 slice-aggregate-same-2 : tie.Need-slice-aggregate-same-2
 slice-aggregate-same-2 c = search needs
@@ -46,7 +46,7 @@ same-requires-2 c κs = search needs
 
 returns-5 : tie.Need-returns-5
 unfolding refusedCritical usual
-returns-5 c = rw (c .before .before .before .before .before .before .before .before .before .extension .given .1, not-false (@extension .given .0 .1 .0) (c .before .before .before .before .before .before .before .if1 .left), not-false (@args .allow) (c .before .before .before .before .before .before .if2 .left), ← c .before .before .before .before .before .contents .ensures, sym (c .before .before .before .same .ensures) ∙ c .before .before .if3 .left) (ap not (c .same2 .ensures))
+returns-5 c = rw (c .before .before .before .before .before .before .before .before .before .extension .given .1, not-false (c .before .before .before .before .before .before .before .before .before .extension .given .0 .1 .0) (c .before .before .before .before .before .before .before .if1 .left), not-false (c .before .before .before .before .before .before .before .before .before .before .before .before .args .allow) (c .before .before .before .before .before .before .if2 .left), ← c .before .before .before .before .before .contents .ensures, sym (c .before .before .before .same .ensures) ∙ c .before .before .if3 .left) (ap not (c .same2 .ensures))
 
 pub refused-critical-spec : {M : Type 1} → statement M
 refused-critical-spec =
