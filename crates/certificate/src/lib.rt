@@ -5,10 +5,11 @@ mod shapes;
 
 use der::Walked;
 use der::walk;
-use fields::Letters;
-use fields::Seen;
-use fields::Time;
+use fields::between;
+use fields::first_letter;
 use fields::letters_of;
+use fields::moment;
+use fields::second_letter;
 use fields::time_of;
 use keys::KeyId;
 use keys::authority_key;
