@@ -16,8 +16,20 @@ use Rattle.fields.specs.Names.{lettersOf}
 use Rattle.fields.specs.Times.{timeOf, inOrder}
 use Rattle.certificate.specs.declared.keys.KeyId.{KeyId}
 use Rattle.certificate.specs.declared.keys.KeyId.the-variants.{Key, Keyless, Misformed}
+use Rattle.certificate.specs.declared.rules.Readings.{Readings}
 use Rattle.certificate.specs.declared.shapes.Layout.{Layout}
 use Rattle.certificate.specs.Keys.{subjectKey, authorityKey, documentTypes}
+
+-- what several rules and the answer read, each once: the two times, the letters, the key identifiers
+unfoldable pub readingsOf : List ℕ → Layout → Readings
+readingsOf s l =
+    record {
+        start = timeOf s (l .start);
+        finish = timeOf s (l .finish);
+        issuer = lettersOf s (l .«issuer_country»);
+        subject = lettersOf s (l .«subject_country»);
+        own = subjectKey s (l .extensions);
+        authority = authorityKey s (l .extensions) }
 
 -- 2: version number 2 (v3)
 unfoldable pub rule2 : List ℕ → Layout → Bool
@@ -40,16 +52,16 @@ sameTwo Unfit other = false
 sameTwo (Two a b) Unfit = false
 sameTwo (Two a b) (Two c d) = eqb a c && eqb b d
 
-unfoldable pub rule5 : List ℕ → Layout → Bool
-rule5 s l = sameTwo (lettersOf s (l .«issuer_country»)) (lettersOf s (l .«subject_country»))
+unfoldable pub rule5 : Readings → Bool
+rule5 r = sameTwo (r .issuer) (r .subject)
 
 -- 6: neither 81 nor 82 present
-unfoldable pub rule6 : List ℕ → Layout → Bool
-rule6 s l = not (l .unique)
+unfoldable pub rule6 : Layout → Bool
+rule6 l = not (l .unique)
 
 -- 7: times that are times, start not after end
-unfoldable pub rule7 : List ℕ → Layout → Bool
-rule7 s l = inOrder (timeOf s (l .start)) (timeOf s (l .finish))
+unfoldable pub rule7 : Readings → Bool
+rule7 r = inOrder (r .start) (r .finish)
 
 -- 8: at least one extension, and no extension OID stands twice
 unfoldable pub rule8 : List ℕ → Layout → Bool
@@ -89,9 +101,11 @@ keyGood wanted Misformed = false
 keyGood wanted Keyless = not wanted
 keyGood wanted (Key at end) = true
 
-unfoldable pub rule11 : List ℕ → Element → ℕ → Bool
-rule11 s extensions role =
-    keyGood (not (eqb role 3)) (subjectKey s extensions) && keyGood (not (eqb role 1)) (authorityKey s extensions)
+unfoldable pub bothKeys : KeyId → KeyId → ℕ → Bool
+bothKeys own authority role = keyGood (not (eqb role 3)) own && keyGood (not (eqb role 1)) authority
+
+unfoldable pub rule11 : Readings → ℕ → Bool
+rule11 r role = bothKeys (r .own) (r .authority) role
 
 -- 12: 2.5.29.16, .17, .18 and .31 present, not critical
 unfoldable pub plain : Extension → Bool
@@ -114,8 +128,8 @@ unfoldable pub rule14 : List ℕ → Element → Bool
 rule14 s extensions = not (criticalOf s extensions true)
 
 -- rules 2 to 8, and rules 9 to 14
-unfoldable pub rules2to8 : List ℕ → Layout → List Bool
-rules2to8 s l = rule2 s l ∷ rule3 s l ∷ rule4 s l ∷ rule5 s l ∷ rule6 s l ∷ rule7 s l ∷ rule8 s l ∷ []
+unfoldable pub rules2to8 : List ℕ → Layout → Readings → List Bool
+rules2to8 s l r = rule2 s l ∷ rule3 s l ∷ rule4 s l ∷ rule5 r ∷ rule6 l ∷ rule7 r ∷ rule8 s l ∷ []
 
-unfoldable pub rules9to14 : List ℕ → Element → ℕ → List Bool
-rules9to14 s x role = rule9 s x role ∷ rule10 s x role ∷ rule11 s x role ∷ rule12 s x ∷ rule13 s x role ∷ rule14 s x ∷ []
+unfoldable pub rules9to14 : List ℕ → Element → Readings → ℕ → List Bool
+rules9to14 s x r role = rule9 s x role ∷ rule10 s x role ∷ rule11 r role ∷ rule12 s x ∷ rule13 s x role ∷ rule14 s x ∷ []

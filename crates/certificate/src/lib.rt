@@ -7,14 +7,12 @@ use der::Walked;
 use der::walk;
 use fields::between;
 use fields::first_letter;
-use fields::letters_of;
 use fields::moment;
 use fields::second_letter;
-use fields::time_of;
 use keys::KeyId;
-use keys::authority_key;
-use keys::subject_key;
 use refusal::Refusal;
+use rules::Readings;
+use rules::readings_of;
 use rules::rules_2_to_8;
 use rules::rules_9_to_14;
 use shapes::Layout;
@@ -72,33 +70,27 @@ fn profile(item: &[u8], role: u64) -> Judged
     let Shape::Parts(l) = layout_of(item) else {
         return Judged::Refused(Refusal::Profile { rule: 1 });
     };
-    let early = rules_2_to_8(item, l);
+    let r = readings_of(item, l);
+    let early = rules_2_to_8(item, l, r);
     if early != 0 {
         return Judged::Refused(Refusal::Profile { rule: early });
     }
     let extensions = l.extensions;
-    let late = rules_9_to_14(item, extensions, role);
+    let late = rules_9_to_14(item, extensions, r, role);
     if late != 0 {
         return Judged::Refused(Refusal::Profile { rule: late });
     }
-    Judged::Passed(fields_of(item, l))
+    Judged::Passed(fields_of(l, r))
 }
 
-fn fields_of(item: &[u8], l: Layout) -> Fields
-    ensures { λ r. ⌜ r ≡ fieldsOf (now (item .entry)) l ⌝ }
+fn fields_of(l: Layout, r: Readings) -> Fields
+    ensures { λ f. ⌜ f ≡ fieldsOf l r ⌝ }
 {
-    let extensions = l.extensions;
-    let own = subject_key(item, extensions);
-    let authority = authority_key(item, extensions);
-    let country = l.issuer_country;
-    let letters = letters_of(item, country);
-    let start = l.start;
-    let finish = l.finish;
     Fields {
-        start: moment(time_of(item, start)),
-        end: moment(time_of(item, finish)),
-        first: first_letter(letters),
-        second: second_letter(letters),
+        start: moment(r.start),
+        end: moment(r.finish),
+        first: first_letter(r.issuer),
+        second: second_letter(r.issuer),
         issuer_at: l.issuer.at,
         issuer_len: between(l.issuer.at, l.issuer.end),
         subject_at: l.subject.at,
@@ -107,10 +99,10 @@ fn fields_of(item: &[u8], l: Layout) -> Fields
         key_len: between(l.key.at, l.key.end),
         serial_at: l.serial.contents,
         serial_len: between(l.serial.contents, l.serial.end),
-        subject_key_at: key_at(own),
-        subject_key_len: key_length(own),
-        authority_key_at: key_at(authority),
-        authority_key_len: key_length(authority),
+        subject_key_at: key_at(r.own),
+        subject_key_len: key_length(r.own),
+        authority_key_at: key_at(r.authority),
+        authority_key_len: key_length(r.authority),
     }
 }
 

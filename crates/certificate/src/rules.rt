@@ -8,6 +8,7 @@ use fields::Element;
 use fields::Extension;
 use fields::Found;
 use fields::Letters;
+use fields::Time;
 use fields::contents;
 use fields::doubled;
 use fields::element_at;
@@ -20,32 +21,45 @@ use fields::time_of;
 use fields::whole;
 ghost use mathlib.Core.Path.{_≡_};
 ghost use Rattle.fields.specs.Rules.{firstBroken};
-ghost use Rattle.certificate.specs.Rules.{
-  rule2,
-  rule3,
-  rule4,
-  rule5,
-  rule6,
-  rule7,
-  rule8,
-  rule9,
-  rule10,
-  rule11,
-  rule12,
-  rule13,
-  rule14,
-  sameTwo,
-  inOrder,
-  criticalWith,
-  keyGood,
-  plain,
-  rules2to8,
-  rules9to14,
-};
+ghost use Rattle.certificate.specs.Rules.{bothKeys, criticalWith, keyGood, plain, readingsOf, rule2, rule3, rule4, rule8, rule9, rule10, rule12, rule13, rules2to8, rules9to14, sameTwo};
+
+// What several rules and the answer read, each once.
+pub struct Readings {
+    pub start: Time,
+    pub finish: Time,
+    pub issuer: Letters,
+    pub subject: Letters,
+    pub own: KeyId,
+    pub authority: KeyId,
+}
+
+pub(crate) fn readings_of(item: &[u8], l: Layout) -> Readings
+    ensures { λ r. ⌜ r ≡ readingsOf (now (item .entry)) l ⌝ }
+{
+    let first = l.start;
+    let last = l.finish;
+    let issuer_country = l.issuer_country;
+    let subject_country = l.subject_country;
+    let extensions = l.extensions;
+    let start = time_of(item, first);
+    let finish = time_of(item, last);
+    let issuer = letters_of(item, issuer_country);
+    let subject = letters_of(item, subject_country);
+    let own = subject_key(item, extensions);
+    let authority = authority_key(item, extensions);
+    Readings {
+        start,
+        finish,
+        issuer,
+        subject,
+        own,
+        authority,
+    }
+}
 
 // The first of rules 2 to 8 that is broken, else 0.
-pub(crate) fn rules_2_to_8(item: &[u8], l: Layout) -> u64
-    ensures { λ r. ⌜ r ≡ firstBroken 2 (rules2to8 (now (item .entry)) l) ⌝ }
+pub(crate) fn rules_2_to_8(item: &[u8], l: Layout, r: Readings) -> u64
+    ensures { λ rule. ⌜ rule ≡ firstBroken 2 (rules2to8 (now (item .entry)) l r) ⌝ }
 {
     if !version_good(item, l) {
         return 2;
@@ -56,13 +70,13 @@ pub(crate) fn rules_2_to_8(item: &[u8], l: Layout) -> u64
     if !algorithms_same(item, l) {
         return 4;
     }
-    if !countries_same(item, l) {
+    if !same_two(r.issuer, r.subject) {
         return 5;
     }
     if l.unique {
         return 6;
     }
-    if !times_in_order(item, l) {
+    if !in_order(r.start, r.finish) {
         return 7;
     }
     if !extensions_once(item, l) {
@@ -72,8 +86,8 @@ pub(crate) fn rules_2_to_8(item: &[u8], l: Layout) -> u64
 }
 
 // The first of rules 9 to 14 that is broken, else 0.
-pub(crate) fn rules_9_to_14(item: &[u8], extensions: Element, role: u64) -> u64
-    ensures { λ r. ⌜ r ≡ firstBroken 9 (rules9to14 (now (item .entry)) extensions role) ⌝ }
+pub(crate) fn rules_9_to_14(item: &[u8], extensions: Element, r: Readings, role: u64) -> u64
+    ensures { λ rule. ⌜ rule ≡ firstBroken 9 (rules9to14 (now (item .entry)) extensions r role) ⌝ }
 {
     if !usage_good(item, extensions, role) {
         return 9;
@@ -81,7 +95,7 @@ pub(crate) fn rules_9_to_14(item: &[u8], extensions: Element, role: u64) -> u64
     if !constraints_good(item, extensions, role) {
         return 10;
     }
-    if !keys_good(item, extensions, role) {
+    if !keys_good(r.own, r.authority, role) {
         return 11;
     }
     if !four_plain(item, extensions) {
@@ -132,14 +146,6 @@ fn algorithms_same(item: &[u8], l: Layout) -> bool
 }
 
 // 5: the same two letters in issuer and subject.
-fn countries_same(item: &[u8], l: Layout) -> bool
-    ensures { λ r. ⌜ r ≡ rule5 (now (item .entry)) l ⌝ }
-{
-    let issuer = l.issuer_country;
-    let subject = l.subject_country;
-    same_two(letters_of(item, issuer), letters_of(item, subject))
-}
-
 fn same_two(one: Letters, other: Letters) -> bool
     ensures { λ r. ⌜ r ≡ sameTwo one other ⌝ }
 {
@@ -153,15 +159,6 @@ fn same_two(one: Letters, other: Letters) -> bool
         return false;
     }
     b == d
-}
-
-// 7: times that are times, start not after end.
-fn times_in_order(item: &[u8], l: Layout) -> bool
-    ensures { λ r. ⌜ r ≡ rule7 (now (item .entry)) l ⌝ }
-{
-    let start = l.start;
-    let finish = l.finish;
-    in_order(time_of(item, start), time_of(item, finish))
 }
 
 // 8: at least one extension, and no extension OID stands twice.
@@ -214,13 +211,13 @@ fn critical_with(item: &[u8], octets: &[u8], extension: Extension) -> bool
 }
 
 // 11: the subject's key identifier in anchor and link, the authority's in link and document signer.
-fn keys_good(item: &[u8], extensions: Element, role: u64) -> bool
-    ensures { λ r. ⌜ r ≡ rule11 (now (item .entry)) extensions role ⌝ }
+fn keys_good(own: KeyId, authority: KeyId, role: u64) -> bool
+    ensures { λ r. ⌜ r ≡ bothKeys own authority role ⌝ }
 {
-    if !key_good(role != 3, subject_key(item, extensions)) {
+    if !key_good(role != 3, own) {
         return false;
     }
-    key_good(role != 1, authority_key(item, extensions))
+    key_good(role != 1, authority)
 }
 
 fn key_good(wanted: bool, key: KeyId) -> bool

@@ -8,26 +8,27 @@ use Rattle.der.specs.declared.walking.Walked.{Walked}
 use Rattle.der.specs.declared.walking.Walked.the-variants as walked
 use Rattle.der.specs.Forms.{paper}
 use Rattle.der.specs.Walk.{walkOf}
-use Rattle.fields.specs.Names.{lettersOf, firstLetter, secondLetter}
+use Rattle.fields.specs.Names.{firstLetter, secondLetter}
 use Rattle.fields.specs.Rules.{firstBroken}
-use Rattle.fields.specs.Times.{timeOf, momentOf}
+use Rattle.fields.specs.Times.{momentOf}
+use Rattle.crl.specs.declared.rules.Readings.{Readings}
 use Rattle.crl.specs.declared.shapes.Layout.{Layout}
 use Rattle.crl.specs.declared.shapes.Shape.{Shape}
 use Rattle.crl.specs.declared.shapes.Shape.the-variants.{Parts, Broken}
 use Rattle.crl.specs.declared.Fields.{Fields}
 use Rattle.crl.specs.declared.Judged.{Judged}
 use Rattle.crl.specs.declared.Judged.the-variants.{Passed, Refused}
-use Rattle.crl.specs.Rules.{rules2to8}
+use Rattle.crl.specs.Rules.{readingsOf, rules2to8}
 use Rattle.crl.specs.Shape.{layoutOf}
 
 -- the two times, letters, number of entries, offset and length of the whole issuer; where the entries stand
-unfoldable pub fieldsOf : List ℕ → Layout → Fields
-fieldsOf s l =
+unfoldable pub fieldsOf : Layout → Readings → Fields
+fieldsOf l r =
     record {
-        «this_update» = momentOf (timeOf s (l .current));
-        «next_update» = momentOf (timeOf s (l .coming));
-        first = firstLetter (lettersOf s (l .country));
-        second = secondLetter (lettersOf s (l .country));
+        «this_update» = momentOf (r .current);
+        «next_update» = momentOf (r .coming);
+        first = firstLetter (r .country);
+        second = secondLetter (r .country);
         entries = l .count;
         «issuer_at» = l .issuer .at;
         «issuer_len» = l .issuer .end - l .issuer .at;
@@ -47,7 +48,8 @@ onWalk (walked.Passed count) next = next
 
 -- rules 1 to 8 of a walked item
 unfoldable pub profileOf : List ℕ → Judged
-profileOf s = onShape (layoutOf s) λ l. graded (firstBroken 2 (rules2to8 s l)) (fieldsOf s l)
+profileOf s =
+    onShape (layoutOf s) λ l. graded (firstBroken 2 (rules2to8 s l (readingsOf s l))) (fieldsOf l (readingsOf s l))
 
 unfoldable pub judgedOf : List ℕ → Judged
 judgedOf s = onWalk (walkOf paper s) (profileOf s)

@@ -12,7 +12,13 @@ use Rattle.fields.specs.Elements.{wholeOf, contentsOf}
 use Rattle.fields.specs.Extensions.{lookupOf, present, doubledOf, criticalOf}
 use Rattle.fields.specs.Names.{lettersOf}
 use Rattle.fields.specs.Times.{timeOf, inOrder}
+use Rattle.crl.specs.declared.rules.Readings.{Readings}
 use Rattle.crl.specs.declared.shapes.Layout.{Layout}
+
+-- what several rules and the answer read, each once: the two times and the letters
+unfoldable pub readingsOf : List ℕ → Layout → Readings
+readingsOf s l =
+    record { current = timeOf s (l .current); coming = timeOf s (l .coming); country = lettersOf s (l .country) }
 
 -- 2: version number 1 (v2)
 unfoldable pub rule2 : List ℕ → Layout → Bool
@@ -27,16 +33,16 @@ unfoldable pub twoLetters : Letters → Bool
 twoLetters Unfit = false
 twoLetters (Two a b) = true
 
-unfoldable pub rule4 : List ℕ → Layout → Bool
-rule4 s l = twoLetters (lettersOf s (l .country))
+unfoldable pub rule4 : Readings → Bool
+rule4 r = twoLetters (r .country)
 
 -- 5: all times as they should be; this update not after next update
-unfoldable pub rule5 : List ℕ → Layout → Bool
-rule5 s l = inOrder (timeOf s (l .current)) (timeOf s (l .coming)) && l .timely
+unfoldable pub rule5 : Layout → Readings → Bool
+rule5 l r = inOrder (r .current) (r .coming) && l .timely
 
 -- 6: the entry list, if there, is not empty
-unfoldable pub rule6 : List ℕ → Layout → Bool
-rule6 s l = not (l .listing .there && eqb (l .count) 0)
+unfoldable pub rule6 : Layout → Bool
+rule6 l = not (l .listing .there && eqb (l .count) 0)
 
 -- 7: no OID twice, authorityKeyIdentifier (2.5.29.35) and cRLNumber (2.5.29.20) there
 unfoldable pub rule7 : List ℕ → Layout → Bool
@@ -49,5 +55,5 @@ rule7 s l =
 unfoldable pub rule8 : List ℕ → Layout → Bool
 rule8 s l = not (criticalOf s (l .extensions) false) && l .calm
 
-unfoldable pub rules2to8 : List ℕ → Layout → List Bool
-rules2to8 s l = rule2 s l ∷ rule3 s l ∷ rule4 s l ∷ rule5 s l ∷ rule6 s l ∷ rule7 s l ∷ rule8 s l ∷ []
+unfoldable pub rules2to8 : List ℕ → Layout → Readings → List Bool
+rules2to8 s l r = rule2 s l ∷ rule3 s l ∷ rule4 r ∷ rule5 l r ∷ rule6 l ∷ rule7 s l ∷ rule8 s l ∷ []

@@ -6,9 +6,9 @@ mod shapes;
 
 use calendar::{Difference, day_difference, real_day};
 use der::{Walked, walk};
-use fields::{between, first_letter, letters_of, moment, second_letter, time_of};
+use fields::{between, first_letter, moment, second_letter};
 use refusal::Refusal;
-use rules::rules_2_to_8;
+use rules::{Readings, readings_of, rules_2_to_8};
 use shapes::{Layout, Shape, layout_of};
 ghost use mathlib.Core.Path.{_≡_};
 ghost use Rattle.crl.specs.Age.{ageOf};
@@ -51,25 +51,22 @@ fn profile(item: &[u8]) -> Judged
     let Shape::Parts(l) = layout_of(item) else {
         return Judged::Refused(Refusal::Profile { rule: 1 });
     };
-    let rule = rules_2_to_8(item, l);
+    let r = readings_of(item, l);
+    let rule = rules_2_to_8(item, l, r);
     if rule != 0 {
         return Judged::Refused(Refusal::Profile { rule });
     }
-    Judged::Passed(fields_of(item, l))
+    Judged::Passed(fields_of(l, r))
 }
 
-fn fields_of(item: &[u8], l: Layout) -> Fields
-    ensures { λ r. ⌜ r ≡ fieldsOf (now (item .entry)) l ⌝ }
+fn fields_of(l: Layout, r: Readings) -> Fields
+    ensures { λ f. ⌜ f ≡ fieldsOf l r ⌝ }
 {
-    let current = l.current;
-    let coming = l.coming;
-    let country = l.country;
-    let letters = letters_of(item, country);
     Fields {
-        this_update: moment(time_of(item, current)),
-        next_update: moment(time_of(item, coming)),
-        first: first_letter(letters),
-        second: second_letter(letters),
+        this_update: moment(r.current),
+        next_update: moment(r.coming),
+        first: first_letter(r.country),
+        second: second_letter(r.country),
         entries: l.count,
         issuer_at: l.issuer.at,
         issuer_len: between(l.issuer.at, l.issuer.end),

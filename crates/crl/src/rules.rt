@@ -1,15 +1,33 @@
 // Rules 2 to 8 of the CRL profile, each told by its number where it is the first that is broken.
 use crate::shapes::Layout;
-use fields::{Extension, Letters, contents, doubled, in_order, letters_of, lookup, same, some_critical, time_of, whole};
+use fields::{Extension, Letters, Time, contents, doubled, in_order, letters_of, lookup, same, some_critical, time_of, whole};
 ghost use mathlib.Core.Path.{_≡_};
-ghost use mathlib.Core.List.{[]};
 ghost use Rattle.fields.specs.Extensions.{present};
 ghost use Rattle.fields.specs.Rules.{firstBroken};
-ghost use Rattle.crl.specs.Rules.{rule2, rule3, rule4, rule5, rule6, rule7, rule8, rules2to8};
+ghost use Rattle.crl.specs.Rules.{readingsOf, rule2, rule3, rule4, rule5, rule6, rule7, rule8, rules2to8};
+
+// What several rules and the answer read, each once.
+pub struct Readings {
+    pub current: Time,
+    pub coming: Time,
+    pub country: Letters,
+}
+
+pub(crate) fn readings_of(item: &[u8], l: Layout) -> Readings
+    ensures { λ r. ⌜ r ≡ readingsOf (now (item .entry)) l ⌝ }
+{
+    let this = l.current;
+    let next = l.coming;
+    let seen = l.country;
+    let current = time_of(item, this);
+    let coming = time_of(item, next);
+    let country = letters_of(item, seen);
+    Readings { current, coming, country }
+}
 
 // The first of rules 2 to 8 that is broken, else 0.
-pub(crate) fn rules_2_to_8(item: &[u8], l: Layout) -> u64
-    ensures { λ r. ⌜ r ≡ firstBroken 2 (rules2to8 (now (item .entry)) l) ⌝ }
+pub(crate) fn rules_2_to_8(item: &[u8], l: Layout, r: Readings) -> u64
+    ensures { λ rule. ⌜ rule ≡ firstBroken 2 (rules2to8 (now (item .entry)) l r) ⌝ }
 {
     if !version_good(item, l) {
         return 2;
@@ -17,10 +35,10 @@ pub(crate) fn rules_2_to_8(item: &[u8], l: Layout) -> u64
     if !algorithms_same(item, l) {
         return 3;
     }
-    if !country_good(item, l) {
+    if !country_good(r) {
         return 4;
     }
-    if !times_good(item, l) {
+    if !times_good(l, r) {
         return 5;
     }
     if !list_filled(l) {
@@ -53,23 +71,21 @@ fn algorithms_same(item: &[u8], l: Layout) -> bool
 }
 
 // 4: the issuer's country, once and as two letters.
-fn country_good(item: &[u8], l: Layout) -> bool
-    ensures { λ r. ⌜ r ≡ rule4 (now (item .entry)) l ⌝ }
+fn country_good(r: Readings) -> bool
+    ensures { λ good. ⌜ good ≡ rule4 r ⌝ }
 {
-    let country = l.country;
-    match letters_of(item, country) {
+    let country = r.country;
+    match country {
         Letters::Two { first: _, second: _ } => true,
         Letters::Unfit => false,
     }
 }
 
 // 5: all times are times, this update not after next update.
-fn times_good(item: &[u8], l: Layout) -> bool
-    ensures { λ r. ⌜ r ≡ rule5 (now (item .entry)) l ⌝ }
+fn times_good(l: Layout, r: Readings) -> bool
+    ensures { λ good. ⌜ good ≡ rule5 l r ⌝ }
 {
-    let current = l.current;
-    let coming = l.coming;
-    if !in_order(time_of(item, current), time_of(item, coming)) {
+    if !in_order(r.current, r.coming) {
         return false;
     }
     l.timely
@@ -77,7 +93,7 @@ fn times_good(item: &[u8], l: Layout) -> bool
 
 // 6: the entry list, if there, is not empty.
 fn list_filled(l: Layout) -> bool
-    ensures { λ r. ⌜ r ≡ rule6 [] l ⌝ }
+    ensures { λ r. ⌜ r ≡ rule6 l ⌝ }
 {
     if !l.listing.there {
         return true;
