@@ -2,3 +2,4 @@ pub mod Likeness
 pub mod Members
 pub mod Places
 pub mod Digits
+pub mod Sets

@@ -2,7 +2,6 @@
 use crate::elements::{Element, Found, contents, element_at, element_tagged};
 use crate::equality::same;
 ghost use mathlib.Core.Path.{_≡_};
-ghost use Rattle.fields.specs.Elements.{inside};
 ghost use Rattle.fields.specs.Names.{attributeOf, oneMore, oneSet, nameOf, isCapital, lettersOf};
 
 // The value of a countryName, another attribute, or what is none.
@@ -59,21 +58,21 @@ fn set_of(item: &[u8], e: Element, before: Seen) -> Name
     if e.tag != 0x31 {
         return Name::Shapeless;
     }
-    let Found::One(_) = element_at(item, e.contents, e.end) else {
+    let Found::One(first) = element_at(item, e.contents, e.end) else {
         return Name::Shapeless;
     };
     let mut seen = before;
-    let mut at = e.contents;
+    let mut attribute = first;
     loop {
-        let Found::One(attribute) = element_at(item, at, e.end) else {
-            return Name::Holds(seen);
-        };
         match attribute_of(item, attribute) {
             Attribute::Misshapen => return Name::Shapeless,
             Attribute::Other => {}
             Attribute::Country(value) => seen = one_more(seen, value),
         }
-        at = attribute.end;
+        let Found::One(next) = element_at(item, attribute.end, e.end) else {
+            return Name::Holds(seen);
+        };
+        attribute = next;
     }
 }
 
