@@ -4,7 +4,7 @@ use mathlib.Core.Path.{_≡_, refl, ap, subst}
 use mathlib.Core.List.{List, [], _∷_}
 use Prim.Native.Nat.{ℕ, zero, suc, _+_, _-_, _≤_}
 use native.Mathlib.Omega.{arith}
-use borrow.Author.Tests.{leb-true}
+use borrow.Author.Tests.{leb-true, eq-eqb, ne-eqb}
 use lib.Dec.{leb}
 use lib.ListN.{length, take, drop, length-drop}
 use lib.Seq.{length-take-le}
@@ -18,7 +18,7 @@ use Rattle.der.proofs.Bounds.{cond-by, heading-within}
 use Rattle.fields.specs.declared.elements.Element.{Element}
 use Rattle.fields.specs.declared.elements.Found.{Found}
 use Rattle.fields.specs.declared.elements.Found.the-variants.{One, Missing}
-use Rattle.fields.specs.Elements.{stepped, foundAt, onFound, membersIn, membersOf}
+use Rattle.fields.specs.Elements.{stepped, foundAt, withTag, onFound, membersIn, membersOf}
 
 -- what is said of a missing element, and of one that is found
 module _ {A : Type 0} {f : Found} where
@@ -29,6 +29,21 @@ module _ {A : Type 0} {f : Found} where
   pub on-found : (missing : A) (next : Element → A) {e : Element} {r : A} → f ≡ One e → r ≡ next e → r ≡ onFound f missing next
   unfolding onFound
   on-found missing next h g = rw h g
+
+-- an element that has the tag is kept, and no other
+module _ {f : Found} (tag : ℕ) where
+  pub tag-missing : f ≡ Missing → withTag tag f ≡ Missing
+  unfolding withTag
+  tag-missing h = rw h
+
+  module _ {e : Element} (h : f ≡ One e) where
+    pub tag-kept : e .tag ≡ tag → withTag tag f ≡ One e
+    unfolding withTag
+    tag-kept g = rw (h, eq-eqb _ _ g)
+
+    pub tag-other : (e .tag ≡ tag → ⊥) → withTag tag f ≡ Missing
+    unfolding withTag
+    tag-other g = rw (h, ne-eqb _ _ g)
 
 abbrev Within : List ℕ → ℕ → ℕ → Element → Type 0
 Within s from end e =

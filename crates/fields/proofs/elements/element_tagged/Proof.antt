@@ -1,8 +1,8 @@
 -- The element that is found is kept if its tag is the one asked for.
 use mathlib.Core.Path.{sym, _∙_}
 use borrow.Author.Needs.{needs}
-use borrow.Author.Tests.{eq-eqb, ne-eqb}
-use Rattle.fields.specs.Elements.{withTag, foundTagged}
+use Rattle.fields.specs.Elements.{foundTagged}
+use Rattle.fields.proofs.Members.{tag-missing, tag-kept, tag-other}
 use Rattle.fields.proofs.elements.element_tagged.Statement.{statement}
 use Rattle.fields.proofs.elements.element_tagged.Tie as tie
 
@@ -16,16 +16,16 @@ enum-told : tie.Need-enum-told
 enum-told c = search needs
 
 returns : tie.Need-returns
-unfolding foundTagged withTag
-returns c = rw (sym (c .before .before .element-at .ensures) ∙ c .enum-told .given .1)
+unfolding foundTagged
+returns c = sym (tag-missing _ (sym (c .before .before .element-at .ensures) ∙ c .enum-told .given .1))
 
 returns-2 : tie.Need-returns-2
-unfolding foundTagged withTag
-returns-2 c = simp (sym (c .before .before .before .before .before .element-at .ensures) ∙ c .before .before .before .e .given .1, eq-eqb _ _ (c .if1 .taken))
+unfolding foundTagged
+returns-2 c = sym (tag-kept _ (sym (c .before .before .before .before .before .element-at .ensures) ∙ c .before .before .before .e .given .1) (c .if1 .taken))
 
 returns-3 : tie.Need-returns-3
-unfolding foundTagged withTag
-returns-3 c = simp (sym (c .before .before .before .before .before .element-at .ensures) ∙ c .before .before .before .e .given .1, ne-eqb _ _ (c .if1 .left))
+unfolding foundTagged
+returns-3 c = sym (tag-other _ (sym (c .before .before .before .before .before .element-at .ensures) ∙ c .before .before .before .e .given .1) (c .if1 .left))
 
 pub element-tagged-spec : {M : Type 1} → statement M
 element-tagged-spec =
