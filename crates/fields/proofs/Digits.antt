@@ -1,8 +1,8 @@
 -- The number that some digits write, one digit after the other, and its bound by their count.
-use Prim.Native.Nat.{ℕ, zero, suc, _+_, _*_, _-_, _^_, _<_, _≤_}
+use Prim.Native.Nat.{ℕ, suc, _+_, _*_, _-_, _^_, _<_, _≤_}
 use mathlib.Core.Bool.{Bool, true, false, cond, _&&_}
 use mathlib.Core.List.{List, [], _∷_}
-use mathlib.Core.Path.{_≡_, refl, sym, _∙_}
+use mathlib.Core.Path.{_≡_, refl}
 use native.Mathlib.Nat.{pow-suc, pow-le-pow-right, zero-add}
 use native.Mathlib.Numerals.{add-one}
 use native.Mathlib.Omega.{arith}
@@ -40,7 +40,7 @@ pub below-fourteen : (n i : ℕ) → i ≤ 14 → n < 10 ^ i → n < 10000000000
 below-fourteen n i few h = let power : 10 ^ i ≤ 10 ^ 14 = pow-le-pow-right (omega arith) few in omega arith
 
 -- a number that digits write is below 10 to the power of their count
-pub figures-below : (c : List ℕ) (i n m : ℕ) → n < 10 ^ i → figures n c ≡ Number m → m < 10 ^ (i + length c)
+figures-below : (c : List ℕ) (i n m : ℕ) → n < 10 ^ i → figures n c ≡ Number m → m < 10 ^ (i + length c)
 unfolding figures
 figures-below [] i n m h e = let same : m ≡ n = cc in let power : i + 0 ≡ i = omega arith in rw (same, power) h
 figures-below (o ∷ c) i n m h e = go (leb 48 o) (leb o 57) refl (λ high. figures-below c (i + 1) (n * 10 + (o - 48)) m (more-below n o i h high)) e

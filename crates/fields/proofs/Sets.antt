@@ -1,19 +1,16 @@
 -- The attributes of a SET and the SETs of a name, one by one as they are found.
 use Prim.Native.Nat.{ℕ}
-use mathlib.Core.Bool.{cond}
-use mathlib.Core.List.{List, [], _∷_}
-use mathlib.Core.Path.{_≡_, refl, sym, _∙_}
+use mathlib.Core.List.{List, _∷_}
+use mathlib.Core.Path.{_≡_}
 use borrow.Author.Tests.{eq-eqb, ne-eqb}
 use lib.Dec.{eqb·suc-zero}
-use lib.ListN.{length}
 use Rattle.fields.specs.declared.elements.Element.{Element}
 use Rattle.fields.specs.declared.elements.Found.the-variants.{One, Missing}
 use Rattle.fields.specs.declared.names.Attribute.the-variants.{Country, Other, Misshapen}
 use Rattle.fields.specs.declared.names.Seen.{Seen}
-use Rattle.fields.specs.declared.names.Seen.the-variants.{Never}
 use Rattle.fields.specs.declared.names.Name.the-variants.{Holds, Shapeless}
 use Rattle.fields.specs.Elements.{foundAt, membersOf, inside}
-use Rattle.fields.specs.Names.{attributeOf, oneMore, attributed, attributesOf, oneSet, afterSet, setsOf, nameOf}
+use Rattle.fields.specs.Names.{attributeOf, oneMore, attributed, attributesOf, oneSet, afterSet, setsOf}
 use Rattle.fields.proofs.Members.{members-none, members-more}
 
 -- one attribute, and those after it

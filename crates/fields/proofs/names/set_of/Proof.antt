@@ -58,7 +58,7 @@ element-at-requires-2 : tie.Need-element-at-requires-2 Inv-loop μ-loop
 element-at-requires-2 c κs = search needs
 
 -- past this attribute
-further : (c : tie.At-match2-came Inv-loop μ-loop) → attributesOf (c .before .before .before .before .before .before .before .before .before .before .args .item .now) (membersOf (c .before .before .before .before .before .before .before .before .before .before .args .item .now) (c .before .before .loop .attribute .end) (c .before .before .before .before .before .before .before .before .before .before .args .e .end)) (c .match2 .seen) ≡ oneSet (c .before .before .before .before .before .before .before .before .before .before .args .item .now) (c .before .before .before .before .before .before .before .before .before .before .args .e) (c .before .before .before .before .before .before .before .before .before .before .args .before)
+further : (c : tie.At-match2-came Inv-loop μ-loop) → let args = c .before .before .before .before .before .before .before .before .before .before .args in attributesOf (args .item .now) (membersOf (args .item .now) (c .before .before .loop .attribute .end) (args .e .end)) (c .match2 .seen) ≡ oneSet (args .item .now) (args .e) (args .before)
 further c =
     ⊎-elim
     (λ w. rw (w .2) (sym (attributes-other _ _ _ _ (sym (c .before .attribute-of .ensures) ∙ w .1 .given .1)) ∙ c .before .before .loop .inv))

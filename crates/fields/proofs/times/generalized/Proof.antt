@@ -1,6 +1,5 @@
 -- The code makes the definition's tests in its order.
 use mathlib.Core.Path.{sym, _∙_}
-use native.Mathlib.Omega.{arith}
 use borrow.Author.Tests.{eq-eqb, ne-eqb, lt-ltb, le-ltb}
 use Rattle.fields.specs.Times.{timeIn, zulu, inFull}
 use borrow.Author.Needs.{needs}

@@ -1,5 +1,5 @@
 -- The tag says which of the two forms the contents have.
-use mathlib.Core.Path.{sym, _∙_}
+use mathlib.Core.Path.{sym}
 use borrow.Author.Tests.{eq-eqb, ne-eqb}
 use Rattle.fields.specs.Times.{timeOf, timeIn}
 use borrow.Author.Needs.{needs}
