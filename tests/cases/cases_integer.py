@@ -22,10 +22,7 @@ def spelled_out(text, stated):
 
 def written(number):
     """The INTEGER of a number."""
-    size = 1
-    while not -(1 << (8 * size - 1)) <= number < 1 << (8 * size - 1):
-        size += 1
-    return element(2, number.to_bytes(size, 'big', signed=True))
+    return element(2, number.to_bytes(oracle_der.shortest(number), 'big', signed=True))
 
 
 def numbers():

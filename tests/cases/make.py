@@ -9,13 +9,15 @@ import sys
 
 sys.dont_write_bytecode = True
 
+import cases_contents
 import cases_days
 import cases_der
 import cases_integer
+import cases_limits
 import cases_member
 from record import NO_KIND, ROOM, WALK, Case, head
 
-PARTS = (cases_der, cases_integer, cases_member, cases_days)
+PARTS = (cases_der, cases_contents, cases_limits, cases_integer, cases_member, cases_days)
 FOLDER = pathlib.Path(__file__).resolve().parents[2] / 'crates' / 'cases'
 
 

@@ -1,4 +1,4 @@
-"""Days and moments: the rules of the calendar, held to the calendar of the standard library wherever that has the year."""
+"""Days and moments by the rules of the calendar, held to the standard library's calendar where that has the year."""
 import datetime
 
 from refused import Refused

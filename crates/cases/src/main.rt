@@ -1,11 +1,11 @@
 // Answers the questions on standard input, a line of text for each.
+mod ask;
 mod days;
 mod items;
 mod record;
 mod say;
 
 use libc::STDIN_FILENO;
-use record::Question;
 
 fn main() {
     let mut space = [0u8; 300_000];
@@ -49,7 +49,7 @@ fn one_question(space: &mut [u8]) -> bool {
     }
     say::text(&space[0..label]);
     say::text(b": ");
-    answer(question, &space[label..end]);
+    ask::answer(question, &space[label..end]);
     say::text(b"\n");
     true
 }
@@ -57,21 +57,4 @@ fn one_question(space: &mut [u8]) -> bool {
 fn ended(why: &[u8]) -> bool {
     say::text(why);
     false
-}
-
-fn answer(question: Question, bytes: &[u8]) {
-    let kind = question.kind;
-    let first = question.first;
-    let second = question.second;
-    match kind {
-        1 => items::walk(bytes),
-        2 => items::integer(bytes),
-        3 => days::real_day(first),
-        4 => days::real_moment(first),
-        5 => days::any_day(first),
-        6 => days::any_moment(first),
-        7 => days::difference(first, second),
-        8 => items::member(bytes, first, second),
-        _ => say::text(b"no such question"),
-    }
 }

@@ -30,13 +30,13 @@ fn magnitude(value: i64) -> u64
 
 // A refusal's number; the detail as an offset or a rule, where the refusal has one.
 pub(crate) fn refused(refusal: Refusal) {
-    let number = refusal::number(refusal);
+    let class = refusal::number(refusal);
     text(b"refused ");
-    io::print_decimal(libc::STDOUT_FILENO, number);
-    match number {
+    number(class);
+    match class {
         2 | 3 => text(b" at "),
         4 | 5 => text(b", rule "),
         _ => return,
     }
-    io::print_decimal(libc::STDOUT_FILENO, refusal::detail(refusal));
+    number(refusal::detail(refusal));
 }
