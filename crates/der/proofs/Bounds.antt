@@ -51,7 +51,7 @@ heading-keeps forms s =
     (λ e. bad-in))
 
 pub heading-within :
-  (forms : Forms) (s : List ℕ) (tag skip size : ℕ) → headingOf forms s ≡ Header tag skip size → (2 ≤ skip) × (skip + size ≤ length s)
+    (forms : Forms) (s : List ℕ) (tag skip size : ℕ) → headingOf forms s ≡ Header tag skip size → (2 ≤ skip) × (skip + size ≤ length s)
 heading-within forms s tag skip size e = go (subst (HeadWithin s) e (heading-keeps forms s))
   where
     go : HeadWithin s (Header tag skip size) → (2 ≤ skip) × (skip + size ≤ length s)
@@ -66,7 +66,7 @@ data ListWithin (forms : Forms) : Walked → Type 0 where
   refused-in : {refusal : Refusal} → ListWithin forms (Refused refusal)
 
 filled-keeps :
-  (forms : Forms) (s : List ℕ) (used : ℕ) (w : Walked) → 2 ≤ used → used ≤ length s → ListWithin forms w → ReadWithin forms s (filled used w)
+    (forms : Forms) (s : List ℕ) (used : ℕ) (w : Walked) → 2 ≤ used → used ≤ length s → ListWithin forms w → ReadWithin forms s (filled used w)
 unfolding filled
 filled-keeps forms s used (Passed m) h g (passed-in f) = past-in h g f
 filled-keeps forms s used (Refused refusal) h g f = fault-in
@@ -74,8 +74,8 @@ filled-keeps forms s used (Refused refusal) h g f = fault-in
 -- what the fuel below keeps, the next one keeps
 abbrev Keeps : Forms → ℕ → Type 0
 Keeps forms fuel =
-  ((s : List ℕ) (base depth count : ℕ) → ReadWithin forms s (elementAt fuel forms s base depth count))
-  × ((s : List ℕ) (base depth count : ℕ) → count ≤ forms .elements → ListWithin forms (listAt fuel forms s base depth count))
+    ((s : List ℕ) (base depth count : ℕ) → ReadWithin forms s (elementAt fuel forms s base depth count))
+    × ((s : List ℕ) (base depth count : ℕ) → count ≤ forms .elements → ListWithin forms (listAt fuel forms s base depth count))
 
 element-keeps : (forms : Forms) (fuel : ℕ) → Keeps forms fuel → (s : List ℕ) (base depth count : ℕ) → ReadWithin forms s (elementAt (suc fuel) forms s base depth count)
 unfolding elementAt opened
@@ -110,16 +110,16 @@ keeps forms zero = (λ s base depth count. fault-in, λ s base depth count h. re
 keeps forms (suc fuel) = (element-keeps forms fuel (keeps forms fuel), list-keeps forms fuel (keeps forms fuel))
 
 pub element-within :
-  (forms : Forms) (fuel : ℕ) (s : List ℕ) (base depth count used m : ℕ) → elementAt fuel forms s base depth count ≡ Past used m
-  → (2 ≤ used) × (used ≤ length s) × (m ≤ forms .elements)
+    (forms : Forms) (fuel : ℕ) (s : List ℕ) (base depth count used m : ℕ) → elementAt fuel forms s base depth count ≡ Past used m
+    → (2 ≤ used) × (used ≤ length s) × (m ≤ forms .elements)
 element-within forms fuel s base depth count used m e = go (subst (ReadWithin forms s) e (keeps forms fuel .0 s base depth count))
   where
     go : ReadWithin forms s (Past used m) → (2 ≤ used) × (used ≤ length s) × (m ≤ forms .elements)
     go (past-in f g h) = (f, g, h)
 
 pub list-within :
-  (forms : Forms) (fuel : ℕ) (s : List ℕ) (base depth count m : ℕ) → count ≤ forms .elements → listAt fuel forms s base depth count ≡ Passed m
-  → m ≤ forms .elements
+    (forms : Forms) (fuel : ℕ) (s : List ℕ) (base depth count m : ℕ) → count ≤ forms .elements → listAt fuel forms s base depth count ≡ Passed m
+    → m ≤ forms .elements
 list-within forms fuel s base depth count m h e = go (subst (ListWithin forms) e (keeps forms fuel .1 s base depth count h))
   where
     go : ListWithin forms (Passed m) → m ≤ forms .elements

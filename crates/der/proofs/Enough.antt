@@ -65,8 +65,8 @@ module _ (forms : Forms) (s : List ℕ) (base depth count : ℕ) where
 -- a list of which the elements before `at` have been read
 abbrev pub ListLeft : Forms → List ℕ → ℕ → ℕ → ℕ → ℕ → ℕ → Type 0
 ListLeft forms s base depth count at read =
-  (fuel : ℕ) → 2 * length s + 2 ≤ fuel
-  → (rest : ℕ) × (2 * (length s - at) + 2 ≤ rest) × (listAt fuel forms s base depth count ≡ listAt rest forms (drop at s) (base + at) depth read)
+    (fuel : ℕ) → 2 * length s + 2 ≤ fuel
+    → (rest : ℕ) × (2 * (length s - at) + 2 ≤ rest) × (listAt fuel forms s base depth count ≡ listAt rest forms (drop at s) (base + at) depth read)
 
 module _ (forms : Forms) (s : List ℕ) (base depth count : ℕ) where
   pub left-first : ListLeft forms s base depth count 0 count
@@ -110,8 +110,11 @@ module _ (forms : Forms) (s : List ℕ) (base depth count : ℕ) where
       left-next fuel enough = go (f fuel enough .0) (f fuel enough .1) (f fuel enough .2)
         where
           go : (rest : ℕ) → 2 * (length s - at) + 2 ≤ rest → listAt fuel forms s base depth count ≡ listAt rest forms (drop at s) (base + at) depth read
-            → (rest : ℕ) × (2 * (length s - (at + used)) + 2 ≤ rest) × (listAt fuel forms s base depth count ≡ listAt rest forms (drop (at + used) s) (base + (at + used)) depth n)
+              → (rest : ℕ) × (2 * (length s - (at + used)) + 2 ≤ rest) × (listAt fuel forms s base depth count ≡ listAt rest forms (drop (at + used) s) (base + (at + used)) depth n)
           go zero h e = absurd (omega arith)
-          go (suc rest) h e =
-              (rest, omega (arith, read-within), e ∙ list-more forms rest (drop at s) (base + at) depth read some used n (element-left g rest h)
-              ∙ rw (drop-drop used at s, add-assoc base at used) refl)
+          go (suc rest) h e = (
+            rest,
+            omega (arith, read-within),
+            e ∙ list-more forms rest (drop at s) (base + at) depth read some used n (element-left g rest h)
+                ∙ rw (drop-drop used at s, add-assoc base at used) refl,
+          )

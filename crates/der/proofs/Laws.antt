@@ -34,17 +34,17 @@ module _ (forms : Forms) (fuel : ℕ) (s : List ℕ) (base depth count : ℕ) wh
 
       module _ (few : count < forms .elements) where
         pub element-node : constructed tag ≡ true
-          → elementAt (suc fuel) forms s base depth count ≡ filled (skip + size) (listAt fuel forms (take size (drop skip s)) (base + skip) (depth + 1) (count + 1))
+            → elementAt (suc fuel) forms s base depth count ≡ filled (skip + size) (listAt fuel forms (take size (drop skip s)) (base + skip) (depth + 1) (count + 1))
         unfolding elementAt opened
         element-node h = simp (e, le-ltb _ _ shallow, lt-leb _ _ few, h)
 
         pub element-leaf : constructed tag ≡ false → contentsGood tag (take size (drop skip s)) ≡ true
-          → elementAt (suc fuel) forms s base depth count ≡ Past (skip + size) (count + 1)
+            → elementAt (suc fuel) forms s base depth count ≡ Past (skip + size) (count + 1)
         unfolding elementAt opened
         element-leaf h g = simp (e, le-ltb _ _ shallow, lt-leb _ _ few, h, g)
 
         pub element-spoilt : constructed tag ≡ false → contentsGood tag (take size (drop skip s)) ≡ false
-          → elementAt (suc fuel) forms s base depth count ≡ Fault (Der base)
+            → elementAt (suc fuel) forms s base depth count ≡ Fault (Der base)
         unfolding elementAt opened
         element-spoilt h g = simp (e, le-ltb _ _ shallow, lt-leb _ _ few, h, g)
 
@@ -54,12 +54,12 @@ module _ (forms : Forms) (fuel : ℕ) (s : List ℕ) (base depth count : ℕ) wh
 
   module _ (left : length s ≡ 0 → ⊥) where
     pub list-more : (used n : ℕ) → elementAt fuel forms s base depth count ≡ Past used n
-      → listAt (suc fuel) forms s base depth count ≡ listAt fuel forms (drop used s) (base + used) depth n
+        → listAt (suc fuel) forms s base depth count ≡ listAt fuel forms (drop used s) (base + used) depth n
     unfolding listAt after
     list-more used n e = simp (ne-eqb _ _ left, e)
 
     pub list-fault : (refusal : Refusal) → elementAt fuel forms s base depth count ≡ Fault refusal
-      → listAt (suc fuel) forms s base depth count ≡ Refused refusal
+        → listAt (suc fuel) forms s base depth count ≡ Refused refusal
     unfolding listAt after
     list-fault refusal e = simp (ne-eqb _ _ left, e)
 
@@ -70,7 +70,7 @@ module _ (forms : Forms) (s : List ℕ) where
 
   module _ (short : length s ≤ forms .itemSize) where
     pub walk-fault :
-      {refusal : Refusal} → elementAt (2 * length s + 2) forms s 0 1 0 ≡ Fault refusal → walkOf forms s ≡ Refused refusal
+        {refusal : Refusal} → elementAt (2 * length s + 2) forms s 0 1 0 ≡ Fault refusal → walkOf forms s ≡ Refused refusal
     unfolding walkOf whole
     walk-fault e = simp (le-ltb _ _ short, e)
 

@@ -51,22 +51,24 @@ unfolding number
 number-below [] octets = omega arith
 number-below (x ∷ xs) octets =
     let most : x ≤ 255 = omega (arith, octets 0) in
-    omega
-      (arith,
+    omega (
+      arith,
       mul-le-mul-right (256 ^ length xs) most,
       number-below xs (λ k. octets (suc k)),
-      pow-suc 256 (length xs))
+      pow-suc 256 (length xs),
+    )
 
 pub lower-half : (c : List ℕ) → ((k : ℕ) → getD c k 0 < 256) → getD c 0 0 < 128 → number c * 2 < 256 ^ length c
 unfolding number
 lower-half [] octets h = omega arith
 lower-half (x ∷ xs) octets h =
     let most : x ≤ 127 = omega arith in
-    omega
-      (arith,
+    omega (
+      arith,
       mul-le-mul-right (256 ^ length xs) most,
       number-below xs (λ k. octets (suc k)),
-      pow-suc 256 (length xs))
+      pow-suc 256 (length xs),
+    )
 
 pub upper-half : (c : List ℕ) → 128 ≤ getD c 0 0 → 256 ^ length c ≤ number c * 2
 unfolding number

@@ -1,7 +1,9 @@
 // An item that is one INTEGER, as a signed 64-bit number.
-use crate::heading::{Heading, header};
+use crate::heading::Heading;
+use crate::heading::header;
+use crate::walking::Walked;
+use crate::walking::walk;
 use refusal::Refusal;
-use crate::walking::{Walked, walk};
 ghost use mathlib.Core.Path.{_≡_};
 ghost use Prim.Native.Nat.{_≤_};
 ghost use lib.ListN.{length};

@@ -1,12 +1,17 @@
 // One step through the members of an element.
-use crate::heading::{Heading, header};
+use crate::heading::Heading;
+use crate::heading::header;
 ghost use mathlib.Core.Path.{_≡_};
 ghost use Rattle.der.specs.Forms.{paper};
 ghost use Rattle.der.specs.Member.{memberOf};
 
 // An element by its identifier, the offset of its contents and the offset after it.
 pub enum Step {
-    At { tag: u8, contents: usize, end: usize },
+    At {
+        tag: u8,
+        contents: usize,
+        end: usize,
+    },
     Nothing,
 }
 
@@ -21,7 +26,15 @@ pub fn member(item: &[u8], from: usize, end: usize) -> Step
         return Step::Nothing;
     }
     match header(&item[from..end]) {
-        Heading::Header { tag, skip, size } => Step::At { tag, contents: from + skip, end: from + skip + size },
+        Heading::Header { tag, skip, size } => {
+            let contents = from + skip;
+            let after = contents + size;
+            Step::At {
+                tag,
+                contents,
+                end: after,
+            }
+        }
         Heading::Bad => Step::Nothing,
     }
 }

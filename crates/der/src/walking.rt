@@ -1,6 +1,7 @@
 // The walk: an element before its members, left to right, and the first fault met.
 use crate::contents::contents_good;
-use crate::heading::{Heading, header};
+use crate::heading::Heading;
+use crate::heading::header;
 use refusal::Refusal;
 ghost use mathlib.Core.Path.{_≡_};
 ghost use Prim.Native.Nat.{ℕ, _+_, _*_, _≤_};
@@ -15,7 +16,7 @@ pub enum Walked {
 }
 
 // An element that was read: the octets that it takes, and the count of elements after it.
-enum Read {
+pub enum Read {
     Past { used: usize, count: usize },
     Fault(Refusal),
 }
@@ -61,7 +62,10 @@ fn element(s: &[u8], base: usize, depth: usize, count: usize) -> Read
         };
     }
     if contents_good(tag, &s[skip..end]) {
-        return Read::Past { used: end, count: count + 1 };
+        return Read::Past {
+            used: end,
+            count: count + 1,
+        };
     }
     Read::Fault(Refusal::Der { at: base })
 }

@@ -1,1 +1,17 @@
+pub mod Cases
+pub mod Numbers
+pub mod Lengths
+pub mod Headings
+pub mod Written
+pub mod Answers
+pub mod Bounds
+pub mod Fuel
+pub mod Reading
+pub mod Found
+pub mod Passes
+pub mod Same
+pub mod Parts
+pub mod Members
+pub mod Minimal
+pub mod Integers
 pub mod Theorems

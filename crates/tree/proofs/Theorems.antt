@@ -1,1 +1,144 @@
 -- What the walk means, as theorems over the definitions.
+use mathlib.Core.Path.{_≡_, refl, sym, _∙_, ap, subst}
+use mathlib.Core.Bool.{true}
+use mathlib.Core.Logic.{_↔_}
+use mathlib.Core.List.{List, [], _++_, append-assoc, append-nil}
+use Prim.Native.Nat.{ℕ, zero, suc, _+_, _-_, _*_, _≤_, _<_}
+use native.Mathlib.Omega.{arith}
+use lib.IntN.{ℤ}
+use lib.ListN.{length, take, drop, length-append}
+use Rattle.der.specs.declared.walking.Walked.{Walked}
+use Rattle.der.specs.declared.walking.Walked.the-variants.{Passed}
+use Rattle.der.specs.declared.stepping.Step.the-variants.{At, Nothing}
+use Rattle.der.specs.declared.numbers.Number.the-variants.{Value}
+use Rattle.der.specs.Forms.{Forms}
+use Rattle.der.specs.Octets.{Octets, twos}
+use Rattle.der.specs.Contents.{integerGood}
+use Rattle.der.specs.Walk.{elementAt, listAt, walkOf, counted}
+use Rattle.der.specs.Heading.{headingOf}
+use Rattle.der.specs.Member.{placed, memberOf}
+use Rattle.der.specs.Integer.{integerOf}
+use Rattle.tree.specs.Tree.{Tree, node, Trees, none, more, encoded, encodedAll, tagOf, contentsOf, headerOf, placesOf, onward, stepsOf, Sound, SoundAll, sound-more, Encodes, EncodesInteger}
+use Rattle.tree.proofs.Answers.{walk-by}
+use Rattle.tree.proofs.Bounds.{Bound, ReadBound, element-bound}
+use Rattle.tree.proofs.Fuel.{element-fuel, list-fuel}
+use Rattle.tree.proofs.Passes.{passed-encodes, encodes-passed}
+use Rattle.tree.proofs.Same.{tree-one}
+use Rattle.tree.proofs.Parts.{encoded-parts, length-parts, heading-tree}
+use Rattle.tree.proofs.Reading.{encoded-some}
+use Rattle.tree.proofs.Members.{part-at, member-at, length-more}
+use Rattle.tree.proofs.Integers.{NumberEncodes, integer-encodes, encodes-integer, one-item}
+use Rattle.tree.proofs.Minimal.{twos-same}
+
+-- The walk passes, and counts n, exactly when the octets are those of a sound tree of n elements within the limits.
+pub walk-passes :
+    (forms : Forms) → forms .lengthOctets ≤ 3 → (item : List ℕ) (n : ℕ) → Octets item → (walkOf forms item ≡ Passed n) ↔ Encodes forms item n
+walk-passes forms limit item n o =
+    (passed-encodes forms limit item n o, encodes-passed forms limit item n)
+
+-- Two sound trees with the same octets are the same tree.
+pub one-tree : (forms : Forms) → forms .lengthOctets ≤ 3 → (a b : Tree) → Sound forms a → Sound forms b → encoded a ≡ encoded b → a ≡ b
+one-tree forms limit a b sa sb e = tree-one forms limit a b [] [] sa sb (ap (λ (s : List ℕ). s ++ []) e) .0
+
+-- No answer tells more elements than the limit.
+pub counted-limit : (forms : Forms) (item : List ℕ) → counted (walkOf forms item) ≤ forms .elements
+unfolding counted
+counted-limit forms item =
+    walk-by forms item (λ (w : Walked). counted w ≤ forms .elements) (λ refusal. omega arith) λ m short e.
+    let b : Bound forms item (length item) m = subst (ReadBound forms item) e (element-bound forms _ item 0 1 0) in
+    b .few
+
+-- From 2 * length s + 1 on for an element, and 2 * length s + 2 for a list, the fuel changes nothing.
+pub fuel-enough :
+    (forms : Forms) (f g : ℕ) (s : List ℕ) (base d n : ℕ)
+    → (2 * length s + 1 ≤ f → 2 * length s + 1 ≤ g → elementAt f forms s base d n ≡ elementAt g forms s base d n)
+    × (2 * length s + 2 ≤ f → 2 * length s + 2 ≤ g → listAt f forms s base d n ≡ listAt g forms s base d n)
+fuel-enough forms f g s base d n = (element-fuel forms f g s base d n, list-fuel forms f g s base d n)
+
+-- Stepping ends where no member is left.
+pub step-none :
+    (forms : Forms) (before behind : List ℕ)
+    → memberOf forms (before ++ encodedAll none ++ behind) (length before) (length before + length (encodedAll none)) ≡ Nothing
+unfolding encodedAll placed headingOf
+step-none forms before behind = member-at forms before [] behind
+
+-- A step finds the first of the members that are left: its identifier, where its contents start, and where it ends.
+pub step-more :
+    (forms : Forms) → forms .lengthOctets ≤ 3 → (before behind : List ℕ) (tree : Tree) (trees : Trees) → Sound forms tree
+    → memberOf forms (before ++ encodedAll (more tree trees) ++ behind) (length before) (length before + length (encodedAll (more tree trees)))
+    ≡ At (tagOf tree) (length before + length (headerOf tree)) (length before + length (encoded tree))
+unfolding encodedAll placed
+step-more forms limit before behind tree trees sound =
+    member-at forms before (encoded tree ++ encodedAll trees) behind
+    ∙ rw (heading-tree forms limit tree (encodedAll trees) sound)
+    (ap (At (tagOf tree) (length before + length (headerOf tree))) (omega (arith, length-parts tree)))
+
+-- The next step, from the end of the first member, sees the members after it.
+pub step-next :
+    (before behind : List ℕ) (tree : Tree) (trees : Trees)
+    → before ++ encodedAll (more tree trees) ++ behind ≡ (before ++ encoded tree) ++ encodedAll trees ++ behind
+unfolding encodedAll
+step-next before behind tree trees = simp append-assoc
+
+-- A step into a node, from where its contents start, sees its members.
+pub step-inside :
+    (before behind : List ℕ) (tree : Tree) (trees : Trees)
+    → before ++ encodedAll (more tree trees) ++ behind ≡ (before ++ headerOf tree) ++ contentsOf tree ++ (encodedAll trees ++ behind)
+unfolding encodedAll
+step-inside before behind tree trees = rw (encoded-parts tree) (simp append-assoc)
+
+-- Between the two offsets of a step stand the member's contents: a leaf's octets, or a node's members.
+pub step-contents :
+    (before behind : List ℕ) (tree : Tree) (trees : Trees)
+    → take (length before + length (encoded tree) - (length before + length (headerOf tree)))
+    (drop (length before + length (headerOf tree)) (before ++ encodedAll (more tree trees) ++ behind))
+    ≡ contentsOf tree
+step-contents before behind tree trees =
+    let span : length before + length (encoded tree) - (length before + length (headerOf tree)) ≡ length (contentsOf tree) =
+    omega (arith, length-parts tree) in
+    rw (span, step-inside before behind tree trees, ← length-append before (headerOf tree))
+    (part-at (before ++ headerOf tree) (contentsOf tree) (encodedAll trees ++ behind) (length (contentsOf tree)) refl)
+
+-- Stepping through members gives the tree's members in order, with their offsets, and then ends.
+pub steps-members :
+    (forms : Forms) → forms .lengthOctets ≤ 3 → (members : Trees) (fuel : ℕ) (before behind : List ℕ) → SoundAll forms members
+    → length (encodedAll members) < fuel
+    → stepsOf fuel forms (before ++ encodedAll members ++ behind) (length before) (length before + length (encodedAll members))
+    ≡ placesOf (length before) members
+unfolding stepsOf placesOf onward
+steps-members forms limit members zero before behind sound enough = absurd (omega arith)
+steps-members forms limit none (suc fuel) before behind sound enough = rw (step-none forms before behind)
+steps-members forms limit (more tree trees) (suc fuel) before behind (sound-more sound rest) enough =
+    let start : length (before ++ encoded tree) ≡ length before + length (encoded tree) = length-append before (encoded tree) in
+    let stop : length before + length (encodedAll (more tree trees)) ≡ length (before ++ encoded tree) + length (encodedAll trees) =
+    omega (arith, length-more tree trees) in
+    let others = steps-members forms limit trees fuel (before ++ encoded tree) behind rest (omega (arith, length-more tree trees, encoded-some tree)) in
+    rw (step-more forms limit before behind tree trees sound, step-next before behind tree trees, stop, ← start, others)
+
+-- So stepping through the item of a node, from the end of its header to its end, gives its members.
+pub steps-node :
+    (forms : Forms) → forms .lengthOctets ≤ 3 → (tag : ℕ) (members : Trees) (fuel : ℕ) → SoundAll forms members → length (encodedAll members) < fuel
+    → stepsOf fuel forms (encoded (node tag members)) (length (headerOf (node tag members))) (length (encoded (node tag members)))
+    ≡ placesOf (length (headerOf (node tag members))) members
+unfolding contentsOf
+steps-node forms limit tag members fuel sound enough =
+    let x : Tree = node tag members in
+    let item : headerOf x ++ encodedAll members ++ [] ≡ encoded x = append-nil (headerOf x ++ encodedAll members) ∙ sym (encoded-parts x) in
+    rw (length-parts x, ← item) (steps-members forms limit members fuel (headerOf x) [] sound enough)
+
+-- An item is read as the number v exactly when it is one INTEGER of at most eight octets that write v, within the limits.
+pub integer-value :
+    (forms : Forms) → forms .lengthOctets ≤ 3 → (item : List ℕ) → Octets item → (v : ℤ) → (integerOf forms item ≡ Value v) ↔ EncodesInteger forms item v
+integer-value forms limit item o v =
+    (λ e. subst (NumberEncodes forms item) e (integer-encodes forms limit item o), encodes-integer forms limit item v)
+
+-- Two contents of an INTEGER that may stand and write one value are the same octets: a value has no second encoding.
+pub twos-one : (a b : List ℕ) → Octets a → Octets b → integerGood a ≡ true → integerGood b ≡ true → twos a ≡ twos b → a ≡ b
+twos-one = twos-same
+
+-- Two items that are read as one value are the same item.
+pub integer-one :
+    (forms : Forms) → forms .lengthOctets ≤ 3 → (a b : List ℕ) → Octets a → Octets b → (v : ℤ)
+    → integerOf forms a ≡ Value v → integerOf forms b ≡ Value v → a ≡ b
+integer-one forms limit a b oa ob v e f =
+    one-item forms a b v (integer-value forms limit a oa v .0 e) (integer-value forms limit b ob v .0 f)

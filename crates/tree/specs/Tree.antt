@@ -1,14 +1,18 @@
 -- The tree of elements that an item encodes, and what makes it sound.
-use Prim.Native.Nat.{ℕ, suc, _+_, _/_, _%_, _^_, _<_, _≤_, max}
+use Prim.Native.Nat.{ℕ, zero, suc, _+_, _^_, _<_, _≤_, max}
 use mathlib.Core.Path.{_≡_}
 use mathlib.Core.Bool.{true, false, cond}
 use mathlib.Core.List.{List, [], _∷_, _++_}
 use lib.Dec.{ltb}
+use lib.IntN.{ℤ}
 use lib.ListN.{length}
+use Rattle.der.specs.declared.stepping.Step.{Step}
+use Rattle.der.specs.declared.stepping.Step.the-variants.{At, Nothing}
 use Rattle.der.specs.Forms.{Forms}
-use Rattle.der.specs.Octets.{Octets, big}
+use Rattle.der.specs.Octets.{Octets, big, twos}
 use Rattle.der.specs.Heading.{identifierGood, constructed}
 use Rattle.der.specs.Contents.{contentsGood}
+use Rattle.der.specs.Member.{memberOf}
 
 mutual
   pub data Tree : Type 0 where
@@ -39,6 +43,18 @@ unfoldable mutual
   encodedAll none = []
   encodedAll (more tree trees) = encoded tree ++ encodedAll trees
 
+-- the identifier octet, the contents octets, and the header: identifier and length octets
+unfoldable pub tagOf : Tree → ℕ
+tagOf (leaf tag c) = tag
+tagOf (node tag members) = tag
+
+unfoldable pub contentsOf : Tree → List ℕ
+contentsOf (leaf tag c) = c
+contentsOf (node tag members) = encodedAll members
+
+unfoldable pub headerOf : Tree → List ℕ
+headerOf tree = tagOf tree ∷ lengthEncoded (length (contentsOf tree))
+
 -- the number of elements
 unfoldable mutual
   pub size : Tree → ℕ
@@ -60,20 +76,20 @@ unfoldable mutual
   depthAll (more tree trees) = max (depth tree) (depthAll trees)
 
 -- An identifier that may stand, primitive over contents that may stand and constructed over sound members, each length
--- one that the forms can tell.
+-- one that the forms can tell: below 128 in the short form.
 mutual
   pub data Sound (forms : Forms) : Tree → Type 0 where
     sound-leaf :
-      {tag : ℕ} {c : List ℕ} → tag < 256 → identifierGood tag ≡ true → constructed tag ≡ false → Octets c
-      → length c < 256 ^ forms .lengthOctets → contentsGood tag c ≡ true → Sound forms (leaf tag c)
+        {tag : ℕ} {c : List ℕ} → tag < 256 → identifierGood tag ≡ true → constructed tag ≡ false → Octets c
+        → length c < max 128 (256 ^ forms .lengthOctets) → contentsGood tag c ≡ true → Sound forms (leaf tag c)
     sound-node :
-      {tag : ℕ} {members : Trees} → tag < 256 → identifierGood tag ≡ true → constructed tag ≡ true
-      → length (encodedAll members) < 256 ^ forms .lengthOctets → SoundAll forms members → Sound forms (node tag members)
+        {tag : ℕ} {members : Trees} → tag < 256 → identifierGood tag ≡ true → constructed tag ≡ true
+        → length (encodedAll members) < max 128 (256 ^ forms .lengthOctets) → SoundAll forms members → Sound forms (node tag members)
 
   pub data SoundAll (forms : Forms) : Trees → Type 0 where
     sound-none : SoundAll forms none
     sound-more :
-      {tree : Tree} {trees : Trees} → Sound forms tree → SoundAll forms trees → SoundAll forms (more tree trees)
+        {tree : Tree} {trees : Trees} → Sound forms tree → SoundAll forms trees → SoundAll forms (more tree trees)
 
 -- the octets of an item are those of a sound tree of n elements, within the limits
 pub record Encodes (forms : Forms) (item : List ℕ) (n : ℕ) : Type 0 where
@@ -83,4 +99,31 @@ pub record Encodes (forms : Forms) (item : List ℕ) (n : ℕ) : Type 0 where
   pub count : size tree ≡ n
   pub shallow : depth tree ≤ forms .depth
   pub few : n ≤ forms .elements
+  pub short : length item ≤ forms .itemSize
+
+-- each member's identifier, where its contents start and where they end; the first member starts at `from`
+unfoldable pub placesOf : ℕ → Trees → List Step
+placesOf from none = []
+placesOf from (more tree trees) =
+    At (tagOf tree) (from + length (headerOf tree)) (from + length (encoded tree)) ∷ placesOf (from + length (encoded tree)) trees
+
+-- a step taken, and those that follow from its end
+unfoldable pub onward : Step → (ℕ → List Step) → List Step
+onward Nothing next = []
+onward (At tag start stop) next = At tag start stop ∷ next stop
+
+-- the steps from `from` to `end` until there is none; the first number only makes the definition end
+unfoldable pub stepsOf : ℕ → Forms → List ℕ → ℕ → ℕ → List Step
+stepsOf zero forms s from end = []
+stepsOf (suc fuel) forms s from end = onward (memberOf forms s from end) λ stop. stepsOf fuel forms s stop end
+
+-- the octets of an item are those of one INTEGER of at most eight contents octets, which write v, within the limits
+pub record EncodesInteger (forms : Forms) (item : List ℕ) (v : ℤ) : Type 0 where
+  pub contents : List ℕ
+  pub bytes : encoded (leaf 2 contents) ≡ item
+  pub sound : Sound forms (leaf 2 contents)
+  pub narrow : length contents ≤ 8
+  pub value : twos contents ≡ v
+  pub shallow : 1 ≤ forms .depth
+  pub few : 1 ≤ forms .elements
   pub short : length item ≤ forms .itemSize

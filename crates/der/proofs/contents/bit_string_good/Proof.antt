@@ -26,7 +26,12 @@ returns-2 c = simp (ne-eqb _ _ (c .before .before .if1 .left), lt-ltb _ _ (c .if
 
 returns-3 : tie.Need-returns-3
 unfolding bitStringGood
-returns-3 c = simp (ne-eqb _ _ (c .before .before .before .if1 .left), le-ltb _ _ (c .before .if2 .left), eq-eqb _ _ (c .if3 .taken))
+returns-3 c =
+    simp (
+      ne-eqb _ _ (c .before .before .before .if1 .left),
+      le-ltb _ _ (c .before .if2 .left),
+      eq-eqb _ _ (c .if3 .taken),
+    )
 
 sub-result : tie.Need-sub-result
 sub-result c = search needs
@@ -44,7 +49,11 @@ returns-4 : tie.Need-returns-4
 unfolding bitStringGood
 returns-4 c =
     rw (shifted _ (c .before .before .if2 .left))
-    (simp (ne-eqb _ _ (c .before .before .before .before .if1 .left), le-ltb _ _ (c .before .before .if2 .left), ne-eqb _ _ (c .before .if3 .left)))
+    (simp (
+      ne-eqb _ _ (c .before .before .before .before .if1 .left),
+      le-ltb _ _ (c .before .before .if2 .left),
+      ne-eqb _ _ (c .before .if3 .left),
+    ))
 
 pub bit-string-good-spec : {M : Type 1} → statement M
 bit-string-good-spec =

@@ -41,12 +41,13 @@ returns-6 : tie.Need-returns-6
 unfolding contentsGood
 returns-6 c =
     let none = c .match .rest in
-    simp
-      (ne-eqb _ _ (none .0 .0 .0 .0 .1),
+    simp (
+      ne-eqb _ _ (none .0 .0 .0 .0 .1),
       ne-eqb _ _ (none .0 .0 .0 .1),
       ne-eqb _ _ (none .0 .0 .1),
       ne-eqb _ _ (none .0 .1),
-      ne-eqb _ _ (none .1))
+      ne-eqb _ _ (none .1),
+    )
 
 pub contents-good-spec : {M : Type 1} → statement M
 contents-good-spec =

@@ -22,7 +22,7 @@ abbrev μ-loop : tie.MeasureT-loop
 
 -- one octet more
 further : (c : List ℕ) (i : ℕ) (starts : Bool) → i < length c → (starts && eqb (getD c i 0) 128) ≡ false
-  → subIdentifiers (ltb (getD c i 0) 128) (drop (i + 1) c) ≡ subIdentifiers starts (drop i c)
+    → subIdentifiers (ltb (getD c i 0) 128) (drop (i + 1) c) ≡ subIdentifiers starts (drop i c)
 unfolding subIdentifiers
 further c i starts h e = rw (add-one, drop-cons c i 0) (simp e)
 
@@ -43,8 +43,9 @@ returns-2 c =
     let i = c .before .before .before .before .loop .i in
     let h : i < length l = c .before .before .before .loop-test .taken in
     let here : subIdentifiers (c .before .before .before .before .loop .starts) (drop i l) ≡ false =
-      rw (drop-cons l i 0) (simp (c .before .if2 .taken, eq-eqb _ _ (c .if3 .taken))) in
-    simp (ne-eqb _ _ (c .before .before .before .before .before .if1 .left)) (sym here ∙ c .before .before .before .before .loop .inv .1)
+    rw (drop-cons l i 0) (simp (c .before .if2 .taken, eq-eqb _ _ (c .if3 .taken))) in
+    simp (ne-eqb _ _ (c .before .before .before .before .before .if1 .left))
+    (sym here ∙ c .before .before .before .before .loop .inv .1)
 
 add-i : tie.Need-add-i Inv-loop μ-loop
 add-i c = omega arith
@@ -58,7 +59,7 @@ loop-again c =
     let i = c .before .before .before .loop .i in
     let starts = c .before .before .before .loop .starts in
     let plain : (starts && eqb (getD l i 0) 128) ≡ false =
-      ⊎-elim (λ w. simp (w .0 .taken, ne-eqb _ _ (w .1 .left))) (λ w. simp (w .left)) (c .if2 .came) in
+    ⊎-elim (λ w. simp (w .0 .taken, ne-eqb _ _ (w .1 .left))) (λ w. simp (w .left)) (c .if2 .came) in
     (omega arith, further l i starts (c .before .before .loop-test .taken) plain ∙ c .before .before .before .loop .inv .1)
 
 returns-3 : tie.Need-returns-3 Inv-loop μ-loop

@@ -20,7 +20,11 @@ cast-size c = omega (arith, c .shared-slice-known2 .given 2)
 returns-2 : tie.Need-returns-2
 unfolding long smallest
 returns-2 c =
-    simp (le-leb _ _ (c .before .before .if1 .left), one-octet (c .before .before .before .before .args .s .now) (c .before .before .if1 .left), lt-leb _ _ (c .if2 .taken))
+    simp (
+      le-leb _ _ (c .before .before .if1 .left),
+      one-octet (c .before .before .before .before .args .s .now) (c .before .before .if1 .left),
+      lt-leb _ _ (c .if2 .taken),
+    )
 
 ending-requires : tie.Need-ending-requires
 ending-requires c κs = search needs
@@ -28,7 +32,11 @@ ending-requires c κs = search needs
 returns-3 : tie.Need-returns-3
 unfolding long smallest
 returns-3 c =
-    simp (le-leb _ _ (c .before .before .before .if1 .left), one-octet (c .before .before .before .before .before .args .s .now) (c .before .before .before .if1 .left), le-leb _ _ (c .before .if2 .left)) (c .ending .ensures)
+    simp (
+      le-leb _ _ (c .before .before .before .if1 .left),
+      one-octet (c .before .before .before .before .before .args .s .now) (c .before .before .before .if1 .left),
+      le-leb _ _ (c .before .if2 .left),
+    ) (c .ending .ensures)
 
 pub one-octet-spec : {M : Type 1} → statement M
 one-octet-spec =

@@ -32,7 +32,11 @@ add-size c = omega (arith, c .shared-slice-known3 .given 2, c .shared-slice-know
 returns-2 : tie.Need-returns-2
 unfolding long smallest
 returns-2 c =
-    simp (le-leb _ _ (c .before .before .before .if1 .left), two-octets (c .before .before .before .before .before .args .s .now) (c .before .before .before .if1 .left), lt-leb _ _ (c .if2 .taken))
+    simp (
+      le-leb _ _ (c .before .before .before .if1 .left),
+      two-octets (c .before .before .before .before .before .args .s .now) (c .before .before .before .if1 .left),
+      lt-leb _ _ (c .if2 .taken),
+    )
 
 ending-requires : tie.Need-ending-requires
 ending-requires c κs = search needs
@@ -40,7 +44,11 @@ ending-requires c κs = search needs
 returns-3 : tie.Need-returns-3
 unfolding long smallest
 returns-3 c =
-    simp (le-leb _ _ (c .before .before .before .before .if1 .left), two-octets (c .before .before .before .before .before .before .args .s .now) (c .before .before .before .before .if1 .left), le-leb _ _ (c .before .if2 .left)) (c .ending .ensures)
+    simp (
+      le-leb _ _ (c .before .before .before .before .if1 .left),
+      two-octets (c .before .before .before .before .before .before .args .s .now) (c .before .before .before .before .if1 .left),
+      le-leb _ _ (c .before .if2 .left),
+    ) (c .ending .ensures)
 
 pub two-octets-spec : {M : Type 1} → statement M
 two-octets-spec =

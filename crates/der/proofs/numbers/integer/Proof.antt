@@ -1,6 +1,6 @@
 -- The code makes the definition's tests in its order, and the header's element ends within the item.
-use Prim.Native.Nat.{_+_, _-_, _≤_}
-use mathlib.Core.Path.{_≡_, ap, sym, _∙_}
+use Prim.Native.Nat.{_+_, _≤_}
+use mathlib.Core.Path.{_≡_, sym, _∙_}
 use borrow.Author.Needs.{needs}
 use borrow.Author.Tests.{lt-ltb, le-ltb, eq-eqb, ne-eqb}
 use native.Mathlib.Nat.{add-sub-cancel-left}
@@ -8,7 +8,9 @@ use native.Mathlib.Omega.{arith}
 use lib.ListN.{length}
 use mir.Syntax.{w64}
 use mir.ValLaws.{toZ-ofZ}
+use Rattle.der.specs.declared.heading.Heading.the-variants.{Header}
 use Rattle.der.specs.Forms.{paper}
+use Rattle.der.specs.Heading.{headingOf}
 use Rattle.der.specs.Integer.{held, asked, integerOf}
 use Rattle.der.proofs.Bounds.{heading-within}
 use Rattle.der.proofs.numbers.integer.Statement.{statement}
@@ -39,24 +41,44 @@ enum-told-2 c = search needs
 returns-2 : tie.Need-returns-2
 unfolding integerOf asked held
 returns-2 c =
-    simp (sym (c .before .before .before .before .before .walk .ensures .0) ∙ c .before .before .before .enum-told .given .1, sym (c .before .before .header .ensures) ∙ c .enum-told2 .given .1)
+    simp (
+      sym (c .before .before .before .before .before .walk .ensures .0) ∙ c .before .before .before .enum-told .given .1,
+      sym (c .before .before .header .ensures) ∙ c .enum-told2 .given .1,
+    )
+
+-- the header is that of the item's outermost element
+headed : (c : tie.After-known-told2) →
+    let h = c .before .tag .given .0 in
+    headingOf paper (c .before .before .before .before .before .before .before .before .args .item .now) ≡ Header (h .0) (h .1 .0) (h .1 .1 .0)
+headed c = sym (c .before .before .before .header .ensures) ∙ c .before .tag .given .1
+
+-- so the answer hangs on that element alone, which ends within the item
+told : (c : tie.After-known-told2) →
+    let item = c .before .before .before .before .before .before .before .before .args .item .now in
+    let h = c .before .tag .given .0 in
+    integerOf paper item ≡ held item (Header (h .0) (h .1 .0) (h .1 .1 .0))
+unfolding integerOf asked
+told c =
+    simp (
+      sym (c .before .before .before .before .before .before .walk .ensures .0) ∙ c .before .before .before .before .enum-told .given .1,
+      headed c,
+    )
+
+inside : (c : tie.After-known-told2) →
+    let h = c .before .tag .given .0 in
+    h .1 .0 + h .1 .1 .0 ≤ length (c .before .before .before .before .before .before .before .before .args .item .now)
+inside c = heading-within paper _ _ _ _ (headed c) .1
 
 returns-3 : tie.Need-returns-3
-unfolding integerOf asked held
-returns-3 c =
-    simp (sym (c .before .before .before .before .before .before .before .walk .ensures .0) ∙ c .before .before .before .before .before .enum-told .given .1, sym (c .before .before .before .before .header .ensures) ∙ c .before .before .tag .given .1, ne-eqb _ _ (c .if1 .taken))
+unfolding held
+returns-3 c = simp (told (c .before), ne-eqb _ _ (c .if1 .taken))
 
 returns-4 : tie.Need-returns-4
-unfolding integerOf asked held
-returns-4 c =
-    simp
-      (sym (c .before .before .before .before .before .before .before .before .walk .ensures .0) ∙ c .before .before .before .before .before .before .enum-told .given .1,
-      sym (c .before .before .before .before .before .header .ensures) ∙ c .before .before .before .tag .given .1,
-      eq-eqb _ _ (c .before .if1 .left),
-      lt-ltb _ _ (c .if2 .taken))
+unfolding held
+returns-4 c = simp (told (c .before .before), eq-eqb _ _ (c .before .if1 .left), lt-ltb _ _ (c .if2 .taken))
 
 add-end : tie.Need-add-end
-add-end c = omega (arith, heading-within paper _ _ _ _ (sym (c .before .before .before .before .before .header .ensures) ∙ c .before .before .before .tag .given .1) .1)
+add-end c = omega (arith, inside (c .before .before))
 
 sub-signed : tie.Need-sub-signed
 sub-signed c = search needs
@@ -65,22 +87,22 @@ part-signed-start : tie.Need-part-signed-start
 part-signed-start c = search needs
 
 part-signed-end : tie.Need-part-signed-end
-part-signed-end c = heading-within paper _ _ _ _ (sym (c .before .before .before .before .before .header .ensures) ∙ c .before .before .before .tag .given .1) .1
+part-signed-end c = inside (c .before .before)
 
 signed-requires : tie.Need-signed-requires
 signed-requires c κs = search needs
 
 returns-5 : tie.Need-returns-5
-unfolding integerOf asked held
+unfolding held
 returns-5 c =
     rw (toZ-ofZ w64 (c .signed .result) (record { sfits = c .signed .ok }))
-    (simp
-      (sym (c .before .before .before .before .before .before .before .before .before .before .walk .ensures .0) ∙ c .before .before .before .before .before .before .before .before .enum-told .given .1,
-      sym (c .before .before .before .before .before .before .before .header .ensures) ∙ c .before .before .before .before .before .tag .given .1,
+    (simp (
+      told (c .before .before .before .before),
       eq-eqb _ _ (c .before .before .before .if1 .left),
       le-ltb _ _ (c .before .before .if2 .left),
       c .signed .ensures,
-      add-sub-cancel-left))
+      add-sub-cancel-left,
+    ))
 
 pub integer-spec : {M : Type 1} → statement M
 integer-spec =

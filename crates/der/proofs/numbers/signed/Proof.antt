@@ -85,15 +85,15 @@ loop-again c =
     let l = c .before .before .before .before .before .args .c .now in
     let i = c .before .before .loop .i in
     let next : number (take (i + 1) l) ≡ number (take i l) * 256 + getD l i 0 =
-      rw add-one (number-next l i (c .before .loop-test .taken)) in
+    rw add-one (number-next l i (c .before .loop-test .taken)) in
     let power : 256 ^ (i + 1) ≡ 256 ^ i * 256 = rw add-one (pow-suc 256 i) in
     (omega arith, omega arith, omega arith, omega (arith, c .shared-slice-known2 .given i))
 
 -- all octets are read, and at most eight
-whole : (c : tie.After-loop Inv-loop μ-loop)
-  → (c .before .loop .value ≡ number (c .before .before .before .before .args .c .now))
-  × (suc (c .before .loop .most) ≡ 256 ^ length (c .before .before .before .before .args .c .now))
-  × (c .before .loop .most < 256 ^ 8)
+whole : (c : tie.After-loop Inv-loop μ-loop) →
+    let l = c .before .before .before .before .args .c .now in
+    let now = c .before .loop in
+    (now .value ≡ number l) × (suc (now .most) ≡ 256 ^ length l) × (now .most < 256 ^ 8)
 whole c =
     let l = c .before .before .before .before .args .c .now in
     let i = c .before .loop .i in
@@ -121,15 +121,17 @@ sub-result : tie.Need-sub-result Inv-loop μ-loop
 sub-result c = omega arith
 
 -- the first octet is 128 or more
-high : (c : tie.Else2 Inv-loop μ-loop) → c .before .before .loop .most - c .before .before .loop .value < 2 ^ 63
+high : (c : tie.Else2 Inv-loop μ-loop) →
+    let now = c .before .before .loop in
+    now .most - now .value < 2 ^ 63
 high c =
     let l = c .before .before .before .before .before .args .c .now in
     let w = whole (c .before) in
     omega (arith, upper-half l (c .if2 .left))
 
-negative : (c : tie.Else2 Inv-loop μ-loop)
-  → negsuc 0 -ℤ toZ w64 (c .before .before .loop .most - c .before .before .loop .value)
-  ≡ negsuc (c .before .before .loop .most - c .before .before .loop .value)
+negative : (c : tie.Else2 Inv-loop μ-loop) →
+    let now = c .before .before .loop in
+    negsuc 0 -ℤ toZ w64 (now .most - now .value) ≡ negsuc (now .most - now .value)
 negative c = rw (toZ-pos w64 _ (high c)) (minus-one _)
 
 cast-result-2 : tie.Need-cast-result-2 Inv-loop μ-loop
@@ -145,7 +147,7 @@ returns-3 c =
     let now = c .before .before .loop in
     let w = whole (c .before) in
     let below : pos (number l) -ℤ pos (256 ^ length l) ≡ negsuc (now .most - now .value) =
-      rw (← w .0) (lacking _ _ _ (now .inv .3) (w .1)) in
+    rw (← w .0) (lacking _ _ _ (now .inv .3) (w .1)) in
     toZ-ofZ w64 _ (sub-result-2 c) ∙ (negative c ∙ simp (le-ltb _ _ (c .if2 .left)) (sym below))
 
 pub signed-spec : {M : Type 1} → statement M

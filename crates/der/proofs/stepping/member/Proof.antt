@@ -33,21 +33,21 @@ enum-known-tag : tie.Need-enum-known-tag
 enum-known-tag c = search needs
 
 -- the element ends within the part
-ended : (c : tie.After-known-told) → c .before .tag .given .0 .1 .0 + c .before .tag .given .0 .1 .1 .0 ≤ c .before .before .before .before .before .before .before .before .args .end - c .before .before .before .before .before .before .before .before .args .from
+ended : (c : tie.After-known-told) →
+    let a = c .before .before .before .before .before .before .before .before .args in
+    let h = c .before .tag .given .0 in
+    h .1 .0 + h .1 .1 .0 ≤ a .end - a .from
 ended c =
     let a = c .before .before .before .before .before .before .before .before .args in
     let rest : a .end - a .from ≤ length (drop (a .from) (a .item .now)) = rw length-drop (omega arith) in
     let part : length (take (a .end - a .from) (drop (a .from) (a .item .now))) ≡ a .end - a .from = length-take-le _ _ rest in
     rw part at (heading-within paper _ _ _ _ (sym (c .before .before .before .header .ensures) ∙ c .before .tag .given .1) .1)
 
-add-t14 : tie.Need-add-t14
-add-t14 c = omega (arith, ended c)
+add-contents : tie.Need-add-contents
+add-contents c = omega (arith, ended c)
 
-add-t15 : tie.Need-add-t15
-add-t15 c = omega (arith, ended c)
-
-add-t16 : tie.Need-add-t16
-add-t16 c = omega (arith, ended c)
+add-after : tie.Need-add-after
+add-after c = omega (arith, ended c)
 
 enum-told : tie.Need-enum-told
 enum-told c = search needs
@@ -55,12 +55,20 @@ enum-told c = search needs
 returns-3 : tie.Need-returns-3
 unfolding memberOf placed
 returns-3 c =
-    simp (le-leb _ _ (c .before .before .before .before .before .before .if1 .left), le-leb _ _ (c .before .before .before .before .before .if2 .left), sym (c .before .before .before .header .ensures) ∙ c .before .tag .given .1)
+    simp (
+      le-leb _ _ (c .before .before .before .before .before .before .if1 .left),
+      le-leb _ _ (c .before .before .before .before .before .if2 .left),
+      sym (c .before .before .before .header .ensures) ∙ c .before .tag .given .1,
+    )
 
 returns-4 : tie.Need-returns-4
 unfolding memberOf placed
 returns-4 c =
-    simp (le-leb _ _ (c .before .before .before .before .before .if1 .left), le-leb _ _ (c .before .before .before .before .if2 .left), sym (c .before .before .header .ensures) ∙ c .enum-told .given .1)
+    simp (
+      le-leb _ _ (c .before .before .before .before .before .if1 .left),
+      le-leb _ _ (c .before .before .before .before .if2 .left),
+      sym (c .before .before .header .ensures) ∙ c .enum-told .given .1,
+    )
 
 pub member-spec : {M : Type 1} → statement M
 member-spec =
@@ -72,9 +80,8 @@ member-spec =
     part-header-end
     header-requires
     enum-known-tag
-    add-t14
-    add-t15
-    add-t16
+    add-contents
+    add-after
     enum-told
     returns-3
     returns-4)

@@ -1,0 +1,4 @@
+pub mod Shape
+pub mod Keys
+pub mod Rules
+pub mod Answer

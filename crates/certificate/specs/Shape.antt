@@ -1,0 +1,94 @@
+-- Rule 1, the shape of a certificate: its parts in order, or that they are not so.
+use Prim.Native.Nat.{ℕ}
+use mathlib.Core.Bool.{Bool, true, false, cond, not}
+use mathlib.Core.List.{List}
+use lib.Dec.{eqb}
+use Rattle.fields.specs.declared.elements.Element.{Element}
+use Rattle.fields.specs.declared.envelopes.Envelope.{Envelope}
+use Rattle.fields.specs.declared.envelopes.Envelope.the-variants as envelope
+use Rattle.fields.specs.declared.names.Name.{Name}
+use Rattle.fields.specs.declared.names.Name.the-variants.{Holds, Shapeless}
+use Rattle.fields.specs.declared.names.Seen.{Seen}
+use Rattle.fields.specs.Elements.{foundTagged, onFound}
+use Rattle.fields.specs.Envelope.{envelopeOf}
+use Rattle.fields.specs.Extensions.{extensionsShaped}
+use Rattle.fields.specs.Names.{nameOf}
+use Rattle.fields.specs.Steps.{onlyOf, pastOf, timeAt}
+use Rattle.certificate.specs.declared.shapes.Layout.{Layout}
+use Rattle.certificate.specs.declared.shapes.Shape.{Shape}
+use Rattle.certificate.specs.declared.shapes.Shape.the-variants.{Parts, Broken}
+use Rattle.certificate.specs.declared.shapes.Front.{Front}
+use Rattle.certificate.specs.declared.shapes.Front.the-variants.{Opens, Frontless}
+use Rattle.certificate.specs.declared.shapes.Back.{Back}
+use Rattle.certificate.specs.declared.shapes.Back.the-variants.{Closes, Backless}
+use Rattle.certificate.specs.declared.shapes.Validity.{Validity}
+use Rattle.certificate.specs.declared.shapes.Validity.the-variants.{Times, Timeless}
+
+unfoldable pub onEnvelope : Envelope → (Element → Element → Shape) → Shape
+onEnvelope envelope.Formless next = Broken
+onEnvelope (envelope.Parts tbs algorithm) next = next tbs algorithm
+
+unfoldable pub onValidity : Validity → (Element → Element → Shape) → Shape
+onValidity Timeless next = Broken
+onValidity (Times start finish) next = next start finish
+
+unfoldable pub onName : Name → (Seen → Shape) → Shape
+onName Shapeless next = Broken
+onName (Holds seen) next = next seen
+
+-- a SEQUENCE of two times
+unfoldable pub validityOf : List ℕ → Element → Validity
+validityOf s validity =
+    onFound (timeAt s (validity .contents) (validity .end)) Timeless λ start.
+    onFound (timeAt s (start .end) (validity .end)) Timeless λ finish.
+    cond (eqb (finish .end) (validity .end)) (Times start finish) Timeless
+
+-- the first members of the tbs: A0 around one INTEGER; INTEGER; algorithm SEQUENCE; issuer SEQUENCE; SEQUENCE of times
+unfoldable pub frontOf : List ℕ → Element → Front
+frontOf s tbs =
+    onFound (foundTagged s (tbs .contents) (tbs .end) 0xA0) Frontless λ explicit.
+    onFound (onlyOf s explicit 0x02) Frontless λ version.
+    onFound (foundTagged s (explicit .end) (tbs .end) 0x02) Frontless λ serial.
+    onFound (foundTagged s (serial .end) (tbs .end) 0x30) Frontless λ inner.
+    onFound (foundTagged s (inner .end) (tbs .end) 0x30) Frontless λ issuer.
+    onFound (foundTagged s (issuer .end) (tbs .end) 0x30) Frontless λ validity.
+    Opens version serial inner issuer validity
+
+-- where an 81 and then an 82 end, each if it is there
+unfoldable pub uniqueEnd : List ℕ → ℕ → ℕ → ℕ
+uniqueEnd s from end = pastOf s (pastOf s from end 0x81) end 0x82
+
+-- the last members: subject SEQUENCE; key SEQUENCE; optional 81; optional 82; A3 around one SEQUENCE
+unfoldable pub backOf : List ℕ → ℕ → ℕ → Back
+backOf s from end =
+    onFound (foundTagged s from end 0x30) Backless λ subject.
+    onFound (foundTagged s (subject .end) end 0x30) Backless λ key.
+    onFound (foundTagged s (uniqueEnd s (key .end) end) end 0xA3) Backless λ last.
+    cond (eqb (last .end) end)
+    (onFound (onlyOf s last 0x30) Backless λ extensions.
+    Closes subject key (not (eqb (uniqueEnd s (key .end) end) (key .end))) extensions)
+    Backless
+
+unfoldable pub onFront : Front → (Element → Element → Element → Element → Element → Shape) → Shape
+onFront Frontless next = Broken
+onFront (Opens version serial inner issuer validity) next = next version serial inner issuer validity
+
+unfoldable pub onBack : Back → (Element → Element → Bool → Element → Shape) → Shape
+onBack Backless next = Broken
+onBack (Closes subject key unique extensions) next = next subject key unique extensions
+
+-- SEQUENCE of tbs, algorithm, BIT STRING; the tbs's members in order; names and extensions of their shape
+unfoldable pub layoutOf : List ℕ → Shape
+layoutOf s =
+    onEnvelope (envelopeOf s) λ tbs outer.
+    onFront (frontOf s tbs) λ version serial inner issuer validity.
+    onValidity (validityOf s validity) λ start finish.
+    onBack (backOf s (validity .end) (tbs .end)) λ subject key unique extensions.
+    onName (nameOf s issuer) λ issuerCountry.
+    onName (nameOf s subject) λ subjectCountry.
+    cond (extensionsShaped s extensions)
+    (Parts (record {
+        version = version; serial = serial; inner = inner; outer = outer; issuer = issuer; start = start; finish = finish;
+        subject = subject; key = key; unique = unique; extensions = extensions; «issuer_country» = issuerCountry;
+        «subject_country» = subjectCountry }))
+    Broken

@@ -1,0 +1,169 @@
+// Key identifiers and the document type list, inside the extensions that hold them.
+use der::Walked;
+use der::walk;
+use fields::Element;
+use fields::Extension;
+use fields::Found;
+use fields::contents;
+use fields::element_at;
+use fields::element_tagged;
+use fields::lookup;
+use fields::same;
+ghost use mathlib.Core.Path.{_≡_};
+ghost use Rattle.certificate.specs.Keys.{walks, octetString, firstOf, subjectKey, authorityKey, typesIn, listGood, documentTypes};
+
+// Where the contents of a key identifier start and end; that there is none; that it has not its form.
+pub enum KeyId {
+    Key { at: usize, end: usize },
+    Keyless,
+    Misformed,
+}
+
+pub(crate) fn subject_key(item: &[u8], extensions: Element) -> KeyId
+    ensures { λ r. ⌜ r ≡ subjectKey (now (item .entry)) extensions ⌝ }
+{
+    let Extension::Is {
+        oid: _,
+        critical,
+        value,
+    } = lookup(item, extensions, b"\x55\x1d\x0e")
+    else {
+        return KeyId::Keyless;
+    };
+    if critical {
+        return KeyId::Misformed;
+    }
+    if !walks_alone(item, value) {
+        return KeyId::Misformed;
+    }
+    octet_string(item, value)
+}
+
+pub(crate) fn authority_key(item: &[u8], extensions: Element) -> KeyId
+    ensures { λ r. ⌜ r ≡ authorityKey (now (item .entry)) extensions ⌝ }
+{
+    let Extension::Is {
+        oid: _,
+        critical,
+        value,
+    } = lookup(item, extensions, b"\x55\x1d\x23")
+    else {
+        return KeyId::Keyless;
+    };
+    if critical {
+        return KeyId::Misformed;
+    }
+    if !walks_alone(item, value) {
+        return KeyId::Misformed;
+    }
+    first_of(item, value)
+}
+
+// Whether an extension's contents pass the walk, depth and count from the start.
+fn walks_alone(item: &[u8], value: Element) -> bool
+    ensures { λ r. ⌜ r ≡ walks (now (item .entry)) value ⌝ }
+{
+    if let Walked::Refused(_) = walk(contents(item, value)) {
+        return false;
+    }
+    true
+}
+
+// One OCTET STRING.
+fn octet_string(item: &[u8], value: Element) -> KeyId
+    ensures { λ r. ⌜ r ≡ octetString (now (item .entry)) value ⌝ }
+{
+    let Found::One(key) = element_tagged(item, value.contents, value.end, 0x04) else {
+        return KeyId::Misformed;
+    };
+    KeyId::Key {
+        at: key.contents,
+        end: key.end,
+    }
+}
+
+// A SEQUENCE whose first member is tag 80.
+fn first_of(item: &[u8], value: Element) -> KeyId
+    ensures { λ r. ⌜ r ≡ firstOf (now (item .entry)) value ⌝ }
+{
+    let Found::One(sequence) = element_tagged(item, value.contents, value.end, 0x30) else {
+        return KeyId::Misformed;
+    };
+    let Found::One(key) = element_tagged(item, sequence.contents, sequence.end, 0x80) else {
+        return KeyId::Misformed;
+    };
+    KeyId::Key {
+        at: key.contents,
+        end: key.end,
+    }
+}
+
+// The document type list, not critical.
+pub(crate) fn document_types(item: &[u8], extensions: Element) -> bool
+    ensures { λ r. ⌜ r ≡ documentTypes (now (item .entry)) extensions ⌝ }
+{
+    let Extension::Is {
+        oid: _,
+        critical,
+        value,
+    } = lookup(item, extensions, b"\x67\x81\x08\x01\x01\x06\x02")
+    else {
+        return false;
+    };
+    if critical {
+        return false;
+    }
+    if !walks_alone(item, value) {
+        return false;
+    }
+    list_good(item, value)
+}
+
+// SEQUENCE {INTEGER 0, SET of one or more PrintableStrings of 1 or 2 octets}.
+fn list_good(item: &[u8], value: Element) -> bool
+    ensures { λ r. ⌜ r ≡ listGood (now (item .entry)) value ⌝ }
+{
+    let Found::One(sequence) = element_tagged(item, value.contents, value.end, 0x30) else {
+        return false;
+    };
+    let Found::One(version) = element_tagged(item, sequence.contents, sequence.end, 0x02) else {
+        return false;
+    };
+    let Found::One(types) = element_tagged(item, version.end, sequence.end, 0x31) else {
+        return false;
+    };
+    if types.end != sequence.end {
+        return false;
+    }
+    if !same(contents(item, version), b"\x00") {
+        return false;
+    }
+    types_good(item, types)
+}
+
+// One or more PrintableStrings of 1 or 2 octets.
+fn types_good(item: &[u8], types: Element) -> bool
+    ensures { λ r. ⌜ r ≡ typesIn (now (item .entry)) types ⌝ }
+{
+    let end = types.end;
+    let mut at = types.contents;
+    let Found::One(_) = element_at(item, at, end) else {
+        return false;
+    };
+    loop {
+        let Found::One(e) = element_at(item, at, end) else {
+            return true;
+        };
+        if e.tag != 0x13 {
+            return false;
+        }
+        let length = contents(item, e).len();
+        if length < 1 {
+            return false;
+        }
+        if 2 < length {
+            return false;
+        }
+        at = e.end;
+    }
+}

@@ -1,0 +1,269 @@
+// Rules 2 to 14, each told by its number where it is the first that is broken.
+use crate::keys::KeyId;
+use crate::keys::authority_key;
+use crate::keys::document_types;
+use crate::keys::subject_key;
+use crate::shapes::Layout;
+use fields::Element;
+use fields::Extension;
+use fields::Found;
+use fields::Letters;
+use fields::Time;
+use fields::contents;
+use fields::doubled;
+use fields::element_at;
+use fields::letters_of;
+use fields::lookup;
+use fields::same;
+use fields::some_critical;
+use fields::time_of;
+use fields::whole;
+ghost use mathlib.Core.Path.{_≡_};
+ghost use Rattle.fields.specs.Rules.{firstBroken};
+ghost use Rattle.certificate.specs.Rules.{
+  rule2,
+  rule3,
+  rule4,
+  rule5,
+  rule6,
+  rule7,
+  rule8,
+  rule9,
+  rule10,
+  rule11,
+  rule12,
+  rule13,
+  rule14,
+  sameTwo,
+  inOrder,
+  criticalWith,
+  keyGood,
+  plain,
+  rules2to8,
+  rules9to14,
+};
+
+// The first of rules 2 to 8 that is broken, else 0.
+pub(crate) fn rules_2_to_8(item: &[u8], l: Layout) -> u64
+    ensures { λ r. ⌜ r ≡ firstBroken 2 (rules2to8 (now (item .entry)) l) ⌝ }
+{
+    if !version_good(item, l) {
+        return 2;
+    }
+    if !serial_good(item, l) {
+        return 3;
+    }
+    if !algorithms_same(item, l) {
+        return 4;
+    }
+    if !countries_same(item, l) {
+        return 5;
+    }
+    if l.unique {
+        return 6;
+    }
+    if !times_in_order(item, l) {
+        return 7;
+    }
+    if !extensions_once(item, l) {
+        return 8;
+    }
+    0
+}
+
+// The first of rules 9 to 14 that is broken, else 0.
+pub(crate) fn rules_9_to_14(item: &[u8], extensions: Element, role: u64) -> u64
+    ensures { λ r. ⌜ r ≡ firstBroken 9 (rules9to14 (now (item .entry)) extensions role) ⌝ }
+{
+    if !usage_good(item, extensions, role) {
+        return 9;
+    }
+    if !constraints_good(item, extensions, role) {
+        return 10;
+    }
+    if !keys_good(item, extensions, role) {
+        return 11;
+    }
+    if !four_plain(item, extensions) {
+        return 12;
+    }
+    if !documents_good(item, extensions, role) {
+        return 13;
+    }
+    if some_critical(item, extensions, true) {
+        return 14;
+    }
+    0
+}
+
+// 2: version number 2 (v3).
+fn version_good(item: &[u8], l: Layout) -> bool
+    ensures { λ r. ⌜ r ≡ rule2 (now (item .entry)) l ⌝ }
+{
+    let version = l.version;
+    same(contents(item, version), b"\x02")
+}
+
+// 3: serial positive, at most 20 octets.
+fn serial_good(item: &[u8], l: Layout) -> bool
+    ensures { λ r. ⌜ r ≡ rule3 (now (item .entry)) l ⌝ }
+{
+    let serial = l.serial;
+    let c = contents(item, serial);
+    if 20 < c.len() {
+        return false;
+    }
+    if c.len() == 0 {
+        return true;
+    }
+    if 128 <= c[0] {
+        return false;
+    }
+    !same(c, b"\x00")
+}
+
+// 4: inner and outer algorithm equal octet by octet.
+fn algorithms_same(item: &[u8], l: Layout) -> bool
+    ensures { λ r. ⌜ r ≡ rule4 (now (item .entry)) l ⌝ }
+{
+    let inner = l.inner;
+    let outer = l.outer;
+    same(whole(item, inner), whole(item, outer))
+}
+
+// 5: the same two letters in issuer and subject.
+fn countries_same(item: &[u8], l: Layout) -> bool
+    ensures { λ r. ⌜ r ≡ rule5 (now (item .entry)) l ⌝ }
+{
+    let issuer = l.issuer_country;
+    let subject = l.subject_country;
+    same_two(letters_of(item, issuer), letters_of(item, subject))
+}
+
+fn same_two(one: Letters, other: Letters) -> bool
+    ensures { λ r. ⌜ r ≡ sameTwo one other ⌝ }
+{
+    let Letters::Two { first: a, second: b } = one else {
+        return false;
+    };
+    let Letters::Two { first: c, second: d } = other else {
+        return false;
+    };
+    if a != c {
+        return false;
+    }
+    b == d
+}
+
+// 7: times that are times, start not after end.
+fn times_in_order(item: &[u8], l: Layout) -> bool
+    ensures { λ r. ⌜ r ≡ rule7 (now (item .entry)) l ⌝ }
+{
+    let start = l.start;
+    let finish = l.finish;
+    in_order(time_of(item, start), time_of(item, finish))
+}
+
+// 8: at least one extension, and no extension OID stands twice.
+fn extensions_once(item: &[u8], l: Layout) -> bool
+    ensures { λ r. ⌜ r ≡ rule8 (now (item .entry)) l ⌝ }
+{
+    let extensions = l.extensions;
+    let Found::One(_) = element_at(item, extensions.contents, extensions.end) else {
+        return false;
+    };
+    !doubled(item, extensions)
+}
+
+// 9: keyUsage critical, its contents by role.
+fn usage_good(item: &[u8], extensions: Element, role: u64) -> bool
+    ensures { λ r. ⌜ r ≡ rule9 (now (item .entry)) extensions role ⌝ }
+{
+    let usage = lookup(item, extensions, b"\x55\x1d\x0f");
+    if role == 3 {
+        return critical_with(item, b"\x03\x02\x07\x80", usage);
+    }
+    critical_with(item, b"\x03\x02\x01\x06", usage)
+}
+
+// 10: basicConstraints critical and of one form in anchor and link, absent in a document signer.
+fn constraints_good(item: &[u8], extensions: Element, role: u64) -> bool
+    ensures { λ r. ⌜ r ≡ rule10 (now (item .entry)) extensions role ⌝ }
+{
+    let constraints = lookup(item, extensions, b"\x55\x1d\x13");
+    if role == 3 {
+        if let Extension::Is { oid: _, critical: _, value: _ } = constraints {
+            return false;
+        }
+        return true;
+    }
+    critical_with(item, b"\x30\x06\x01\x01\xff\x02\x01\x00", constraints)
+}
+
+// An extension that is critical and has those contents.
+fn critical_with(item: &[u8], octets: &[u8], extension: Extension) -> bool
+    ensures { λ r. ⌜ r ≡ criticalWith (now (item .entry)) (now (octets .entry)) extension ⌝ }
+{
+    let Extension::Is { oid: _, critical, value } = extension else {
+        return false;
+    };
+    if !critical {
+        return false;
+    }
+    same(contents(item, value), octets)
+}
+
+// 11: the subject's key identifier in anchor and link, the authority's in link and document signer.
+fn keys_good(item: &[u8], extensions: Element, role: u64) -> bool
+    ensures { λ r. ⌜ r ≡ rule11 (now (item .entry)) extensions role ⌝ }
+{
+    if !key_good(role != 3, subject_key(item, extensions)) {
+        return false;
+    }
+    key_good(role != 1, authority_key(item, extensions))
+}
+
+fn key_good(wanted: bool, key: KeyId) -> bool
+    ensures { λ r. ⌜ r ≡ keyGood wanted key ⌝ }
+{
+    match key {
+        KeyId::Misformed => false,
+        KeyId::Keyless => !wanted,
+        KeyId::Key { at: _, end: _ } => true,
+    }
+}
+
+// 12: 2.5.29.16, .17, .18 and .31 present, not critical.
+fn four_plain(item: &[u8], extensions: Element) -> bool
+    ensures { λ r. ⌜ r ≡ rule12 (now (item .entry)) extensions ⌝ }
+{
+    if !plain_there(lookup(item, extensions, b"\x55\x1d\x10")) {
+        return false;
+    }
+    if !plain_there(lookup(item, extensions, b"\x55\x1d\x11")) {
+        return false;
+    }
+    if !plain_there(lookup(item, extensions, b"\x55\x1d\x12")) {
+        return false;
+    }
+    plain_there(lookup(item, extensions, b"\x55\x1d\x1f"))
+}
+
+fn plain_there(extension: Extension) -> bool
+    ensures { λ r. ⌜ r ≡ plain extension ⌝ }
+{
+    let Extension::Is { oid: _, critical, value: _ } = extension else {
+        return false;
+    };
+    !critical
+}
+
+// 13: the document type list of a document signer.
+fn documents_good(item: &[u8], extensions: Element, role: u64) -> bool
+    ensures { λ r. ⌜ r ≡ rule13 (now (item .entry)) extensions role ⌝ }
+{
+    if role == 3 {
+        return document_types(item, extensions);
+    }
+    true
+}

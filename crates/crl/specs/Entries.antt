@@ -1,0 +1,73 @@
+-- Entries of a CRL: SEQUENCE {INTEGER, time, optional SEQUENCE of extensions}.
+use Prim.Native.Nat.{ℕ}
+use mathlib.Core.Bool.{Bool, true, false, cond, _&&_, not}
+use mathlib.Core.List.{List, [], _∷_}
+use lib.Dec.{eqb}
+use lib.ListN.{length}
+use Rattle.fields.specs.declared.elements.Element.{Element}
+use Rattle.fields.specs.declared.elements.Found.{Found}
+use Rattle.fields.specs.declared.elements.Found.the-variants.{One, Missing}
+use Rattle.fields.specs.declared.times.Time.{Time}
+use Rattle.fields.specs.declared.times.Time.the-variants.{Moment, Untimely}
+use Rattle.fields.specs.Elements.{foundTagged, onFound, membersOf}
+use Rattle.fields.specs.Extensions.{extensionsShaped, criticalOf}
+use Rattle.fields.specs.Steps.{timeAt}
+use Rattle.fields.specs.Times.{timeOf}
+use Rattle.crl.specs.declared.entries.Entry.{Entry}
+use Rattle.crl.specs.declared.entries.Entry.the-variants.{Bare, Extended, Misshapen}
+use Rattle.crl.specs.declared.entries.Survey.{Survey}
+use Rattle.crl.specs.declared.entries.Survey.the-variants.{Entries, Shapeless}
+
+-- the extensions, where there are octets after the time
+unfoldable pub extended : List ℕ → Element → Element → Element → Entry
+extended s entry serial time =
+    onFound (foundTagged s (time .end) (entry .end) 0x30) Misshapen λ extensions.
+    cond (eqb (extensions .end) (entry .end) && extensionsShaped s extensions) (Extended serial time extensions) Misshapen
+
+unfoldable pub entryOf : List ℕ → Element → Entry
+entryOf s e =
+    cond (eqb (e .tag) 0x30)
+    (onFound (foundTagged s (e .contents) (e .end) 0x02) Misshapen λ serial.
+    onFound (timeAt s (serial .end) (e .end)) Misshapen λ time.
+    cond (eqb (time .end) (e .end)) (Bare serial time) (extended s e serial time))
+    Misshapen
+
+unfoldable pub shaped : Entry → Bool
+shaped Misshapen = false
+shaped (Bare serial time) = true
+shaped (Extended serial time extensions) = true
+
+unfoldable pub isTime : Time → Bool
+isTime Untimely = false
+isTime (Moment moment) = true
+
+-- the entry's time is a time
+unfoldable pub timely : List ℕ → Entry → Bool
+timely s Misshapen = false
+timely s (Bare serial time) = isTime (timeOf s time)
+timely s (Extended serial time extensions) = isTime (timeOf s time)
+
+-- no extension of the entry is critical
+unfoldable pub calm : List ℕ → Entry → Bool
+calm s Misshapen = true
+calm s (Bare serial time) = true
+calm s (Extended serial time extensions) = not (criticalOf s extensions false)
+
+unfoldable pub allShaped : List ℕ → List Element → Bool
+allShaped s [] = true
+allShaped s (e ∷ rest) = shaped (entryOf s e) && allShaped s rest
+
+unfoldable pub allTimely : List ℕ → List Element → Bool
+allTimely s [] = true
+allTimely s (e ∷ rest) = timely s (entryOf s e) && allTimely s rest
+
+unfoldable pub allCalm : List ℕ → List Element → Bool
+allCalm s [] = true
+allCalm s (e ∷ rest) = calm s (entryOf s e) && allCalm s rest
+
+-- what the rules ask of all the entries in a stretch, found in one pass
+unfoldable pub surveyOf : List ℕ → ℕ → ℕ → Survey
+surveyOf s from end =
+    cond (allShaped s (membersOf s from end))
+    (Entries (length (membersOf s from end)) (allTimely s (membersOf s from end)) (allCalm s (membersOf s from end)))
+    Shapeless

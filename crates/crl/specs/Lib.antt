@@ -1,0 +1,6 @@
+pub mod Entries
+pub mod Shape
+pub mod Rules
+pub mod Answer
+pub mod Listed
+pub mod Age

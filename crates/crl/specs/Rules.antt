@@ -1,0 +1,53 @@
+-- Rules 2 to 8 of the CRL profile, each over the parts that rule 1 found.
+use Prim.Native.Nat.{ℕ}
+use mathlib.Core.Bool.{Bool, true, false, cond, _&&_, not}
+use mathlib.Core.List.{List, [], _∷_}
+use lib.Dec.{leb, eqb}
+use Rattle.fields.specs.declared.names.Letters.{Letters}
+use Rattle.fields.specs.declared.names.Letters.the-variants.{Two, Unfit}
+use Rattle.fields.specs.declared.times.Time.{Time}
+use Rattle.fields.specs.declared.times.Time.the-variants.{Moment, Untimely}
+use Rattle.fields.specs.Octets.{alike}
+use Rattle.fields.specs.Elements.{wholeOf, contentsOf}
+use Rattle.fields.specs.Extensions.{lookupOf, present, doubledOf, criticalOf}
+use Rattle.fields.specs.Names.{lettersOf}
+use Rattle.fields.specs.Times.{timeOf, inOrder}
+use Rattle.crl.specs.declared.shapes.Layout.{Layout}
+
+-- 2: version number 1 (v2)
+unfoldable pub rule2 : List ℕ → Layout → Bool
+rule2 s l = alike (contentsOf s (l .version)) (1 ∷ [])
+
+-- 3: algorithms equal
+unfoldable pub rule3 : List ℕ → Layout → Bool
+rule3 s l = alike (wholeOf s (l .inner)) (wholeOf s (l .outer))
+
+-- 4: issuer country: once, as PrintableString of two letters
+unfoldable pub twoLetters : Letters → Bool
+twoLetters Unfit = false
+twoLetters (Two a b) = true
+
+unfoldable pub rule4 : List ℕ → Layout → Bool
+rule4 s l = twoLetters (lettersOf s (l .country))
+
+-- 5: all times as they should be; this update not after next update
+unfoldable pub rule5 : List ℕ → Layout → Bool
+rule5 s l = inOrder (timeOf s (l .current)) (timeOf s (l .coming)) && l .timely
+
+-- 6: the entry list, if there, is not empty
+unfoldable pub rule6 : List ℕ → Layout → Bool
+rule6 s l = not (l .listing .there && eqb (l .count) 0)
+
+-- 7: no OID twice, authorityKeyIdentifier (2.5.29.35) and cRLNumber (2.5.29.20) there
+unfoldable pub rule7 : List ℕ → Layout → Bool
+rule7 s l =
+    not (doubledOf s (l .extensions))
+    && (present (lookupOf s (l .extensions) (0x55 ∷ 0x1D ∷ 0x23 ∷ []))
+    && present (lookupOf s (l .extensions) (0x55 ∷ 0x1D ∷ 0x14 ∷ [])))
+
+-- 8: nothing critical, in entries either
+unfoldable pub rule8 : List ℕ → Layout → Bool
+rule8 s l = not (criticalOf s (l .extensions) false) && l .calm
+
+unfoldable pub rules2to8 : List ℕ → Layout → List Bool
+rules2to8 s l = rule2 s l ∷ rule3 s l ∷ rule4 s l ∷ rule5 s l ∷ rule6 s l ∷ rule7 s l ∷ rule8 s l ∷ []

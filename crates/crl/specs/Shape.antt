@@ -1,0 +1,80 @@
+-- CRL rule 1, the shape: tbs holds INTEGER, algorithm, issuer, time, time, optional SEQUENCE of entries, A0 around one
+-- SEQUENCE of extensions.
+use Prim.Native.Nat.{ℕ}
+use mathlib.Core.Bool.{Bool, true, false, cond}
+use mathlib.Core.List.{List}
+use lib.Dec.{eqb}
+use Rattle.fields.specs.declared.elements.Element.{Element}
+use Rattle.fields.specs.declared.elements.Found.{Found}
+use Rattle.fields.specs.declared.elements.Found.the-variants.{One, Missing}
+use Rattle.fields.specs.declared.envelopes.Envelope.{Envelope}
+use Rattle.fields.specs.declared.envelopes.Envelope.the-variants as envelope
+use Rattle.fields.specs.declared.names.Name.{Name}
+use Rattle.fields.specs.declared.names.Name.the-variants.{Holds, Shapeless}
+use Rattle.fields.specs.declared.names.Seen.{Seen}
+use Rattle.fields.specs.Elements.{foundTagged, onFound}
+use Rattle.fields.specs.Envelope.{envelopeOf}
+use Rattle.fields.specs.Extensions.{extensionsShaped}
+use Rattle.fields.specs.Names.{nameOf}
+use Rattle.fields.specs.Steps.{onlyOf, timeAt}
+use Rattle.crl.specs.declared.entries.Survey.{Survey}
+use Rattle.crl.specs.declared.entries.Survey.the-variants as survey
+use Rattle.crl.specs.declared.shapes.Front.{Front}
+use Rattle.crl.specs.declared.shapes.Front.the-variants.{Opens, Frontless}
+use Rattle.crl.specs.declared.shapes.Layout.{Layout}
+use Rattle.crl.specs.declared.shapes.Listing.{Listing}
+use Rattle.crl.specs.declared.shapes.Shape.{Shape}
+use Rattle.crl.specs.declared.shapes.Shape.the-variants.{Parts, Broken}
+use Rattle.crl.specs.Entries.{surveyOf}
+
+unfoldable pub onEnvelope : Envelope → (Element → Element → Shape) → Shape
+onEnvelope envelope.Formless next = Broken
+onEnvelope (envelope.Parts tbs algorithm) next = next tbs algorithm
+
+unfoldable pub onName : Name → (Seen → Shape) → Shape
+onName Shapeless next = Broken
+onName (Holds seen) next = next seen
+
+-- where the entry list stands, if it is there: its contents' start and end, and the offset after it
+unfoldable pub listingOf : ℕ → Found → Listing
+listingOf from Missing = record { there = false; from = 0; end = 0; after = from }
+listingOf from (One e) = record { there = true; from = e .contents; end = e .end; after = e .end }
+
+unfoldable pub onSurvey : Survey → (ℕ → Bool → Bool → Shape) → Shape
+onSurvey survey.Shapeless next = Broken
+onSurvey (survey.Entries count timely calm) next = next count timely calm
+
+-- the first members of the tbs: INTEGER, algorithm, issuer, time, time
+unfoldable pub frontOf : List ℕ → Element → Front
+frontOf s tbs =
+    onFound (foundTagged s (tbs .contents) (tbs .end) 0x02) Frontless λ version.
+    onFound (foundTagged s (version .end) (tbs .end) 0x30) Frontless λ inner.
+    onFound (foundTagged s (inner .end) (tbs .end) 0x30) Frontless λ issuer.
+    onFound (timeAt s (issuer .end) (tbs .end)) Frontless λ current.
+    onFound (timeAt s (current .end) (tbs .end)) Frontless λ coming.
+    Opens version inner issuer current coming
+
+-- the last: A0 around one SEQUENCE of extensions
+unfoldable pub lastOf : List ℕ → ℕ → ℕ → Found
+lastOf s from end =
+    onFound (foundTagged s from end 0xA0) Missing λ last.
+    cond (eqb (last .end) end)
+    (onFound (onlyOf s last 0x30) Missing λ extensions. cond (extensionsShaped s extensions) (One extensions) Missing)
+    Missing
+
+unfoldable pub onFront : Front → (Element → Element → Element → Element → Element → Shape) → Shape
+onFront Frontless next = Broken
+onFront (Opens version inner issuer current coming) next = next version inner issuer current coming
+
+-- SEQUENCE of tbs, algorithm, BIT STRING; between the first members and the last an entry list may stand
+unfoldable pub layoutOf : List ℕ → Shape
+layoutOf s =
+    onEnvelope (envelopeOf s) λ tbs outer.
+    onFront (frontOf s tbs) λ version inner issuer current coming.
+    onName (nameOf s issuer) λ country.
+    let listing = listingOf (coming .end) (foundTagged s (coming .end) (tbs .end) 0x30) in
+    onFound (lastOf s (listing .after) (tbs .end)) Broken λ extensions.
+    onSurvey (surveyOf s (listing .from) (listing .end)) λ count timely calm.
+    Parts (record {
+        version = version; inner = inner; outer = outer; issuer = issuer; country = country; current = current;
+        coming = coming; listing = listing; extensions = extensions; count = count; timely = timely; calm = calm })

@@ -1,0 +1,87 @@
+// Entries of a CRL, and what the rules ask of all of them, found in one pass.
+use fields::{Element, Found, Time, element_at, element_tagged, extensions_shaped, some_critical, time_at, time_of};
+ghost use mathlib.Core.Path.{_≡_};
+ghost use Rattle.crl.specs.Entries.{isTime, entryOf, surveyOf};
+ghost use Rattle.fields.specs.Times.{timeOf};
+
+// An entry's serial, time and extensions.
+pub enum Entry {
+    Bare { serial: Element, time: Element },
+    Extended { serial: Element, time: Element, extensions: Element },
+    Misshapen,
+}
+
+// The number of entries, whether each has a time that is one, and whether none has a critical extension.
+pub enum Survey {
+    Entries { count: usize, timely: bool, calm: bool },
+    Shapeless,
+}
+
+pub(crate) fn survey_of(item: &[u8], from: usize, end: usize) -> Survey
+    ensures { λ r. ⌜ r ≡ surveyOf (now (item .entry)) from end ⌝ }
+{
+    let mut count = 0;
+    let mut timely = true;
+    let mut calm = true;
+    let mut at = from;
+    loop {
+        let Found::One(e) = element_at(item, at, end) else {
+            return Survey::Entries { count, timely, calm };
+        };
+        match entry_of(item, e) {
+            Entry::Misshapen => return Survey::Shapeless,
+            Entry::Bare { serial: _, time } => {
+                if !is_time(item, time) {
+                    timely = false;
+                }
+            }
+            Entry::Extended { serial: _, time, extensions } => {
+                if !is_time(item, time) {
+                    timely = false;
+                }
+                if some_critical(item, extensions, false) {
+                    calm = false;
+                }
+            }
+        }
+        count += 1;
+        at = e.end;
+    }
+}
+
+// SEQUENCE {INTEGER, time, optional SEQUENCE of extensions}.
+fn entry_of(item: &[u8], e: Element) -> Entry
+    ensures { λ r. ⌜ r ≡ entryOf (now (item .entry)) e ⌝ }
+{
+    if e.tag != 0x30 {
+        return Entry::Misshapen;
+    }
+    let Found::One(serial) = element_tagged(item, e.contents, e.end, 0x02) else {
+        return Entry::Misshapen;
+    };
+    let Found::One(time) = time_at(item, serial.end, e.end) else {
+        return Entry::Misshapen;
+    };
+    if time.end == e.end {
+        return Entry::Bare { serial, time };
+    }
+    let Found::One(extensions) = element_tagged(item, time.end, e.end, 0x30) else {
+        return Entry::Misshapen;
+    };
+    if extensions.end != e.end {
+        return Entry::Misshapen;
+    }
+    if extensions_shaped(item, extensions) {
+        return Entry::Extended { serial, time, extensions };
+    }
+    Entry::Misshapen
+}
+
+fn is_time(item: &[u8], time: Element) -> bool
+    ensures { λ r. ⌜ r ≡ isTime (timeOf (now (item .entry)) time) ⌝ }
+{
+    match time_of(item, time) {
+        Time::Moment(_) => true,
+        Time::Untimely => false,
+    }
+}

@@ -1,0 +1,95 @@
+// Whether an item is a CRL of the profile, its fields, whether it lists a serial, and its age.
+mod entries;
+mod listing;
+mod rules;
+mod shapes;
+
+use calendar::{Difference, day_difference, real_day};
+use der::{Walked, walk};
+use fields::{between, first_letter, letters_of, moment, second_letter, time_of};
+use refusal::Refusal;
+use rules::rules_2_to_8;
+use shapes::{Layout, Shape, layout_of};
+ghost use mathlib.Core.Path.{_≡_};
+ghost use Rattle.crl.specs.Age.{ageOf};
+ghost use Rattle.crl.specs.Answer.{fieldsOf, profileOf, judgedOf};
+
+pub use listing::listed;
+
+// Both updates as YYYYMMDDHHMMSS, the issuer's letters, the number of entries, offset and length of the issuer with its
+// header, and where the entries stand.
+pub struct Fields {
+    pub this_update: u64,
+    pub next_update: u64,
+    pub first: u8,
+    pub second: u8,
+    pub entries: usize,
+    pub issuer_at: usize,
+    pub issuer_len: usize,
+    pub entries_from: usize,
+    pub entries_end: usize,
+}
+
+pub enum Judged {
+    Passed(Fields),
+    Refused(Refusal),
+}
+
+pub fn judge(item: &[u8]) -> Judged
+    ensures { λ r. ⌜ r ≡ judgedOf (now (item .entry)) ⌝ }
+{
+    if let Walked::Refused(refusal) = walk(item) {
+        return Judged::Refused(refusal);
+    }
+    profile(item)
+}
+
+// The rules in order, and the fields where all of them hold.
+fn profile(item: &[u8]) -> Judged
+    ensures { λ r. ⌜ r ≡ profileOf (now (item .entry)) ⌝ }
+{
+    let Shape::Parts(l) = layout_of(item) else {
+        return Judged::Refused(Refusal::Profile { rule: 1 });
+    };
+    let rule = rules_2_to_8(item, l);
+    if rule != 0 {
+        return Judged::Refused(Refusal::Profile { rule });
+    }
+    Judged::Passed(fields_of(item, l))
+}
+
+fn fields_of(item: &[u8], l: Layout) -> Fields
+    ensures { λ r. ⌜ r ≡ fieldsOf (now (item .entry)) l ⌝ }
+{
+    let current = l.current;
+    let coming = l.coming;
+    let country = l.country;
+    let letters = letters_of(item, country);
+    Fields {
+        this_update: moment(time_of(item, current)),
+        next_update: moment(time_of(item, coming)),
+        first: first_letter(letters),
+        second: second_letter(letters),
+        entries: l.count,
+        issuer_at: l.issuer.at,
+        issuer_len: between(l.issuer.at, l.issuer.end),
+        entries_from: l.listing.from,
+        entries_end: l.listing.end,
+    }
+}
+
+// The days from the CRL's this-update day to a day.
+pub fn age(item: &[u8], day: u64) -> Difference
+    ensures { λ r. ⌜ r ≡ ageOf (now (item .entry)) day ⌝ }
+{
+    if !real_day(day) {
+        return Difference::Refused(Refusal::Argument);
+    }
+    match judge(item) {
+        Judged::Refused(refusal) => Difference::Refused(refusal),
+        Judged::Passed(fields) => {
+            let moment = fields.this_update;
+            day_difference(moment / 1000000, day)
+        }
+    }
+}

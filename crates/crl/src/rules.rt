@@ -1,0 +1,120 @@
+// Rules 2 to 8 of the CRL profile, each told by its number where it is the first that is broken.
+use crate::shapes::Layout;
+use fields::{Extension, Letters, contents, doubled, in_order, letters_of, lookup, same, some_critical, time_of, whole};
+ghost use mathlib.Core.Path.{_≡_};
+ghost use mathlib.Core.List.{[]};
+ghost use Rattle.fields.specs.Extensions.{present};
+ghost use Rattle.fields.specs.Rules.{firstBroken};
+ghost use Rattle.crl.specs.Rules.{rule2, rule3, rule4, rule5, rule6, rule7, rule8, rules2to8};
+
+// The first of rules 2 to 8 that is broken, else 0.
+pub(crate) fn rules_2_to_8(item: &[u8], l: Layout) -> u64
+    ensures { λ r. ⌜ r ≡ firstBroken 2 (rules2to8 (now (item .entry)) l) ⌝ }
+{
+    if !version_good(item, l) {
+        return 2;
+    }
+    if !algorithms_same(item, l) {
+        return 3;
+    }
+    if !country_good(item, l) {
+        return 4;
+    }
+    if !times_good(item, l) {
+        return 5;
+    }
+    if !list_filled(l) {
+        return 6;
+    }
+    if !extensions_good(item, l) {
+        return 7;
+    }
+    if !nothing_critical(item, l) {
+        return 8;
+    }
+    0
+}
+
+// 2: version number 1 (v2).
+fn version_good(item: &[u8], l: Layout) -> bool
+    ensures { λ r. ⌜ r ≡ rule2 (now (item .entry)) l ⌝ }
+{
+    let version = l.version;
+    same(contents(item, version), b"\x01")
+}
+
+// 3: algorithms equal.
+fn algorithms_same(item: &[u8], l: Layout) -> bool
+    ensures { λ r. ⌜ r ≡ rule3 (now (item .entry)) l ⌝ }
+{
+    let inner = l.inner;
+    let outer = l.outer;
+    same(whole(item, inner), whole(item, outer))
+}
+
+// 4: the issuer's country, once and as two letters.
+fn country_good(item: &[u8], l: Layout) -> bool
+    ensures { λ r. ⌜ r ≡ rule4 (now (item .entry)) l ⌝ }
+{
+    let country = l.country;
+    match letters_of(item, country) {
+        Letters::Two { first: _, second: _ } => true,
+        Letters::Unfit => false,
+    }
+}
+
+// 5: all times are times, this update not after next update.
+fn times_good(item: &[u8], l: Layout) -> bool
+    ensures { λ r. ⌜ r ≡ rule5 (now (item .entry)) l ⌝ }
+{
+    let current = l.current;
+    let coming = l.coming;
+    if !in_order(time_of(item, current), time_of(item, coming)) {
+        return false;
+    }
+    l.timely
+}
+
+// 6: the entry list, if there, is not empty.
+fn list_filled(l: Layout) -> bool
+    ensures { λ r. ⌜ r ≡ rule6 [] l ⌝ }
+{
+    if !l.listing.there {
+        return true;
+    }
+    l.count != 0
+}
+
+// 7: no OID twice, authorityKeyIdentifier and cRLNumber there.
+fn extensions_good(item: &[u8], l: Layout) -> bool
+    ensures { λ r. ⌜ r ≡ rule7 (now (item .entry)) l ⌝ }
+{
+    let extensions = l.extensions;
+    if doubled(item, extensions) {
+        return false;
+    }
+    if !there(lookup(item, extensions, b"\x55\x1d\x23")) {
+        return false;
+    }
+    there(lookup(item, extensions, b"\x55\x1d\x14"))
+}
+
+fn there(extension: Extension) -> bool
+    ensures { λ r. ⌜ r ≡ present extension ⌝ }
+{
+    match extension {
+        Extension::Is { oid: _, critical: _, value: _ } => true,
+        Extension::Absent => false,
+    }
+}
+
+// 8: nothing critical, in entries either.
+fn nothing_critical(item: &[u8], l: Layout) -> bool
+    ensures { λ r. ⌜ r ≡ rule8 (now (item .entry)) l ⌝ }
+{
+    let extensions = l.extensions;
+    if some_critical(item, extensions, false) {
+        return false;
+    }
+    l.calm
+}

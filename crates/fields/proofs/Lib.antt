@@ -1,0 +1,5 @@
+pub mod Likeness
+pub mod Members
+pub mod Places
+pub mod Digits
+pub mod Sets

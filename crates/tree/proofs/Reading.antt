@@ -1,0 +1,57 @@
+-- The walk reads a sound tree: each header tells the very contents that were written, and the fuel, the depth and the count last.
+use mathlib.Core.Path.{_≡_, refl, sym, _∙_, ap, ap₂}
+use mathlib.Core.List.{List, [], _++_}
+use Prim.Native.Nat.{ℕ, zero, suc, _+_, _*_, _≤_}
+use native.Mathlib.Omega.{arith}
+use lib.ListN.{length, length-append}
+use lib.Seq.{drop-append-seam}
+use Rattle.der.specs.declared.walking.Read.the-variants.{Past}
+use Rattle.der.specs.declared.walking.Walked.the-variants.{Passed}
+use Rattle.der.specs.Forms.{Forms}
+use Rattle.der.specs.Walk.{filled, elementAt, listAt}
+use Rattle.der.proofs.Laws.{element-node, element-leaf, list-done, list-more}
+use Rattle.tree.specs.Tree.{Tree, leaf, node, Trees, none, more, lengthEncoded, tagged, encoded, encodedAll, size, sizeAll, depth, depthAll, Sound, sound-leaf, sound-node, SoundAll, sound-none, sound-more}
+use Rattle.tree.proofs.Headings.{heading-of, length-tagged, length-encoded-some, tagged-contents}
+
+pub encoded-some : (x : Tree) → 2 ≤ length (encoded x)
+unfolding encoded
+encoded-some (leaf tag c) = omega (arith, length-tagged tag c, length-encoded-some (length c))
+encoded-some (node tag members) = omega (arith, length-tagged tag (encodedAll members), length-encoded-some (length (encodedAll members)))
+
+module _ (forms : Forms) (limit : forms .lengthOctets ≤ 3) where
+  mutual
+    unfolding encoded encodedAll size sizeAll depth depthAll filled
+
+    pub reads :
+        (x : Tree) → Sound forms x → (rest : List ℕ) (fuel base d n : ℕ) → 2 * length (encoded x ++ rest) + 1 ≤ fuel
+        → d + depth x ≤ forms .depth + 1 → n + size x ≤ forms .elements
+        → elementAt fuel forms (encoded x ++ rest) base d n ≡ Past (length (encoded x)) (n + size x)
+    reads (leaf tag c) sound rest zero base d n f deep many = absurd (omega arith)
+    reads (leaf tag c) (sound-leaf b good primitive o below contents) rest (suc fuel) base d n f deep many =
+        rw (length-tagged tag c)
+        (element-leaf forms fuel _ base d n tag _ (length c) (heading-of forms limit tag c rest good below) (omega arith) (omega arith) primitive
+        (rw tagged-contents contents))
+    reads (node tag members) sound rest zero base d n f deep many = absurd (omega arith)
+    reads (node tag members) (sound-node b good built below sound) rest (suc fuel) base d n f deep many =
+        let c : List ℕ = encodedAll members in
+        let skip : ℕ = 1 + length (lengthEncoded (length c)) in
+        let inner = reads-all members sound fuel (base + skip) (d + 1) (n + 1)
+        (omega (arith, length-append (tagged tag c) rest, length-tagged tag c)) (omega arith) (omega arith) in
+        element-node forms fuel _ base d n tag skip (length c) (heading-of forms limit tag c rest good below) (omega arith) (omega arith) built
+        ∙ rw (tagged-contents tag c rest, inner) (ap₂ Past (sym (length-tagged tag c)) (omega arith))
+
+    pub reads-all :
+        (xs : Trees) → SoundAll forms xs → (fuel base d n : ℕ) → 2 * length (encodedAll xs) + 2 ≤ fuel
+        → d + depthAll xs ≤ forms .depth + 1 → n + sizeAll xs ≤ forms .elements
+        → listAt fuel forms (encodedAll xs) base d n ≡ Passed (n + sizeAll xs)
+    reads-all none sound zero base d n f deep many = absurd (omega arith)
+    reads-all none sound-none (suc fuel) base d n f deep many =
+        list-done forms fuel [] base d n refl ∙ ap Passed (omega arith)
+    reads-all (more x xs) sound zero base d n f deep many = absurd (omega arith)
+    reads-all (more x xs) (sound-more sound rest) (suc fuel) base d n f deep many =
+        let s : List ℕ = encoded x ++ encodedAll xs in
+        let long : length s ≡ length (encoded x) + length (encodedAll xs) = length-append (encoded x) (encodedAll xs) in
+        let first = reads x sound (encodedAll xs) fuel base d n (omega arith) (omega arith) (omega arith) in
+        let others = reads-all xs rest fuel (base + length (encoded x)) d (n + size x) (omega (arith, encoded-some x)) (omega arith) (omega arith) in
+        list-more forms fuel s base d n (omega (arith, encoded-some x)) _ _ first
+        ∙ rw drop-append-seam (others ∙ ap Passed (omega arith))

@@ -1,0 +1,16 @@
+-- Every case of the table holds: each answer is computed from the definitions.
+use mathlib.Core.Path.{refl}
+use Rattle.calendar.specs.Days.{leap, february, monthLength, realDay}
+use Rattle.calendar.specs.Number.{daysOfMonths, daysOfYears, dayNumber}
+use Rattle.calendar.specs.Difference.{differenceOf}
+use Rattle.der.specs.Octets.{number, twos}
+use Rattle.der.specs.Heading.{constructed, identifierGood, within, smallest, long, headingOf}
+use Rattle.der.specs.Contents.{booleanGood, integerGood, bitStringGood, subIdentifiers, oidGood, contentsGood}
+use Rattle.der.specs.Walk.{opened, filled, after, elementAt, listAt, whole, walkOf}
+use Rattle.der.specs.Integer.{held, asked, integerOf}
+use Rattle.worked.specs.Table.{table, AllHold}
+
+pub worked : AllHold table
+unfolding leap february monthLength realDay daysOfMonths daysOfYears dayNumber differenceOf number twos constructed identifierGood within smallest long headingOf booleanGood integerGood bitStringGood subIdentifiers oidGood contentsGood opened filled after elementAt listAt whole walkOf held asked integerOf
+worked =
+    (refl, (refl, (refl, (refl, (refl, (refl, (refl, (refl, (refl, (refl, (refl, (refl, (refl, (refl, (refl, tt)))))))))))))))
