@@ -74,6 +74,11 @@ def differences():
             (19500101, 20000101, 18262))
     for first, second, number in worked + more:
         yield difference(first, second, '%d days' % number)
+    for year, february in ((2023, 28), (2024, 29)):
+        lengths = (31, february, 31, 30, 31, 30, 31, 31, 30, 31, 30, 31)
+        for month in range(1, 12):
+            first = year * 10000 + month * 100 + 1
+            yield difference(first, first + 100, '%d days' % lengths[month - 1])
     for wrong in (20230229, 19491231, 21000101, 20241301, 20240100, 0, 120240301, 2 ** 63, MOST):
         yield difference(wrong, 20240301, 'refused 1')
         yield difference(20240301, wrong, 'refused 1')
