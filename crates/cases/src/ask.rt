@@ -1,0 +1,22 @@
+// Each kind of question by its number.
+use crate::days;
+use crate::items;
+use crate::record::Question;
+use crate::say;
+
+pub(crate) fn answer(question: Question, bytes: &[u8]) {
+    let kind = question.kind;
+    let first = question.first;
+    let second = question.second;
+    match kind {
+        1 => items::walk(bytes),
+        2 => items::integer(bytes),
+        3 => days::real_day(first),
+        4 => days::real_moment(first),
+        5 => days::any_day(first),
+        6 => days::any_moment(first),
+        7 => days::difference(first, second),
+        8 => items::member(bytes, first, second),
+        _ => say::text(b"no such question"),
+    }
+}

@@ -1,0 +1,69 @@
+#!/usr/bin/env python3
+"""Writes the questions that the program `cases` is run on, and the lines that it must answer.
+
+  make.py           writes crates/cases/stdin and crates/cases/stdout
+  make.py --check   writes nothing; exit status 1 where a file is not what would be written
+"""
+import pathlib
+import sys
+
+sys.dont_write_bytecode = True
+
+import cases_contents
+import cases_days
+import cases_der
+import cases_integer
+import cases_limits
+import cases_member
+from record import NO_KIND, ROOM, WALK, Case, head
+
+PARTS = (cases_der, cases_contents, cases_limits, cases_integer, cases_member, cases_days)
+FOLDER = pathlib.Path(__file__).resolve().parents[2] / 'crates' / 'cases'
+
+
+def cases():
+    found = [case for part in PARTS for case in part.cases()]
+    found.append(Case('a kind that is none', NO_KIND, 'no such question'))
+    labels = [case.label for case in found]
+    double = sorted({label for label in labels if labels.count(label) > 1})
+    if double:
+        sys.exit('two cases have the label: ' + ', '.join(double))
+    return found
+
+
+def files():
+    """The two files. The last record is one that there is no room for, which ends the run."""
+    found = cases()
+    asked = b''.join(case.record() for case in found) + head(WALK, 0, ROOM + 1)
+    told = ''.join(case.line() for case in found) + 'a record is too long\n'
+    return {'stdin': asked, 'stdout': told.encode('ascii')}, len(found)
+
+
+def stale(name, wanted):
+    path = FOLDER / name
+    if not path.exists():
+        return '%s: the file is missing' % path.name
+    have = path.read_bytes()
+    if have == wanted:
+        return None
+    at = next((i for i, (a, b) in enumerate(zip(have, wanted)) if a != b), min(len(have), len(wanted)))
+    return '%s: differs from octet %d on' % (path.name, at)
+
+
+def main(words):
+    made, number = files()
+    if words == ['--check']:
+        faults = [fault for fault in (stale(name, made[name]) for name in made) if fault]
+        if faults:
+            sys.exit('crates/cases is not what tests/cases/make.py writes:\n' + '\n'.join(faults))
+        print('%d cases, both files as made' % number)
+    elif not words:
+        for name in made:
+            (FOLDER / name).write_bytes(made[name])
+        print('%d cases written' % number)
+    else:
+        sys.exit(__doc__)
+
+
+if __name__ == '__main__':
+    main(sys.argv[1:])
