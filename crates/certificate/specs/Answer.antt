@@ -8,9 +8,9 @@ use Rattle.der.specs.declared.walking.Walked.{Walked}
 use Rattle.der.specs.declared.walking.Walked.the-variants as walked
 use Rattle.der.specs.Forms.{paper}
 use Rattle.der.specs.Walk.{walkOf}
-use Rattle.fields.specs.Names.{firstLetter, secondLetter}
-use Rattle.fields.specs.Rules.{firstBroken}
-use Rattle.fields.specs.Times.{momentOf}
+use Rattle.names.specs.Names.{firstLetter, secondLetter}
+use Rattle.elements.specs.Rules.{firstBroken}
+use Rattle.times.specs.Times.{momentOf}
 use Rattle.certificate.specs.declared.keys.KeyId.{KeyId}
 use Rattle.certificate.specs.declared.keys.KeyId.the-variants.{Key, Keyless, Misformed}
 use Rattle.certificate.specs.declared.rules.Readings.{Readings}

@@ -8,12 +8,12 @@ use Rattle.der.specs.declared.walking.Walked.{Walked}
 use Rattle.der.specs.declared.walking.Walked.the-variants.{Passed, Refused}
 use Rattle.der.specs.Forms.{paper}
 use Rattle.der.specs.Walk.{walkOf}
-use Rattle.fields.specs.declared.elements.Element.{Element}
-use Rattle.fields.specs.declared.extensions.Extension.{Extension}
-use Rattle.fields.specs.declared.extensions.Extension.the-variants.{Is, Absent}
-use Rattle.fields.specs.Octets.{alike}
-use Rattle.fields.specs.Elements.{foundTagged, onFound, inside, contentsOf}
-use Rattle.fields.specs.Extensions.{lookupOf}
+use Rattle.elements.specs.declared.elements.Element.{Element}
+use Rattle.extensions.specs.declared.Extension.{Extension}
+use Rattle.extensions.specs.declared.Extension.the-variants.{Is, Absent}
+use Rattle.elements.specs.Octets.{alike}
+use Rattle.elements.specs.Elements.{foundTagged, onFound, inside, contentsOf}
+use Rattle.extensions.specs.Extensions.{lookupOf}
 use Rattle.certificate.specs.declared.keys.KeyId.{KeyId}
 use Rattle.certificate.specs.declared.keys.KeyId.the-variants.{Key, Keyless, Misformed}
 

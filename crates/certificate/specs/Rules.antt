@@ -4,16 +4,16 @@ use mathlib.Core.Bool.{Bool, true, false, cond, _&&_, _||_, not}
 use mathlib.Core.List.{List, [], _∷_}
 use lib.Dec.{leb, ltb, eqb}
 use lib.ListN.{length, getD}
-use Rattle.fields.specs.declared.elements.Element.{Element}
-use Rattle.fields.specs.declared.extensions.Extension.{Extension}
-use Rattle.fields.specs.declared.extensions.Extension.the-variants.{Is, Absent}
-use Rattle.fields.specs.declared.names.Letters.{Letters}
-use Rattle.fields.specs.declared.names.Letters.the-variants.{Two, Unfit}
-use Rattle.fields.specs.Octets.{alike}
-use Rattle.fields.specs.Elements.{inside, wholeOf, contentsOf}
-use Rattle.fields.specs.Extensions.{lookupOf, present, doubledOf, criticalOf}
-use Rattle.fields.specs.Names.{lettersOf}
-use Rattle.fields.specs.Times.{timeOf, inOrder}
+use Rattle.elements.specs.declared.elements.Element.{Element}
+use Rattle.extensions.specs.declared.Extension.{Extension}
+use Rattle.extensions.specs.declared.Extension.the-variants.{Is, Absent}
+use Rattle.names.specs.declared.Letters.{Letters}
+use Rattle.names.specs.declared.Letters.the-variants.{Two, Unfit}
+use Rattle.elements.specs.Octets.{alike}
+use Rattle.elements.specs.Elements.{inside, wholeOf, contentsOf}
+use Rattle.extensions.specs.Extensions.{lookupOf, present, doubledOf, criticalOf}
+use Rattle.names.specs.Names.{lettersOf}
+use Rattle.times.specs.Times.{timeOf, inOrder}
 use Rattle.certificate.specs.declared.keys.KeyId.{KeyId}
 use Rattle.certificate.specs.declared.keys.KeyId.the-variants.{Key, Keyless, Misformed}
 use Rattle.certificate.specs.declared.rules.Readings.{Readings}

@@ -1,14 +1,14 @@
 // Key identifiers and the document type list, inside the extensions that hold them.
 use der::Walked;
 use der::walk;
-use fields::Element;
-use fields::Extension;
-use fields::Found;
-use fields::contents;
-use fields::element_at;
-use fields::element_tagged;
-use fields::lookup;
-use fields::same;
+use elements::Element;
+use extensions::Extension;
+use elements::Found;
+use elements::contents;
+use elements::element_at;
+use elements::element_tagged;
+use extensions::lookup;
+use elements::same;
 ghost use mathlib.Core.Path.{_≡_};
 ghost use Rattle.certificate.specs.Keys.{walks, octetString, firstOf, subjectKey, authorityKey, typesIn, listGood, documentTypes};
 

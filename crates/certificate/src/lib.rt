@@ -5,10 +5,10 @@ mod shapes;
 
 use der::Walked;
 use der::walk;
-use fields::between;
-use fields::first_letter;
-use fields::moment;
-use fields::second_letter;
+use elements::between;
+use names::first_letter;
+use times::moment;
+use names::second_letter;
 use keys::KeyId;
 use refusal::Refusal;
 use rules::Readings;

@@ -1,16 +1,16 @@
 // Rule 1: the shape of a certificate.
-use fields::Element;
-use fields::Envelope;
-use fields::Found;
-use fields::Name;
-use fields::Seen;
-use fields::element_tagged;
-use fields::envelope_of;
-use fields::extensions_shaped;
-use fields::name_of;
-use fields::only_member;
-use fields::past;
-use fields::time_at;
+use elements::Element;
+use elements::Envelope;
+use elements::Found;
+use names::Name;
+use names::Seen;
+use elements::element_tagged;
+use elements::envelope_of;
+use extensions::extensions_shaped;
+use names::name_of;
+use elements::only_member;
+use elements::past;
+use times::time_at;
 ghost use mathlib.Core.Path.{_≡_};
 ghost use Rattle.certificate.specs.Shape.{frontOf, validityOf, uniqueEnd, backOf, layoutOf};
 

@@ -4,15 +4,15 @@ use mathlib.Core.Bool.{Bool, true, false, cond, _&&_, not}
 use mathlib.Core.List.{List, [], _∷_}
 use lib.Dec.{eqb}
 use lib.ListN.{length}
-use Rattle.fields.specs.declared.elements.Element.{Element}
-use Rattle.fields.specs.declared.elements.Found.{Found}
-use Rattle.fields.specs.declared.elements.Found.the-variants.{One, Missing}
-use Rattle.fields.specs.declared.times.Time.{Time}
-use Rattle.fields.specs.declared.times.Time.the-variants.{Moment, Untimely}
-use Rattle.fields.specs.Elements.{foundTagged, onFound, membersOf}
-use Rattle.fields.specs.Extensions.{extensionsShaped, criticalOf}
-use Rattle.fields.specs.Steps.{timeAt}
-use Rattle.fields.specs.Times.{timeOf}
+use Rattle.elements.specs.declared.elements.Element.{Element}
+use Rattle.elements.specs.declared.elements.Found.{Found}
+use Rattle.elements.specs.declared.elements.Found.the-variants.{One, Missing}
+use Rattle.times.specs.declared.Time.{Time}
+use Rattle.times.specs.declared.Time.the-variants.{Moment, Untimely}
+use Rattle.elements.specs.Elements.{foundTagged, onFound, membersOf}
+use Rattle.extensions.specs.Extensions.{extensionsShaped, criticalOf}
+use Rattle.elements.specs.Steps.{timeAt}
+use Rattle.times.specs.Times.{timeOf}
 use Rattle.crl.specs.declared.entries.Entry.{Entry}
 use Rattle.crl.specs.declared.entries.Entry.the-variants.{Bare, Extended, Misshapen}
 use Rattle.crl.specs.declared.entries.Survey.{Survey}

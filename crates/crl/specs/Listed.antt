@@ -2,9 +2,9 @@
 use Prim.Native.Nat.{ℕ}
 use mathlib.Core.Bool.{Bool, true, false, cond}
 use mathlib.Core.List.{List, [], _∷_}
-use Rattle.fields.specs.declared.elements.Element.{Element}
-use Rattle.fields.specs.Octets.{alike}
-use Rattle.fields.specs.Elements.{foundTagged, onFound, membersOf, contentsOf}
+use Rattle.elements.specs.declared.elements.Element.{Element}
+use Rattle.elements.specs.Octets.{alike}
+use Rattle.elements.specs.Elements.{foundTagged, onFound, membersOf, contentsOf}
 
 -- the entry's INTEGER has those contents
 unfoldable pub lists : List ℕ → List ℕ → Element → Bool

@@ -3,15 +3,15 @@ use Prim.Native.Nat.{ℕ}
 use mathlib.Core.Bool.{Bool, true, false, cond, _&&_, not}
 use mathlib.Core.List.{List, [], _∷_}
 use lib.Dec.{leb, eqb}
-use Rattle.fields.specs.declared.names.Letters.{Letters}
-use Rattle.fields.specs.declared.names.Letters.the-variants.{Two, Unfit}
-use Rattle.fields.specs.declared.times.Time.{Time}
-use Rattle.fields.specs.declared.times.Time.the-variants.{Moment, Untimely}
-use Rattle.fields.specs.Octets.{alike}
-use Rattle.fields.specs.Elements.{wholeOf, contentsOf}
-use Rattle.fields.specs.Extensions.{lookupOf, present, doubledOf, criticalOf}
-use Rattle.fields.specs.Names.{lettersOf}
-use Rattle.fields.specs.Times.{timeOf, inOrder}
+use Rattle.names.specs.declared.Letters.{Letters}
+use Rattle.names.specs.declared.Letters.the-variants.{Two, Unfit}
+use Rattle.times.specs.declared.Time.{Time}
+use Rattle.times.specs.declared.Time.the-variants.{Moment, Untimely}
+use Rattle.elements.specs.Octets.{alike}
+use Rattle.elements.specs.Elements.{wholeOf, contentsOf}
+use Rattle.extensions.specs.Extensions.{lookupOf, present, doubledOf, criticalOf}
+use Rattle.names.specs.Names.{lettersOf}
+use Rattle.times.specs.Times.{timeOf, inOrder}
 use Rattle.crl.specs.declared.rules.Readings.{Readings}
 use Rattle.crl.specs.declared.shapes.Layout.{Layout}
 

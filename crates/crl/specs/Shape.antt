@@ -4,19 +4,19 @@ use Prim.Native.Nat.{ℕ}
 use mathlib.Core.Bool.{Bool, true, false, cond}
 use mathlib.Core.List.{List}
 use lib.Dec.{eqb}
-use Rattle.fields.specs.declared.elements.Element.{Element}
-use Rattle.fields.specs.declared.elements.Found.{Found}
-use Rattle.fields.specs.declared.elements.Found.the-variants.{One, Missing}
-use Rattle.fields.specs.declared.envelopes.Envelope.{Envelope}
-use Rattle.fields.specs.declared.envelopes.Envelope.the-variants as envelope
-use Rattle.fields.specs.declared.names.Name.{Name}
-use Rattle.fields.specs.declared.names.Name.the-variants.{Holds, Shapeless}
-use Rattle.fields.specs.declared.names.Seen.{Seen}
-use Rattle.fields.specs.Elements.{foundTagged, onFound}
-use Rattle.fields.specs.Envelope.{envelopeOf}
-use Rattle.fields.specs.Extensions.{extensionsShaped}
-use Rattle.fields.specs.Names.{nameOf}
-use Rattle.fields.specs.Steps.{onlyOf, timeAt}
+use Rattle.elements.specs.declared.elements.Element.{Element}
+use Rattle.elements.specs.declared.elements.Found.{Found}
+use Rattle.elements.specs.declared.elements.Found.the-variants.{One, Missing}
+use Rattle.elements.specs.declared.envelopes.Envelope.{Envelope}
+use Rattle.elements.specs.declared.envelopes.Envelope.the-variants as envelope
+use Rattle.names.specs.declared.Name.{Name}
+use Rattle.names.specs.declared.Name.the-variants.{Holds, Shapeless}
+use Rattle.names.specs.declared.Seen.{Seen}
+use Rattle.elements.specs.Elements.{foundTagged, onFound}
+use Rattle.elements.specs.Envelope.{envelopeOf}
+use Rattle.extensions.specs.Extensions.{extensionsShaped}
+use Rattle.names.specs.Names.{nameOf}
+use Rattle.elements.specs.Steps.{onlyOf, timeAt}
 use Rattle.crl.specs.declared.entries.Survey.{Survey}
 use Rattle.crl.specs.declared.entries.Survey.the-variants as survey
 use Rattle.crl.specs.declared.shapes.Front.{Front}

@@ -1,8 +1,10 @@
 // Entries of a CRL, and what the rules ask of all of them, found in one pass.
-use fields::{Element, Found, Time, element_at, element_tagged, extensions_shaped, some_critical, time_at, time_of};
+use elements::{Element, Found, element_at, element_tagged};
+use extensions::{extensions_shaped, some_critical};
+use times::{Time, time_at, time_of};
 ghost use mathlib.Core.Path.{_≡_};
 ghost use Rattle.crl.specs.Entries.{isTime, entryOf, surveyOf};
-ghost use Rattle.fields.specs.Times.{timeOf};
+ghost use Rattle.times.specs.Times.{timeOf};
 
 // An entry's serial, time and extensions.
 pub enum Entry {

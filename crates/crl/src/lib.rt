@@ -6,7 +6,9 @@ mod shapes;
 
 use calendar::{Difference, day_difference, real_day};
 use der::{Walked, walk};
-use fields::{between, first_letter, moment, second_letter};
+use elements::between;
+use names::{first_letter, second_letter};
+use times::moment;
 use refusal::Refusal;
 use rules::{Readings, readings_of, rules_2_to_8};
 use shapes::{Layout, Shape, layout_of};

@@ -1,5 +1,5 @@
 // Whether a serial is listed.
-use fields::{Element, Found, contents, element_at, element_tagged, same};
+use elements::{Element, Found, contents, element_at, element_tagged, same};
 ghost use mathlib.Core.Path.{_≡_};
 ghost use Rattle.crl.specs.Listed.{lists, listedOf};
 

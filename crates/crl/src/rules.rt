@@ -1,9 +1,12 @@
 // Rules 2 to 8 of the CRL profile, each told by its number where it is the first that is broken.
 use crate::shapes::Layout;
-use fields::{Extension, Letters, Time, contents, doubled, in_order, letters_of, lookup, same, some_critical, time_of, whole};
+use elements::{contents, same, whole};
+use extensions::{Extension, doubled, lookup, some_critical};
+use names::{Letters, letters_of};
+use times::{Time, in_order, time_of};
 ghost use mathlib.Core.Path.{_≡_};
-ghost use Rattle.fields.specs.Extensions.{present};
-ghost use Rattle.fields.specs.Rules.{firstBroken};
+ghost use Rattle.extensions.specs.Extensions.{present};
+ghost use Rattle.elements.specs.Rules.{firstBroken};
 ghost use Rattle.crl.specs.Rules.{readingsOf, rule2, rule3, rule4, rule5, rule6, rule7, rule8, rules2to8};
 
 // What several rules and the answer read, each once.

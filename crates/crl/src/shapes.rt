@@ -1,8 +1,9 @@
 // CRL rule 1: the shape.
 use crate::entries::{Survey, survey_of};
-use fields::{
-    Element, Envelope, Found, Name, Seen, element_tagged, envelope_of, extensions_shaped, name_of, only_member, time_at,
-};
+use elements::{Element, Envelope, Found, element_tagged, envelope_of, only_member};
+use extensions::extensions_shaped;
+use names::{Name, Seen, name_of};
+use times::time_at;
 ghost use mathlib.Core.Path.{_≡_};
 ghost use Rattle.crl.specs.Shape.{frontOf, lastOf, listingOf, layoutOf};
 

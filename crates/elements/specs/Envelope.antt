@@ -1,0 +1,17 @@
+-- What certificates and CRLs have around them: SEQUENCE of tbs SEQUENCE, algorithm SEQUENCE, BIT STRING.
+use Prim.Native.Nat.{ℕ}
+use mathlib.Core.Bool.{cond}
+use mathlib.Core.List.{List}
+use lib.Dec.{eqb}
+use lib.ListN.{length}
+use Rattle.elements.specs.declared.envelopes.Envelope.{Envelope}
+use Rattle.elements.specs.declared.envelopes.Envelope.the-variants.{Parts, Formless}
+use Rattle.elements.specs.Elements.{foundTagged, onFound}
+
+unfoldable pub envelopeOf : List ℕ → Envelope
+envelopeOf s =
+    onFound (foundTagged s 0 (length s) 0x30) Formless λ outermost.
+    onFound (foundTagged s (outermost .contents) (outermost .end) 0x30) Formless λ tbs.
+    onFound (foundTagged s (tbs .end) (outermost .end) 0x30) Formless λ algorithm.
+    onFound (foundTagged s (algorithm .end) (outermost .end) 0x03) Formless λ signature.
+    cond (eqb (signature .end) (outermost .end)) (Parts tbs algorithm) Formless

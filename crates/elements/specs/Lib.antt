@@ -1,0 +1,5 @@
+pub mod Octets
+pub mod Elements
+pub mod Envelope
+pub mod Steps
+pub mod Rules

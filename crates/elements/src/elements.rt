@@ -1,0 +1,72 @@
+// The elements that stand in a stretch of a walked item.
+use der::{Step, member};
+ghost use mathlib.Core.Path.{_≡_};
+ghost use Rattle.elements.specs.Elements.{foundAt, foundTagged, wholeOf, contentsOf};
+ghost use Prim.Native.Nat.{_-_};
+ghost use lib.ListN.{take, drop};
+
+// An element by its identifier and three offsets: of its first octet, of its contents, and after it.
+pub struct Element {
+    pub tag: u8,
+    pub at: usize,
+    pub contents: usize,
+    pub end: usize,
+}
+
+pub enum Found {
+    One(Element),
+    Missing,
+}
+
+// The element that starts at `from`, before `end`.
+pub fn element_at(item: &[u8], from: usize, end: usize) -> Found
+    ensures { λ r. ⌜ r ≡ foundAt (now (item .entry)) from end ⌝ }
+{
+    match member(item, from, end) {
+        Step::At { tag, contents, end } => Found::One(Element { tag, at: from, contents, end }),
+        Step::Nothing => Found::Missing,
+    }
+}
+
+// The same, if it has the tag.
+pub fn element_tagged(item: &[u8], from: usize, end: usize, tag: u8) -> Found
+    ensures { λ r. ⌜ r ≡ foundTagged (now (item .entry)) from end tag ⌝ }
+{
+    let Found::One(e) = element_at(item, from, end) else {
+        return Found::Missing;
+    };
+    if e.tag == tag {
+        return Found::One(e);
+    }
+    Found::Missing
+}
+
+// The octets of an element, its header among them.
+pub fn whole(item: &[u8], e: Element) -> &[u8]
+    ensures { λ r. ⌜ now r ≡ wholeOf (now (item .entry)) e ⌝ }
+{
+    stretch(item, e.at, e.end)
+}
+
+// The contents octets of an element.
+pub fn contents(item: &[u8], e: Element) -> &[u8]
+    ensures { λ r. ⌜ now r ≡ contentsOf (now (item .entry)) e ⌝ }
+{
+    stretch(item, e.contents, e.end)
+}
+
+// The octets from one offset to another, as many as there are.
+fn stretch(item: &[u8], from: usize, end: usize) -> &[u8]
+    ensures { λ r. ⌜ now r ≡ take (end - from) (drop from (now (item .entry))) ⌝ }
+{
+    if item.len() < from {
+        return &item[0..0];
+    }
+    if end < from {
+        return &item[0..0];
+    }
+    if item.len() < end {
+        return &item[from..];
+    }
+    &item[from..end]
+}

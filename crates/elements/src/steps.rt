@@ -1,0 +1,38 @@
+// Steps that both shapes take.
+use crate::elements::{Element, Found, element_tagged};
+ghost use mathlib.Core.Path.{_≡_};
+ghost use Prim.Native.Nat.{_-_};
+ghost use Rattle.elements.specs.Steps.{onlyOf, pastOf};
+
+// The one member of an element, if it has the tag.
+pub fn only_member(item: &[u8], e: Element, tag: u8) -> Found
+    ensures { λ r. ⌜ r ≡ onlyOf (now (item .entry)) e tag ⌝ }
+{
+    let Found::One(member) = element_tagged(item, e.contents, e.end, tag) else {
+        return Found::Missing;
+    };
+    if member.end == e.end {
+        return Found::One(member);
+    }
+    Found::Missing
+}
+
+// Where an element with that tag ends, or where it would start if it is left out.
+pub fn past(item: &[u8], from: usize, end: usize, tag: u8) -> usize
+    ensures { λ r. ⌜ r ≡ pastOf (now (item .entry)) from end tag ⌝ }
+{
+    let Found::One(e) = element_tagged(item, from, end, tag) else {
+        return from;
+    };
+    e.end
+}
+
+// How many octets stand from one offset to another.
+pub fn between(at: usize, end: usize) -> usize
+    ensures { λ r. ⌜ r ≡ end - at ⌝ }
+{
+    if end < at {
+        return 0;
+    }
+    end - at
+}

@@ -1,0 +1,94 @@
+-- Extensions: SEQUENCE {OID, optional BOOLEAN which is then TRUE, OCTET STRING}.
+use Prim.Native.Nat.{ℕ}
+use mathlib.Core.Bool.{Bool, true, false, cond, _&&_, _||_, not}
+use mathlib.Core.List.{List, [], _∷_}
+use lib.Dec.{eqb}
+use lib.ListN.{getD}
+use Rattle.elements.specs.declared.elements.Element.{Element}
+use Rattle.elements.specs.declared.elements.Found.{Found}
+use Rattle.elements.specs.declared.elements.Found.the-variants.{One}
+use Rattle.extensions.specs.declared.Extension.{Extension}
+use Rattle.extensions.specs.declared.Extension.the-variants.{Is, Absent}
+use Rattle.elements.specs.Octets.{alike}
+use Rattle.elements.specs.Elements.{foundAt, foundTagged, withTag, onFound, inside, contentsOf}
+
+-- the OCTET STRING, which is the last
+unfoldable pub holdingOf : Element → Element → Bool → Found → Extension
+holdingOf extension oid critical next =
+    onFound (withTag 0x04 next) Absent λ value. cond (eqb (value .end) (extension .end)) (Is oid critical value) Absent
+
+-- an extension, or `Absent` for what is none; a BOOLEAN after the OID is TRUE and marks it as critical
+unfoldable pub extensionOf : List ℕ → Element → Extension
+extensionOf s e =
+    cond (eqb (e .tag) 0x30)
+    (onFound (foundTagged s (e .contents) (e .end) 0x06) Absent λ oid.
+    onFound (foundAt s (oid .end) (e .end)) Absent λ next.
+    cond (eqb (next .tag) 0x01)
+    (cond (eqb (getD s (next .contents) 0) 255) (holdingOf e oid true (foundAt s (next .end) (e .end))) Absent)
+    (holdingOf e oid false (One next)))
+    Absent
+
+unfoldable pub present : Extension → Bool
+present (Is oid critical value) = true
+present Absent = false
+
+-- all of them are extensions
+unfoldable pub allShaped : List ℕ → List Element → Bool
+allShaped s [] = true
+allShaped s (e ∷ rest) = cond (present (extensionOf s e)) (allShaped s rest) false
+
+-- a SEQUENCE of extensions
+unfoldable pub extensionsShaped : List ℕ → Element → Bool
+extensionsShaped s e = cond (eqb (e .tag) 0x30) (allShaped s (inside s e)) false
+
+unfoldable pub hasOid : List ℕ → List ℕ → Extension → Bool
+hasOid s oid (Is own critical value) = alike (contentsOf s own) oid
+hasOid s oid Absent = false
+
+-- the first of them with that OID
+unfoldable pub firstWith : List ℕ → List ℕ → List Element → Extension
+firstWith s oid [] = Absent
+firstWith s oid (e ∷ rest) = cond (hasOid s oid (extensionOf s e)) (extensionOf s e) (firstWith s oid rest)
+
+unfoldable pub lookupOf : List ℕ → Element → List ℕ → Extension
+lookupOf s extensions oid = firstWith s oid (inside s extensions)
+
+-- where the first of them with that OID starts, else `none`
+unfoldable pub placeIn : List ℕ → List ℕ → List Element → ℕ → ℕ
+placeIn s oid [] none = none
+placeIn s oid (e ∷ rest) none = cond (hasOid s oid (extensionOf s e)) (e .at) (placeIn s oid rest none)
+
+-- whether two extensions have one OID
+unfoldable pub sameOids : List ℕ → Extension → Extension → Bool
+sameOids s Absent other = false
+sameOids s (Is oid critical value) other = hasOid s (contentsOf s oid) other
+
+-- whether one of them has the OID of this one
+unfoldable pub standsIn : List ℕ → Extension → List Element → Bool
+standsIn s extension [] = false
+standsIn s extension (e ∷ rest) = cond (sameOids s extension (extensionOf s e)) true (standsIn s extension rest)
+
+-- whether some OID stands twice
+unfoldable pub doubledIn : List ℕ → List Element → Bool
+doubledIn s [] = false
+doubledIn s (e ∷ rest) = cond (standsIn s (extensionOf s e) rest) true (doubledIn s rest)
+
+unfoldable pub doubledOf : List ℕ → Element → Bool
+doubledOf s extensions = doubledIn s (inside s extensions)
+
+-- keyUsage 2.5.29.15 and basicConstraints 2.5.29.19
+unfoldable pub usual : List ℕ → Element → Bool
+usual s oid =
+    alike (contentsOf s oid) (0x55 ∷ 0x1D ∷ 0x0F ∷ []) || alike (contentsOf s oid) (0x55 ∷ 0x1D ∷ 0x13 ∷ [])
+
+-- critical; where `allow` is true keyUsage and basicConstraints are let pass
+unfoldable pub refusedCritical : List ℕ → Bool → Extension → Bool
+refusedCritical s allow Absent = false
+refusedCritical s allow (Is oid critical value) = critical && not (allow && usual s oid)
+
+unfoldable pub someCritical : List ℕ → Bool → List Element → Bool
+someCritical s allow [] = false
+someCritical s allow (e ∷ rest) = cond (refusedCritical s allow (extensionOf s e)) true (someCritical s allow rest)
+
+unfoldable pub criticalOf : List ℕ → Element → Bool → Bool
+criticalOf s extensions allow = someCritical s allow (inside s extensions)

@@ -1,0 +1,181 @@
+// Extensions: their shape, the look-up by OID, and that none stands twice.
+use elements::{Element, Found, contents, element_at, element_tagged, same};
+ghost use mathlib.Core.Path.{_≡_};
+ghost use Rattle.extensions.specs.Extensions.{holdingOf, extensionOf, extensionsShaped, lookupOf, doubledOf, hasOid, placeIn, sameOids, refusedCritical, criticalOf};
+ghost use Rattle.elements.specs.Elements.{membersOf};
+
+pub enum Extension {
+    Is { oid: Element, critical: bool, value: Element },
+    Absent,
+}
+
+// SEQUENCE {OID, optional BOOLEAN which is then TRUE, OCTET STRING}.
+fn extension_of(item: &[u8], e: Element) -> Extension
+    ensures { λ r. ⌜ r ≡ extensionOf (now (item .entry)) e ⌝ }
+{
+    if e.tag != 0x30 {
+        return Extension::Absent;
+    }
+    let Found::One(oid) = element_tagged(item, e.contents, e.end, 0x06) else {
+        return Extension::Absent;
+    };
+    let Found::One(next) = element_at(item, oid.end, e.end) else {
+        return Extension::Absent;
+    };
+    if next.tag != 0x01 {
+        return holding(e, oid, false, Found::One(next));
+    }
+    let flag = next.contents;
+    if item.len() <= flag {
+        return Extension::Absent;
+    }
+    if item[flag] != 0xff {
+        return Extension::Absent;
+    }
+    holding(e, oid, true, element_at(item, next.end, e.end))
+}
+
+// The OCTET STRING, which is the extension's last element.
+fn holding(extension: Element, oid: Element, critical: bool, next: Found) -> Extension
+    ensures { λ r. ⌜ r ≡ holdingOf extension oid critical next ⌝ }
+{
+    let Found::One(value) = next else {
+        return Extension::Absent;
+    };
+    if value.tag != 0x04 {
+        return Extension::Absent;
+    }
+    if value.end == extension.end {
+        return Extension::Is { oid, critical, value };
+    }
+    Extension::Absent
+}
+
+// A SEQUENCE of extensions.
+pub fn extensions_shaped(item: &[u8], e: Element) -> bool
+    ensures { λ r. ⌜ r ≡ extensionsShaped (now (item .entry)) e ⌝ }
+{
+    if e.tag != 0x30 {
+        return false;
+    }
+    let mut at = e.contents;
+    loop {
+        let Found::One(one) = element_at(item, at, e.end) else {
+            return true;
+        };
+        let Extension::Is { oid: _, critical: _, value: _ } = extension_of(item, one) else {
+            return false;
+        };
+        at = one.end;
+    }
+}
+
+// The extension with that OID, the first of them.
+pub fn lookup(item: &[u8], extensions: Element, oid: &[u8]) -> Extension
+    ensures { λ r. ⌜ r ≡ lookupOf (now (item .entry)) extensions (now (oid .entry)) ⌝ }
+{
+    let end = extensions.end;
+    let at = place_of(item, extensions.contents, end, oid);
+    let Found::One(e) = element_at(item, at, end) else {
+        return Extension::Absent;
+    };
+    extension_of(item, e)
+}
+
+// Whether some OID stands twice.
+pub fn doubled(item: &[u8], extensions: Element) -> bool
+    ensures { λ r. ⌜ r ≡ doubledOf (now (item .entry)) extensions ⌝ }
+{
+    let end = extensions.end;
+    let mut at = extensions.contents;
+    let mut twice = false;
+    'each: loop {
+        let Found::One(e) = element_at(item, at, end) else {
+            break 'each;
+        };
+        let own = extension_of(item, e);
+        let mut later = e.end;
+        loop {
+            let Found::One(other) = element_at(item, later, end) else {
+                break;
+            };
+            if alike_oids(item, own, extension_of(item, other)) {
+                twice = true;
+                break 'each;
+            }
+            later = other.end;
+        }
+        at = e.end;
+    }
+    twice
+}
+
+// Whether a critical extension is there; with `allow`, one beside keyUsage and basicConstraints.
+pub fn some_critical(item: &[u8], extensions: Element, allow: bool) -> bool
+    ensures { λ r. ⌜ r ≡ criticalOf (now (item .entry)) extensions allow ⌝ }
+{
+    let mut at = extensions.contents;
+    loop {
+        let Found::One(e) = element_at(item, at, extensions.end) else {
+            return false;
+        };
+        if refused_critical(item, allow, extension_of(item, e)) {
+            return true;
+        }
+        at = e.end;
+    }
+}
+
+// The offset of the first extension with that OID, or the end where there is none.
+fn place_of(item: &[u8], from: usize, end: usize, oid: &[u8]) -> usize
+    ensures { λ r. ⌜ r ≡ placeIn (now (item .entry)) (now (oid .entry)) (membersOf (now (item .entry)) from end) end ⌝ }
+{
+    let mut at = from;
+    loop {
+        let Found::One(e) = element_at(item, at, end) else {
+            break end;
+        };
+        if has_oid(item, oid, extension_of(item, e)) {
+            break at;
+        }
+        at = e.end;
+    }
+}
+
+fn has_oid(item: &[u8], oid: &[u8], extension: Extension) -> bool
+    ensures { λ r. ⌜ r ≡ hasOid (now (item .entry)) (now (oid .entry)) extension ⌝ }
+{
+    let Extension::Is { oid: own, critical: _, value: _ } = extension else {
+        return false;
+    };
+    same(contents(item, own), oid)
+}
+
+// Whether two extensions have one OID.
+fn alike_oids(item: &[u8], one: Extension, other: Extension) -> bool
+    ensures { λ r. ⌜ r ≡ sameOids (now (item .entry)) one other ⌝ }
+{
+    let Extension::Is { oid, critical: _, value: _ } = one else {
+        return false;
+    };
+    has_oid(item, contents(item, oid), other)
+}
+
+fn refused_critical(item: &[u8], allow: bool, extension: Extension) -> bool
+    ensures { λ r. ⌜ r ≡ refusedCritical (now (item .entry)) allow extension ⌝ }
+{
+    let Extension::Is { oid, critical, value: _ } = extension else {
+        return false;
+    };
+    if !critical {
+        return false;
+    }
+    if !allow {
+        return true;
+    }
+    let own = contents(item, oid);
+    if same(own, b"\x55\x1d\x0f") {
+        return false;
+    }
+    !same(own, b"\x55\x1d\x13")
+}

@@ -1,0 +1,62 @@
+-- The attributes of a SET and the SETs of a name, one by one as they are found.
+use Prim.Native.Nat.{ℕ}
+use mathlib.Core.List.{List, _∷_}
+use mathlib.Core.Path.{_≡_}
+use borrow.Author.Tests.{eq-eqb, ne-eqb}
+use lib.Dec.{eqb·suc-zero}
+use Rattle.elements.specs.declared.elements.Element.{Element}
+use Rattle.elements.specs.declared.elements.Found.the-variants.{One, Missing}
+use Rattle.names.specs.declared.Attribute.the-variants.{Country, Other, Misshapen}
+use Rattle.names.specs.declared.Seen.{Seen}
+use Rattle.names.specs.declared.Name.the-variants.{Holds, Shapeless}
+use Rattle.elements.specs.Elements.{foundAt, membersOf, inside}
+use Rattle.names.specs.Names.{attributeOf, oneMore, attributed, attributesOf, oneSet, afterSet, setsOf}
+use Rattle.elements.proofs.Members.{members-none, members-more}
+
+-- one attribute, and those after it
+module _ (s : List ℕ) (e : Element) (rest : List Element) (seen : Seen) where
+  pub attributes-bad : attributeOf s e ≡ Misshapen → attributesOf s (e ∷ rest) seen ≡ Shapeless
+  unfolding attributesOf attributed
+  attributes-bad h = simp h
+
+  pub attributes-other : attributeOf s e ≡ Other → attributesOf s (e ∷ rest) seen ≡ attributesOf s rest seen
+  unfolding attributesOf attributed
+  attributes-other h = simp h
+
+  pub attributes-country : {value : Element} → attributeOf s e ≡ Country value → attributesOf s (e ∷ rest) seen ≡ attributesOf s rest (oneMore seen value)
+  unfolding attributesOf attributed
+  attributes-country h = simp h
+
+-- after the last attribute
+pub attributes-done : (s : List ℕ) (at end : ℕ) (seen : Seen) → foundAt s at end ≡ Missing → attributesOf s (membersOf s at end) seen ≡ Holds seen
+unfolding attributesOf
+attributes-done s at end seen h = rw (members-none s at end h)
+
+module _ (s : List ℕ) (e : Element) (seen : Seen) where
+  pub set-not : (e .tag ≡ 0x31 → ⊥) → oneSet s e seen ≡ Shapeless
+  unfolding oneSet
+  set-not h = simp (ne-eqb _ _ h)
+
+  module _ (tag : e .tag ≡ 0x31) where
+    pub set-empty : foundAt s (e .contents) (e .end) ≡ Missing → oneSet s e seen ≡ Shapeless
+    unfolding oneSet inside
+    set-empty h = simp (eq-eqb _ _ tag, members-none s (e .contents) (e .end) h)
+
+    pub set-filled : {first : Element} → foundAt s (e .contents) (e .end) ≡ One first → oneSet s e seen ≡ attributesOf s (first ∷ membersOf s (first .end) (e .end)) seen
+    unfolding oneSet inside
+    set-filled h = simp (eq-eqb _ _ tag, members-more s (e .contents) (e .end) h, eqb·suc-zero)
+
+-- one SET, and those after it
+module _ (s : List ℕ) (at end : ℕ) (seen : Seen) where
+  pub sets-done : foundAt s at end ≡ Missing → setsOf s (membersOf s at end) seen ≡ Holds seen
+  unfolding setsOf
+  sets-done h = rw (members-none s at end h)
+
+  module _ {e : Element} (found : foundAt s at end ≡ One e) where
+    pub sets-bad : oneSet s e seen ≡ Shapeless → setsOf s (membersOf s at end) seen ≡ Shapeless
+    unfolding setsOf afterSet
+    sets-bad h = rw (members-more s at end found) (simp h)
+
+    pub sets-more : {more : Seen} → oneSet s e seen ≡ Holds more → setsOf s (membersOf s at end) seen ≡ setsOf s (membersOf s (e .end) end) more
+    unfolding setsOf afterSet
+    sets-more h = rw (members-more s at end found) (simp h)

@@ -1,0 +1,75 @@
+-- The SETs from here on, with the countryNames seen before them, come to what the whole name comes to.
+use Prim.Native.Nat.{_-_}
+use mathlib.Core.Path.{_≡_, sym, _∙_}
+use native.Mathlib.Omega.{arith}
+use borrow.Author.Needs.{needs}
+use borrow.Author.Tests.{eq-eqb, ne-eqb}
+use Rattle.elements.specs.Elements.{membersOf, inside}
+use Rattle.names.specs.Names.{setsOf, nameOf}
+use Rattle.elements.proofs.Members.{found-within}
+use Rattle.names.proofs.Sets.{sets-done, sets-bad, sets-more}
+use Rattle.names.proofs.name_of.Statement.{statement}
+use Rattle.names.proofs.name_of.Tie as tie
+
+abbrev Inv-loop : tie.InvT-loop
+Inv-loop item e seen₀ at₀ seen at = setsOf item (membersOf item at (e .end)) seen ≡ nameOf item e
+
+abbrev μ-loop : tie.MeasureT-loop
+μ-loop item e seen₀ at₀ seen at = e .end - at
+
+returns : tie.Need-returns Inv-loop μ-loop
+unfolding nameOf
+returns c = simp (ne-eqb _ _ (c .if1 .taken))
+
+loop-holds : tie.Need-loop-holds Inv-loop μ-loop
+unfolding nameOf inside
+loop-holds c = simp (eq-eqb _ _ (c .if1 .left))
+
+element-at-requires : tie.Need-element-at-requires Inv-loop μ-loop
+element-at-requires c κs = search needs
+
+enum-known-set : tie.Need-enum-known-set Inv-loop μ-loop
+enum-known-set c = search needs
+
+enum-told : tie.Need-enum-told Inv-loop μ-loop
+enum-told c = search needs
+
+returns-2 : tie.Need-returns-2 Inv-loop μ-loop
+returns-2 c = sym (sets-done _ _ _ _ (sym (c .before .before .element-at .ensures) ∙ c .enum-told .given .1)) ∙ c .before .before .before .loop .inv
+
+set-of-requires : tie.Need-set-of-requires Inv-loop μ-loop
+set-of-requires c κs = search needs
+
+enum-known-more : tie.Need-enum-known-more Inv-loop μ-loop
+enum-known-more c = search needs
+
+enum-told-2 : tie.Need-enum-told-2 Inv-loop μ-loop
+enum-told-2 c = search needs
+
+returns-3 : tie.Need-returns-3 Inv-loop μ-loop
+returns-3 c = sym (sets-bad _ _ _ _ (sym (c .before .before .before .before .before .before .element-at .ensures) ∙ c .before .before .before .before .set .given .1) (sym (c .before .before .set-of .ensures) ∙ c .enum-told2 .given .1)) ∙ c .before .before .before .before .before .before .before .loop .inv
+
+loop-less : tie.Need-loop-less Inv-loop μ-loop
+loop-less c = omega (arith, found-within _ _ _ (sym (c .before .before .before .before .before .before .before .element-at .ensures) ∙ c .before .before .before .before .before .set .given .1))
+
+loop-again : tie.Need-loop-again Inv-loop μ-loop
+loop-again c = sym (sets-more _ _ _ _ (sym (c .before .before .before .before .before .before .before .element-at .ensures) ∙ c .before .before .before .before .before .set .given .1) (sym (c .before .before .before .set-of .ensures) ∙ c .before .more .given .1)) ∙ c .before .before .before .before .before .before .before .before .loop .inv
+
+pub name-of-spec : {M : Type 1} → statement M
+name-of-spec =
+    tie.close
+    (tie.spec
+    Inv-loop
+    μ-loop
+    returns
+    loop-holds
+    element-at-requires
+    enum-known-set
+    enum-told
+    returns-2
+    set-of-requires
+    enum-known-more
+    enum-told-2
+    returns-3
+    loop-less
+    loop-again)
