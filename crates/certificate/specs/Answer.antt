@@ -9,7 +9,7 @@ use Rattle.der.specs.declared.walking.Walked.the-variants as walked
 use Rattle.der.specs.Forms.{paper}
 use Rattle.der.specs.Walk.{walkOf}
 use Rattle.names.specs.Names.{firstLetter, secondLetter}
-use Rattle.elements.specs.Rules.{firstBroken}
+use Rattle.refusal.specs.Rules.{firstBroken}
 use Rattle.times.specs.Times.{momentOf}
 use Rattle.certificate.specs.declared.keys.KeyId.{KeyId}
 use Rattle.certificate.specs.declared.keys.KeyId.the-variants.{Key, Keyless, Misformed}

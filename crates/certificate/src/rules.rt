@@ -20,7 +20,7 @@ use extensions::some_critical;
 use times::time_of;
 use elements::whole;
 ghost use mathlib.Core.Path.{_≡_};
-ghost use Rattle.elements.specs.Rules.{firstBroken};
+ghost use Rattle.refusal.specs.Rules.{firstBroken};
 ghost use Rattle.certificate.specs.Rules.{bothKeys, criticalWith, keyGood, plain, readingsOf, rule2, rule3, rule4, rule8, rule9, rule10, rule12, rule13, rules2to8, rules9to14, sameTwo};
 
 // What several rules and the answer read, each once.

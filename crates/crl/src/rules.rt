@@ -6,7 +6,7 @@ use names::{Letters, letters_of};
 use times::{Time, in_order, time_of};
 ghost use mathlib.Core.Path.{_≡_};
 ghost use Rattle.extensions.specs.Extensions.{present};
-ghost use Rattle.elements.specs.Rules.{firstBroken};
+ghost use Rattle.refusal.specs.Rules.{firstBroken};
 ghost use Rattle.crl.specs.Rules.{readingsOf, rule2, rule3, rule4, rule5, rule6, rule7, rule8, rules2to8};
 
 // What several rules and the answer read, each once.

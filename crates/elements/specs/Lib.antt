@@ -2,4 +2,3 @@ pub mod Octets
 pub mod Elements
 pub mod Envelope
 pub mod Steps
-pub mod Rules

@@ -1,0 +1,34 @@
+-- A trust image: its items, its day, and the octets that hold them.
+use Prim.Native.Nat.{ℕ, _+_}
+use mathlib.Core.List.{List, [], _∷_, _++_}
+use lib.ListN.{length}
+use Rattle.der.specs.Octets.{big}
+
+-- kind 1 anchor, 2 link, 3 DS, 4 CRL; flags 1 or 0 for an anchor, enabled or not, else 0
+pub record Item : Type 0 where
+  pub kind : ℕ
+  pub flags : ℕ
+  pub bytes : List ℕ
+
+-- the items back to back
+unfoldable pub packed : List Item → List ℕ
+packed [] = []
+packed (item ∷ rest) = item .bytes ++ packed rest
+
+-- an index entry: kind, flags, length (2), offset (4)
+unfoldable pub entryBytes : ℕ → ℕ → ℕ → ℕ → List ℕ
+entryBytes kind flags size offset = kind ∷ flags ∷ (big 2 size ++ big 4 offset)
+
+-- the entries, the first item standing at `offset`
+unfoldable pub indexBytes : ℕ → List Item → List ℕ
+indexBytes offset [] = []
+indexBytes offset (item ∷ rest) =
+    entryBytes (item .kind) (item .flags) (length (item .bytes)) offset ++ indexBytes (offset + length (item .bytes)) rest
+
+-- the trailer: index start (4), entries (2), version 1 (2), day (4)
+unfoldable pub trailerBytes : ℕ → ℕ → ℕ → List ℕ
+trailerBytes start entries day = big 4 start ++ (big 2 entries ++ (big 2 1 ++ big 4 day))
+
+unfoldable pub imageBytes : List Item → ℕ → List ℕ
+imageBytes items day =
+    packed items ++ (indexBytes 0 items ++ trailerBytes (length (packed items)) (length items) day)

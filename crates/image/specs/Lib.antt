@@ -1,0 +1,4 @@
+pub mod Items
+pub mod Index
+pub mod Rules
+pub mod Answer
