@@ -12,7 +12,7 @@ use Rattle.image.specs.declared.Entry.{Entry}
 use Rattle.image.specs.declared.Opened.{Opened}
 use Rattle.image.specs.declared.Opened.the-variants.{Image, Refused}
 use Rattle.image.specs.declared.Place.{Place}
-use Rattle.image.specs.declared.Place.the-variants as place
+use Rattle.image.specs.declared.Place.the-variants as placed
 use Rattle.image.specs.Index.{entryCount, dayIn, entryIn}
 use Rattle.image.specs.Rules.{rules}
 
@@ -32,16 +32,16 @@ openedFor s wanted = cond (realDay 1950 2099 wanted) (onDay wanted (openedOf s))
 
 -- one entry: the image's 5, then 1 for a place that is not there
 unfoldable pub onPlace : ℕ → Entry → Opened → Place
-onPlace place entry (Refused refusal) = place.Refused refusal
-onPlace place entry (Image entries day) = cond (ltb place entries) (place.Is entry) (place.Refused refusal.Argument)
+onPlace place entry (Refused refusal) = placed.Refused refusal
+onPlace place entry (Image entries day) = cond (ltb place entries) (placed.Is entry) (placed.Refused refusal.Argument)
 
 unfoldable pub placeOf : List ℕ → ℕ → Place
 placeOf s place = onPlace place (entryIn s place) (openedOf s)
 
 -- the bytes of an item, none on a refusal
 unfoldable pub bytesIn : List ℕ → Place → List ℕ
-bytesIn s (place.Refused refusal) = []
-bytesIn s (place.Is e) = take (e .length) (drop (e .offset) s)
+bytesIn s (placed.Refused refusal) = []
+bytesIn s (placed.Is e) = take (e .length) (drop (e .offset) s)
 
 unfoldable pub itemOf : List ℕ → ℕ → List ℕ
 itemOf s place = bytesIn s (placeOf s place)

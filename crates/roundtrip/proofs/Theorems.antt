@@ -1,0 +1,1 @@
+-- What reading and writing an image mean to each other, from their definitions.
