@@ -5,4 +5,5 @@ pub mod Smallest
 pub mod Trailer
 pub mod Opening
 pub mod Back
+pub mod Again
 pub mod Theorems
