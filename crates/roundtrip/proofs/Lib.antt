@@ -1,9 +1,10 @@
 pub mod Fields
 pub mod Entries
 pub mod Sizes
-pub mod Smallest
+pub mod FirstBroken
 pub mod Trailer
 pub mod Opening
 pub mod Back
 pub mod Again
+pub mod Columns
 pub mod Theorems

@@ -2,11 +2,12 @@
 use mathlib.Core.Path.{_≡_, refl, sym, _∙_, ap}
 use mathlib.Core.Bool.{Bool, true, false, cond, _&&_, and-eq-true-iff}
 use mathlib.Core.List.{List}
-use Prim.Native.Nat.{ℕ, suc, _+_, _*_, _≤_, _<_}
+use Prim.Native.Nat.{ℕ, suc, _+_, _-_, _*_, _≤_, _<_}
 use native.Mathlib.Omega.{arith}
 use borrow.Author.Tests.{leb-true, eqb-true, le-leb, eq-eqb, ne-eqb}
 use lib.Dec.{leb, eqb}
 use lib.ListN.{length, getD}
+use Rattle.refusal.specs.declared.Refusal.{Refusal}
 use Rattle.refusal.specs.declared.Refusal.the-variants as refusal
 use Rattle.refusal.specs.Rules.{firstBroken}
 use Rattle.calendar.specs.Days.{realDay}
@@ -17,7 +18,8 @@ use Rattle.image.specs.declared.Total.the-variants.{Sum, Unfit}
 use Rattle.image.specs.Index.{indexStart, entryCount, versionIn, dayIn}
 use Rattle.image.specs.Rules.{rule1, rule2, rule3, rule4, rule5, rule6, rule7, rules, totalOf, fit, summed}
 use Rattle.image.specs.Answer.{graded, openedOf}
-use Rattle.roundtrip.proofs.Smallest.{First, none, some, first}
+use Rattle.roundtrip.specs.Smallest.{Smallest}
+use Rattle.roundtrip.proofs.FirstBroken.{First, none, some, first, false-within, one-first}
 
 -- what the seven rules say
 pub record Holds (s : List ℕ) : Type 0 where
@@ -56,16 +58,15 @@ rules-hold s all =
 
 pub data Answer (s : List ℕ) (a : Opened) : Type 0 where
   good : a ≡ Image (entryCount s) (dayIn s) → Holds s → Answer s a
-  broken :
-      (i : ℕ) → a ≡ Refused (refusal.Image (suc i)) → getD (rules s) i true ≡ false → ((j : ℕ) → j < i → getD (rules s) j false ≡ true)
-      → Answer s a
+  broken : (k : ℕ) → a ≡ Refused (refusal.Image k) → Smallest (rules s) k → Answer s a
 
 graded-answer : (s : List ℕ) (k : ℕ) → First 1 (rules s) k → Answer s (graded k (Image (entryCount s) (dayIn s)))
 unfolding graded
 graded-answer s k (none e all) = good (rw e) (rules-hold s all)
 graded-answer s k (some i e bad before) =
-    let k′ : k ≡ suc i = omega arith in
-    broken i (rw (k′, ne-eqb (suc i) 0 (λ z. omega arith))) bad before
+    let place : k - 1 ≡ i = omega arith in
+    broken k (rw (ne-eqb k 0 (λ z. omega arith)))
+    (record { some = omega arith; last = omega (arith, false-within (rules s) i bad); broken = rw place bad; before = rw place before })
 
 pub answer : (s : List ℕ) → Answer s (openedOf s)
 unfolding openedOf
@@ -76,4 +77,17 @@ opened-holds s n day e = told (openedOf s) e (answer s)
   where
     told : (a : Opened) → a ≡ Image n day → Answer s a → Holds s × (n ≡ entryCount s) × (day ≡ dayIn s)
     told a e (good g h) = (h, cc, cc)
-    told a e (broken i g bad before) = let z : _≡_ {A = ℕ} 0 1 = cc in absurd (omega arith)
+    told a e (broken k g least) = let z : _≡_ {A = ℕ} 0 1 = cc in absurd (omega arith)
+
+pub opened-refused : (s : List ℕ) (r : Refusal) → openedOf s ≡ Refused r → (k : ℕ) × (r ≡ refusal.Image k) × Smallest (rules s) k
+opened-refused s r e = told (openedOf s) e (answer s)
+  where
+    told : (a : Opened) → a ≡ Refused r → Answer s a → (k : ℕ) × (r ≡ refusal.Image k) × Smallest (rules s) k
+    told a e (good g h) = let z : _≡_ {A = ℕ} 0 1 = cc in absurd (omega arith)
+    told a e (broken k g least) = (k, cc, least)
+
+pub smallest-refused : (s : List ℕ) (k : ℕ) → Smallest (rules s) k → openedOf s ≡ Refused (refusal.Image k)
+unfolding openedOf graded
+smallest-refused s k least =
+    let same : firstBroken 1 (rules s) ≡ k = one-first (rules s) k _ least (first 1 (rules s)) in
+    rw (same, ne-eqb k 0 (λ z. omega (arith, least .some)))

@@ -1,17 +1,28 @@
 -- What reading and writing an image mean to each other, from their definitions.
 use mathlib.Core.Path.{_≡_, refl, sym, _∙_, ap}
+use mathlib.Core.Bool.{true, false}
+use mathlib.Core.Logic.{_↔_}
 use mathlib.Core.List.{List}
-use Prim.Native.Nat.{ℕ}
-use lib.ListN.{length}
+use Prim.Native.Nat.{ℕ, _-_, _≤_, _<_}
+use lib.ListN.{length, getD, take, drop}
+use lib.Seq.{take-at, drop-at}
+use Rattle.refusal.specs.declared.Refusal.{Refusal}
+use Rattle.refusal.specs.declared.Refusal.the-variants.{Image as Broken}
 use Rattle.der.specs.Octets.{Octets}
+use Rattle.image.specs.declared.Opened.the-variants as image
 use Rattle.image.specs.declared.Opened.the-variants.{Image}
-use Rattle.image.specs.Items.{Item, imageBytes}
+use Rattle.image.specs.Items.{Item, packed, imageBytes}
 use Rattle.image.specs.Index.{itemsIn}
+use Rattle.image.specs.Rules.{rules}
 use Rattle.image.specs.Answer.{openedOf}
-use Rattle.roundtrip.specs.Good.{Fits}
-use Rattle.roundtrip.proofs.Opening.{opened-holds}
+use Rattle.writer.specs.declared.Written.the-variants.{Length, Refused}
+use Rattle.writer.specs.Writing.{argumentsGood, sizeOf, writtenOf, itemsOf, onWritten, outputOf}
+use Rattle.roundtrip.specs.Good.{GoodItems, Fits}
+use Rattle.roundtrip.specs.Smallest.{Smallest}
+use Rattle.roundtrip.proofs.Opening.{opened-holds, opened-refused, smallest-refused}
 use Rattle.roundtrip.proofs.Back.{image-back}
 use Rattle.roundtrip.proofs.Again.{image-again}
+use Rattle.roundtrip.proofs.Columns.{wrote, columns-cut, columns-long, columns-fit}
 
 -- What was written reads back as the same items and day.
 pub read-back :
@@ -36,3 +47,66 @@ one-list a b d e f g same =
     let (opened′, items′) = read-back b e g in
     let image : Image (length a) d ≡ Image (length b) e = sym opened ∙ ap openedOf same ∙ opened′ in
     (sym items ∙ ap itemsIn same ∙ items′, cc)
+
+module _ (octets kinds flags lengths : List ℕ) (day : ℕ) where
+  -- The items that good arguments tell are good, are the octets given, and take as many octets as said.
+  pub items-good :
+      Octets octets → argumentsGood octets kinds flags lengths day ≡ true
+      → GoodItems (itemsOf kinds flags lengths octets) × (packed (itemsOf kinds flags lengths octets) ≡ octets)
+      × (length (imageBytes (itemsOf kinds flags lengths octets) day) ≡ sizeOf octets kinds)
+  items-good o e =
+      let c = columns-cut octets kinds flags lengths day o e in
+      (c .good, c .whole, columns-long octets kinds flags lengths day o e)
+
+  -- The octets that were written are the image of those items.
+  pub writer-image :
+      (old : List ℕ) (size : ℕ) → Octets octets → writtenOf octets kinds flags lengths day (length old) ≡ Length size
+      → take size (outputOf octets kinds flags lengths day old) ≡ imageBytes (itemsOf kinds flags lengths octets) day
+  unfolding outputOf onWritten
+  writer-image old size o e =
+      let w = wrote octets kinds flags lengths day (length old) size e in
+      let image : List ℕ = imageBytes (itemsOf kinds flags lengths octets) day in
+      rw e (take-at image (drop size old) size (columns-long octets kinds flags lengths day o (w .good) ∙ sym (w .same)))
+
+  -- What the writer wrote the reader reads: as many entries as kinds, the day, and the items.
+  pub writer-read :
+      (old : List ℕ) (size : ℕ) → Octets octets → writtenOf octets kinds flags lengths day (length old) ≡ Length size
+      → (openedOf (take size (outputOf octets kinds flags lengths day old)) ≡ Image (length kinds) day)
+      × (itemsIn (take size (outputOf octets kinds flags lengths day old)) ≡ itemsOf kinds flags lengths octets)
+  writer-read old size o e =
+      let w = wrote octets kinds flags lengths day (length old) size e in
+      let items : List Item = itemsOf kinds flags lengths octets in
+      let (opened, same) = read-back items day (columns-fit octets kinds flags lengths day (length old) size o w) in
+      let many : length items ≡ length kinds = columns-cut octets kinds flags lengths day o (w .good) .many in
+      rw (writer-image old size o e) (opened ∙ ap (λ (n : ℕ). Image n day) many, same)
+
+  -- Beyond the image the output stays as it was.
+  pub beyond :
+      (old : List ℕ) (size : ℕ) → Octets octets → writtenOf octets kinds flags lengths day (length old) ≡ Length size
+      → drop size (outputOf octets kinds flags lengths day old) ≡ drop size old
+  unfolding outputOf onWritten
+  beyond old size o e =
+      let w = wrote octets kinds flags lengths day (length old) size e in
+      let image : List ℕ = imageBytes (itemsOf kinds flags lengths octets) day in
+      rw e (drop-at image (drop size old) size (columns-long octets kinds flags lengths day o (w .good) ∙ sym (w .same)))
+
+  -- On a refusal all of it stays.
+  pub untouched :
+      (old : List ℕ) (refusal : Refusal) → writtenOf octets kinds flags lengths day (length old) ≡ Refused refusal
+      → outputOf octets kinds flags lengths day old ≡ old
+  unfolding outputOf onWritten
+  untouched old refusal e = rw e
+
+-- An image is refused by rule k exactly when it breaks that rule and holds each before it.
+pub rule-smallest : (s : List ℕ) (k : ℕ) → (openedOf s ≡ image.Refused (Broken k)) ↔ Smallest (rules s) k
+rule-smallest s k =
+    (λ e. let (n, same, least) = opened-refused s (Broken k) e in
+    let number : n ≡ k = cc in
+    rw number at least, smallest-refused s k)
+
+-- No other refusal is given than by a rule, of those numbered 1 to 7.
+pub rule-refusals : (s : List ℕ) (refusal : Refusal) → openedOf s ≡ image.Refused refusal → (k : ℕ) × (refusal ≡ Broken k) × (1 ≤ k) × (k ≤ 7)
+unfolding rules
+rule-refusals s refusal e =
+    let (k, same, least) = opened-refused s refusal e in
+    (k, same, least .some, least .last)
