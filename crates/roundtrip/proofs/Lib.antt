@@ -7,4 +7,5 @@ pub mod Opening
 pub mod Back
 pub mod Again
 pub mod Columns
+pub mod Places
 pub mod Theorems

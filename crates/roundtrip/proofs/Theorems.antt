@@ -11,18 +11,21 @@ use Rattle.refusal.specs.declared.Refusal.the-variants.{Image as Broken}
 use Rattle.der.specs.Octets.{Octets}
 use Rattle.image.specs.declared.Opened.the-variants as image
 use Rattle.image.specs.declared.Opened.the-variants.{Image}
+use Rattle.image.specs.declared.Place.the-variants.{Is}
 use Rattle.image.specs.Items.{Item, packed, imageBytes}
-use Rattle.image.specs.Index.{itemsIn}
+use Rattle.image.specs.Index.{entryIn, itemsIn}
 use Rattle.image.specs.Rules.{rules}
-use Rattle.image.specs.Answer.{openedOf}
+use Rattle.image.specs.Answer.{openedOf, placeOf, itemOf}
 use Rattle.writer.specs.declared.Written.the-variants.{Length, Refused}
 use Rattle.writer.specs.Writing.{argumentsGood, sizeOf, writtenOf, itemsOf, onWritten, outputOf}
 use Rattle.roundtrip.specs.Good.{GoodItems, Fits}
 use Rattle.roundtrip.specs.Smallest.{Smallest}
+use Rattle.roundtrip.specs.Tells.{Tells}
 use Rattle.roundtrip.proofs.Opening.{opened-holds, opened-refused, smallest-refused}
 use Rattle.roundtrip.proofs.Back.{image-back}
 use Rattle.roundtrip.proofs.Again.{image-again}
 use Rattle.roundtrip.proofs.Columns.{wrote, columns-cut, columns-long, columns-fit}
+use Rattle.roundtrip.proofs.Places.{place-told}
 
 -- What was written reads back as the same items and day.
 pub read-back :
@@ -110,3 +113,10 @@ unfolding rules
 rule-refusals s refusal e =
     let (k, same, least) = opened-refused s refusal e in
     (k, same, least .some, least .last)
+
+-- The place of a readable image holds the item at that place of its item list: kind, flags, length and octets.
+pub place-item :
+    (s : List ℕ) (n day place : ℕ) (default : Item) → openedOf s ≡ Image n day → place < n
+    → (placeOf s place ≡ Is (entryIn s place)) × Tells (entryIn s place) (getD (itemsIn s) place default)
+    × (itemOf s place ≡ getD (itemsIn s) place default .bytes)
+place-item = place-told
