@@ -103,4 +103,4 @@ image-again s o h =
     rw (long, a .many, ← last) (trailer-again s o (h .long) (h .version)) in
     let same : imageBytes items (dayIn s) ≡ s =
     ap (λ (l : List ℕ). packed items ++ (indexBytes 0 items ++ l)) trailer ∙ ap (λ (l : List ℕ). packed items ++ l) (a .index) ∙ front in
-    (same, record { good = a .good; few = rw (a .many) (h .few); real = h .real; small = rw same (h .short) })
+    (same, record { good = a .good; few = omega (arith, a .many, h .few); real = h .real; small = omega (arith, ap length same, h .short) })

@@ -105,4 +105,4 @@ module _ (octets kinds flags lengths : List ℕ) (day : ℕ) where
   columns-fit room size o w =
       let a = arguments (w .good) in
       let c = columns-cut o (w .good) in
-      record { good = c .good; few = rw (c .many) (a .few); real = a .real; small = rw (columns-long o (w .good)) (w .short) }
+      record { good = c .good; few = omega (arith, c .many, a .few); real = a .real; small = omega (arith, columns-long o (w .good), w .short) }

@@ -45,4 +45,4 @@ not-before tests i j before broken =
 pub one-first : (tests : List Bool) (k n : ℕ) → Smallest tests k → First 1 tests n → n ≡ k
 one-first tests k n s (none e all) = absurd (true≢false (sym (all (k - 1)) ∙ s .broken))
 one-first tests k n s (some i e broken before) =
-    omega (arith, s .some, not-before tests i (k - 1) before (s .broken), not-before tests (k - 1) i (s .before) broken)
+    omega (arith, s .some, not-before tests i (k - 1) before (s .broken), not-before tests (k - 1) i (λ j l. s .before j (omega arith)) broken)

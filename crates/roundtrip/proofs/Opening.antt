@@ -34,8 +34,16 @@ pub record Holds (s : List ℕ) : Type 0 where
 pub holds-opened : (s : List ℕ) → Holds s → openedOf s ≡ Image (entryCount s) (dayIn s)
 unfolding openedOf graded firstBroken rules rule1 rule2 rule3 rule4 rule5 rule6 rule7 fit summed
 holds-opened s h =
-    rw (le-leb _ _ (h .long), le-leb _ _ (h .short), eq-eqb _ _ (h .version), le-leb _ _ (h .few), h .real, eq-eqb _ _ (h .ends), h .sums,
-    eq-eqb (indexStart s) (indexStart s) refl)
+    rw (
+      le-leb _ _ (h .long),
+      le-leb _ _ (h .short),
+      eq-eqb _ _ (h .version),
+      le-leb _ _ (h .few),
+      h .real,
+      eq-eqb _ _ (h .ends),
+      h .sums,
+      eq-eqb (indexStart s) (indexStart s) refl,
+    )
 
 summed-start : (start : ℕ) (total : Total) → summed start total ≡ true → total ≡ Sum start
 unfolding summed
@@ -66,7 +74,7 @@ graded-answer s k (none e all) = good (rw e) (rules-hold s all)
 graded-answer s k (some i e bad before) =
     let place : k - 1 ≡ i = omega arith in
     broken k (rw (ne-eqb k 0 (λ z. omega arith)))
-    (record { some = omega arith; last = omega (arith, false-within (rules s) i bad); broken = rw place bad; before = rw place before })
+    (record { some = omega arith; last = omega (arith, false-within (rules s) i bad); broken = rw place bad; before = λ j l. before j (omega arith) })
 
 pub answer : (s : List ℕ) → Answer s (openedOf s)
 unfolding openedOf

@@ -13,8 +13,12 @@ unfolding indexBytes
 length-index offset [] = refl
 length-index offset (item ∷ rest) =
     let size : ℕ = length (item .bytes) in
-    omega (arith, length-append (entryBytes (item .kind) (item .flags) size offset) (indexBytes (offset + size) rest),
-    length-entry (item .kind) (item .flags) size offset, length-index (offset + size) rest)
+    omega (
+      arith,
+      length-append (entryBytes (item .kind) (item .flags) size offset) (indexBytes (offset + size) rest),
+      length-entry (item .kind) (item .flags) size offset,
+      length-index (offset + size) rest,
+    )
 
 pub length-trailer : (start entries day : ℕ) → length (trailerBytes start entries day) ≡ 12
 unfolding trailerBytes big
@@ -24,5 +28,10 @@ pub length-image : (items : List Item) (day : ℕ) → length (imageBytes items 
 unfolding imageBytes
 length-image items day =
     let trailer : List ℕ = trailerBytes (length (packed items)) (length items) day in
-    omega (arith, length-append (packed items) (indexBytes 0 items ++ trailer), length-append (indexBytes 0 items) trailer,
-    length-index 0 items, length-trailer (length (packed items)) (length items) day)
+    omega (
+      arith,
+      length-append (packed items) (indexBytes 0 items ++ trailer),
+      length-append (indexBytes 0 items) trailer,
+      length-index 0 items,
+      length-trailer (length (packed items)) (length items) day,
+    )

@@ -102,10 +102,12 @@ module _ (octets kinds flags lengths : List ℕ) (day : ℕ) where
 
 -- An image is refused by rule k exactly when it breaks that rule and holds each before it.
 pub rule-smallest : (s : List ℕ) (k : ℕ) → (openedOf s ≡ image.Refused (Broken k)) ↔ Smallest (rules s) k
-rule-smallest s k =
-    (λ e. let (n, same, least) = opened-refused s (Broken k) e in
-    let number : n ≡ k = cc in
-    rw number at least, smallest-refused s k)
+rule-smallest s k = (
+  λ e. let (n, same, least) = opened-refused s (Broken k) e in
+      let number : n ≡ k = cc in
+      rw number at least,
+  smallest-refused s k,
+)
 
 -- No other refusal is given than by a rule, of those numbered 1 to 7.
 pub rule-refusals : (s : List ℕ) (refusal : Refusal) → openedOf s ≡ image.Refused refusal → (k : ℕ) × (refusal ≡ Broken k) × (1 ≤ k) × (k ≤ 7)
