@@ -1,8 +1,8 @@
 -- Each entry that was written is read back with its item, so the items are, and their lengths sum up.
 use mathlib.Core.Path.{_≡_, refl, sym, _∙_, ap, ap₂}
-use mathlib.Core.Bool.{true, cond, _&&_, and-eq-true-iff}
+use mathlib.Core.Bool.{true, cond, and-eq-true-iff}
 use mathlib.Core.List.{List, _∷_, _++_, append-assoc}
-use Prim.Native.Nat.{ℕ, suc, _+_, _-_, _*_, _/_, _≤_, _<_}
+use Prim.Native.Nat.{ℕ, _+_, _-_, _*_, _/_, _≤_, _<_}
 use native.Mathlib.Omega.{arith}
 use borrow.Author.Tests.{leb-true, eq-eqb}
 use lib.Dec.{leb, eqb}
@@ -64,8 +64,11 @@ items-back s (good-item {item} {rest} fields o good) at offset behind after inde
     omega (arith, length-append (item .bytes) (packed rest)) in
     let small : size ≤ 16384 = fields-small _ _ _ fields in
     let entry : entryAt s at ≡ e =
-    entry-at s at ∙ ap (λ (t : List ℕ). entryAt t 0) joined ∙ entry-back (item .kind) (item .flags) size offset (others ++ behind) (omega arith) (omega arith) in
-    let next = items-back s good (at + 8) (offset + size) behind after (drop-next s front _ at 8 joined (length-entry _ _ size offset)) (drop-next s (item .bytes) _ offset size parts refl) (omega arith) in
+    entry-at s at ∙ ap (λ (t : List ℕ). entryAt t 0) joined
+    ∙ entry-back (item .kind) (item .flags) size offset (others ++ behind) (omega arith) (omega arith) in
+    let index′ : drop (at + 8) s ≡ others ++ behind = drop-next s front (others ++ behind) at 8 joined (length-entry _ _ size offset) in
+    let octets′ : drop (offset + size) s ≡ packed rest ++ after = drop-next s (item .bytes) _ offset size parts refl in
+    let next = items-back s good (at + 8) (offset + size) behind after index′ octets′ (omega arith) in
     record {
       same = ap₂ _∷_ (ap (itemAt s) entry ∙ item-at s item offset _ parts) (next .same);
       sums = rw (entry, entry-good e offset fields refl) (next .sums ∙ ap Sum long);

@@ -1,8 +1,8 @@
 -- Lengths that sum to the octets cut them into items with nothing left, so good columns give good items.
-use mathlib.Core.Path.{_≡_, refl, sym, _∙_, ap, ap₂, subst}
-use mathlib.Core.Bool.{true, cond, _&&_, and-eq-true-iff}
+use mathlib.Core.Path.{_≡_, refl, sym, _∙_, ap, subst}
+use mathlib.Core.Bool.{true, and-eq-true-iff}
 use mathlib.Core.List.{List, [], _∷_, _++_}
-use Prim.Native.Nat.{ℕ, zero, suc, _+_, _*_, _≤_, _<_}
+use Prim.Native.Nat.{ℕ, suc, _≤_}
 use native.Mathlib.Omega.{arith}
 use borrow.Author.Tests.{leb-true, eqb-true}
 use lib.Dec.{leb, eqb}
@@ -37,7 +37,8 @@ items-cut (kind ∷ kinds) flags (size ∷ lengths) octets o l rows sums =
     let both = and-eq-true-iff (fieldsGood kind (getD flags 0 0) size) _ .0 rows in
     let long : length (take size octets) ≡ size = length-take-le size octets (omega arith) in
     let fields : fieldsGood kind (getD flags 0 0) (length (take size octets)) ≡ true = rw long (both .0) in
-    let next = items-cut kinds (drop 1 flags) lengths (drop size octets) (octets-drop size o) (omega arith) (both .1) (omega (arith, length-drop size octets)) in
+    let left : sumAll lengths ≡ length (drop size octets) = omega (arith, length-drop size octets) in
+    let next = items-cut kinds (drop 1 flags) lengths (drop size octets) (octets-drop size o) (omega arith) (both .1) left in
     record {
       good = good-item fields (octets-take size o) (next .good);
       whole = ap (λ (t : List ℕ). take size octets ++ t) (next .whole) ∙ take-append-drop size octets;
@@ -62,7 +63,9 @@ module _ (octets kinds flags lengths : List ℕ) (day : ℕ) where
       let f = and-eq-true-iff (rowsGood kinds flags lengths) _ .0 (d .1) in
       record { real = a .0; few = leb-true _ _ (b .0); many = eqb-true _ _ (d .0); rows = f .0; sums = eqb-true _ _ (f .1) }
 
-  pub columns-cut : Octets octets → argumentsGood octets kinds flags lengths day ≡ true → Cut (itemsOf kinds flags lengths octets) octets (length kinds)
+  pub columns-cut :
+      Octets octets → argumentsGood octets kinds flags lengths day ≡ true
+      → Cut (itemsOf kinds flags lengths octets) octets (length kinds)
   columns-cut o e =
       let a = arguments e in
       items-cut kinds flags lengths octets o (a .many) (a .rows) (a .sums)

@@ -8,4 +8,5 @@ pub mod Back
 pub mod Again
 pub mod Columns
 pub mod Places
+pub mod Rewriting
 pub mod Theorems

@@ -1,11 +1,11 @@
 -- An image is opened where each rule holds, and is refused with the first that does not.
-use mathlib.Core.Path.{_≡_, refl, sym, _∙_, ap}
-use mathlib.Core.Bool.{Bool, true, false, cond, _&&_, and-eq-true-iff}
+use mathlib.Core.Path.{_≡_, refl, ap}
+use mathlib.Core.Bool.{true, and-eq-true-iff}
 use mathlib.Core.List.{List}
-use Prim.Native.Nat.{ℕ, suc, _+_, _-_, _*_, _≤_, _<_}
+use Prim.Native.Nat.{ℕ, _+_, _-_, _*_, _≤_}
 use native.Mathlib.Omega.{arith}
 use borrow.Author.Tests.{leb-true, eqb-true, le-leb, eq-eqb, ne-eqb}
-use lib.Dec.{leb, eqb}
+use lib.Dec.{leb}
 use lib.ListN.{length, getD}
 use Rattle.refusal.specs.declared.Refusal.{Refusal}
 use Rattle.refusal.specs.declared.Refusal.the-variants as refusal
@@ -93,6 +93,12 @@ opened-refused s r e = told (openedOf s) e (answer s)
     told : (a : Opened) → a ≡ Refused r → Answer s a → (k : ℕ) × (r ≡ refusal.Image k) × Smallest (rules s) k
     told a e (good g h) = let z : _≡_ {A = ℕ} 0 1 = cc in absurd (omega arith)
     told a e (broken k g least) = (k, cc, least)
+
+pub refused-smallest : (s : List ℕ) (k : ℕ) → openedOf s ≡ Refused (refusal.Image k) → Smallest (rules s) k
+refused-smallest s k e =
+    let (n, same, least) = opened-refused s (refusal.Image k) e in
+    let number : n ≡ k = cc in
+    rw number at least
 
 pub smallest-refused : (s : List ℕ) (k : ℕ) → Smallest (rules s) k → openedOf s ≡ Refused (refusal.Image k)
 unfolding openedOf graded

@@ -1,6 +1,6 @@
 -- The entry of a place is that of the item at that place, and its octets lie within the image.
 use mathlib.Core.Path.{_≡_, refl, sym, _∙_, ap}
-use mathlib.Core.List.{List, [], _∷_}
+use mathlib.Core.List.{List}
 use Prim.Native.Nat.{ℕ, zero, suc, _+_, _*_, _≤_, _<_}
 use native.Mathlib.Omega.{arith}
 use borrow.Author.Tests.{lt-ltb}
@@ -15,11 +15,12 @@ use Rattle.image.specs.Index.{entryAt, entryIn, itemAt, itemsFrom, itemsIn, ind
 use Rattle.image.specs.Rules.{sumOf, totalOf}
 use Rattle.image.specs.Answer.{openedOf, onPlace, placeOf, bytesIn, itemOf}
 use Rattle.roundtrip.specs.Tells.{Tells}
-use Rattle.roundtrip.proofs.Opening.{Holds, opened-holds}
-use Rattle.roundtrip.proofs.Again.{Passed, passed, sum-grows}
+use Rattle.roundtrip.proofs.Opening.{opened-holds}
+use Rattle.roundtrip.proofs.Again.{passed, sum-grows}
 
 item-from :
-    (s : List ℕ) (left at place : ℕ) (default : Item) → place < left → getD (itemsFrom s at left) place default ≡ itemAt s (entryAt s (at + 8 * place))
+    (s : List ℕ) (left at place : ℕ) (default : Item) → place < left
+    → getD (itemsFrom s at left) place default ≡ itemAt s (entryAt s (at + 8 * place))
 unfolding itemsFrom
 item-from s zero at place default h = absurd (omega arith)
 item-from s (suc left) at zero default h =

@@ -1,9 +1,9 @@
 -- What reading and writing an image mean to each other, from their definitions.
 use mathlib.Core.Path.{_≡_, refl, sym, _∙_, ap}
-use mathlib.Core.Bool.{true, false}
+use mathlib.Core.Bool.{true}
 use mathlib.Core.Logic.{_↔_}
 use mathlib.Core.List.{List}
-use Prim.Native.Nat.{ℕ, _-_, _≤_, _<_}
+use Prim.Native.Nat.{ℕ, _≤_, _<_}
 use lib.ListN.{length, getD, take, drop}
 use lib.Seq.{take-at, drop-at}
 use Rattle.refusal.specs.declared.Refusal.{Refusal}
@@ -19,12 +19,14 @@ use Rattle.image.specs.Answer.{openedOf, placeOf, itemOf}
 use Rattle.writer.specs.declared.Written.the-variants.{Length, Refused}
 use Rattle.writer.specs.Writing.{argumentsGood, sizeOf, writtenOf, itemsOf, onWritten, outputOf}
 use Rattle.roundtrip.specs.Good.{GoodItems, Fits}
+use Rattle.roundtrip.specs.Columns.{kindsOf, flagsOf, lengthsOf}
 use Rattle.roundtrip.specs.Smallest.{Smallest}
 use Rattle.roundtrip.specs.Tells.{Tells}
-use Rattle.roundtrip.proofs.Opening.{opened-holds, opened-refused, smallest-refused}
+use Rattle.roundtrip.proofs.Opening.{opened-holds, opened-refused, refused-smallest, smallest-refused}
 use Rattle.roundtrip.proofs.Back.{image-back}
 use Rattle.roundtrip.proofs.Again.{image-again}
 use Rattle.roundtrip.proofs.Columns.{wrote, columns-cut, columns-long, columns-fit}
+use Rattle.roundtrip.proofs.Rewriting.{columns-back, columns-written}
 use Rattle.roundtrip.proofs.Places.{place-told}
 
 -- What was written reads back as the same items and day.
@@ -100,17 +102,34 @@ module _ (octets kinds flags lengths : List ℕ) (day : ℕ) where
   unfolding outputOf onWritten
   untouched old refusal e = rw e
 
+-- Every list that fits is written from its octets and columns into an output with room for it.
+pub writer-writes :
+    (items : List Item) (day : ℕ) (old : List ℕ) → Fits items day → length (imageBytes items day) ≤ length old
+    → (writtenOf (packed items) (kindsOf items) (flagsOf items) (lengthsOf items) day (length old) ≡ Length (length (imageBytes items day)))
+    × (take (length (imageBytes items day)) (outputOf (packed items) (kindsOf items) (flagsOf items) (lengthsOf items) day old)
+    ≡ imageBytes items day)
+unfolding outputOf onWritten
+writer-writes items day old f h =
+    let written = columns-written items day (length old) f h in
+    (written, rw (written, columns-back items) (take-at (imageBytes items day) _ (length (imageBytes items day)) refl))
+
+-- A readable image, taken apart into octets and columns and written from them with its day, is the same octets again.
+pub writer-again :
+    (s : List ℕ) (n day : ℕ) (old : List ℕ) → Octets s → openedOf s ≡ Image n day → length s ≤ length old
+    → (writtenOf (packed (itemsIn s)) (kindsOf (itemsIn s)) (flagsOf (itemsIn s)) (lengthsOf (itemsIn s)) day (length old) ≡ Length (length s))
+    × (take (length s) (outputOf (packed (itemsIn s)) (kindsOf (itemsIn s)) (flagsOf (itemsIn s)) (lengthsOf (itemsIn s)) day old) ≡ s)
+writer-again s n day old o e h =
+    let (same, fits, many) = write-again s n day o e in
+    rw same at (writer-writes (itemsIn s) day old fits (rw same h))
+
 -- An image is refused by rule k exactly when it breaks that rule and holds each before it.
 pub rule-smallest : (s : List ℕ) (k : ℕ) → (openedOf s ≡ image.Refused (Broken k)) ↔ Smallest (rules s) k
-rule-smallest s k = (
-  λ e. let (n, same, least) = opened-refused s (Broken k) e in
-      let number : n ≡ k = cc in
-      rw number at least,
-  smallest-refused s k,
-)
+rule-smallest s k = (refused-smallest s k, smallest-refused s k)
 
 -- No other refusal is given than by a rule, of those numbered 1 to 7.
-pub rule-refusals : (s : List ℕ) (refusal : Refusal) → openedOf s ≡ image.Refused refusal → (k : ℕ) × (refusal ≡ Broken k) × (1 ≤ k) × (k ≤ 7)
+pub rule-refusals :
+    (s : List ℕ) (refusal : Refusal) → openedOf s ≡ image.Refused refusal
+    → (k : ℕ) × (refusal ≡ Broken k) × (1 ≤ k) × (k ≤ 7)
 unfolding rules
 rule-refusals s refusal e =
     let (k, same, least) = opened-refused s refusal e in

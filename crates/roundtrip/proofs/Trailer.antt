@@ -1,5 +1,5 @@
 -- The trailer is the last twelve octets and holds four numbers in their widths, so writing and reading it are inverse.
-use mathlib.Core.Path.{_≡_, refl, sym, _∙_, ap, ap₂}
+use mathlib.Core.Path.{_≡_, sym, _∙_, ap, ap₂}
 use mathlib.Core.List.{List, _++_}
 use Prim.Native.Nat.{ℕ, _+_, _-_, _≤_, _<_}
 use native.Mathlib.Nat.{mod-eq-of-lt}
@@ -29,7 +29,12 @@ unfolding trailerOf indexStart entryCount versionIn dayIn
 trailer-at s h =
     let at : ℕ = length s - 12 in
     let from : (i j k : ℕ) → j ≡ at + i → field s j k ≡ field (drop at s) i k = λ i j k e. rw e (field-drop s at i k) in
-    record { start = from 0 at 4 (omega arith); entries = from 4 _ 2 (omega arith); version = from 6 _ 2 (omega arith); day = from 8 _ 4 (omega arith) }
+    record {
+      start = from 0 at 4 (omega arith);
+      entries = from 4 _ 2 (omega arith);
+      version = from 6 _ 2 (omega arith);
+      day = from 8 _ 4 (omega arith);
+    }
 
 pub trailer-back :
     (s : List ℕ) (start entries day : ℕ) → 12 ≤ length s → trailerOf s ≡ trailerBytes start entries day
