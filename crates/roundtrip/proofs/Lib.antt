@@ -1,1 +1,12 @@
+pub mod Fields
+pub mod Entries
+pub mod Sizes
+pub mod FirstBroken
+pub mod Trailer
+pub mod Opening
+pub mod Back
+pub mod Again
+pub mod Columns
+pub mod Places
+pub mod Rewriting
 pub mod Theorems

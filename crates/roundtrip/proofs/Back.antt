@@ -1,0 +1,110 @@
+-- Each entry that was written is read back with its item, so the items are, and their lengths sum up.
+use mathlib.Core.Path.{_≡_, refl, sym, _∙_, ap, ap₂}
+use mathlib.Core.Bool.{true, cond, and-eq-true-iff}
+use mathlib.Core.List.{List, _∷_, _++_, append-assoc}
+use Prim.Native.Nat.{ℕ, _+_, _-_, _*_, _/_, _≤_, _<_}
+use native.Mathlib.Omega.{arith}
+use borrow.Author.Tests.{leb-true, eq-eqb}
+use lib.Dec.{leb, eqb}
+use lib.ListN.{length, take, drop, length-append}
+use lib.Seq.{take-at, drop-at}
+use Rattle.calendar.specs.Days.{realDay}
+use Rattle.image.specs.declared.Entry.{Entry}
+use Rattle.image.specs.declared.Opened.the-variants.{Image}
+use Rattle.image.specs.declared.Total.the-variants.{Sum}
+use Rattle.image.specs.Items.{Item, packed, entryBytes, indexBytes, trailerBytes, imageBytes}
+use Rattle.image.specs.Index.{entryAt, itemAt, itemsFrom, itemsIn}
+use Rattle.image.specs.Rules.{fieldsGood, entryGood, sumOf, totalOf}
+use Rattle.image.specs.Answer.{openedOf}
+use Rattle.roundtrip.specs.Good.{GoodItems, no-item, good-item, Fits}
+use Rattle.roundtrip.proofs.Fields.{drop-next}
+use Rattle.roundtrip.proofs.Entries.{entry-at, entry-back, length-entry}
+use Rattle.roundtrip.proofs.Sizes.{length-image, length-index}
+use Rattle.roundtrip.proofs.Trailer.{Trailer, trailerOf, trailer-back}
+use Rattle.roundtrip.proofs.Opening.{Holds, holds-opened}
+
+pub fields-small : (kind flags size : ℕ) → fieldsGood kind flags size ≡ true → size ≤ 16384
+unfolding fieldsGood
+fields-small kind flags size e =
+    let kinds = and-eq-true-iff (leb 1 kind) _ .0 e .1 in
+    let rest = and-eq-true-iff (leb kind 4) _ .0 kinds .1 in
+    let sizes = and-eq-true-iff (cond (eqb kind 1) (leb flags 1) (eqb flags 0)) _ .0 rest .1 in
+    leb-true size 16384 (and-eq-true-iff (leb 1 size) _ .0 sizes .1)
+
+entry-good : (e : Entry) (sum : ℕ) → fieldsGood (e .kind) (e .flags) (e .length) ≡ true → e .offset ≡ sum → entryGood e sum ≡ true
+unfolding entryGood
+entry-good e sum fields offset = rw (fields, eq-eqb _ _ offset)
+
+item-at :
+    (s : List ℕ) (item : Item) (offset : ℕ) (after : List ℕ) → drop offset s ≡ item .bytes ++ after
+    → itemAt s (record { kind = item .kind; flags = item .flags; length = length (item .bytes); offset = offset }) ≡ item
+unfolding itemAt
+item-at s item offset after e =
+    let size : ℕ = length (item .bytes) in
+    λ i. record { kind = item .kind; flags = item .flags; bytes = (ap (take size) e ∙ take-at (item .bytes) after size refl) i }
+
+record Back (s : List ℕ) (items : List Item) (at offset : ℕ) : Type 0 where
+  same : itemsFrom s at (length items) ≡ items
+  sums : sumOf s at (length items) offset ≡ Sum (offset + length (packed items))
+
+items-back :
+    (s : List ℕ) {items : List Item} → GoodItems items → (at offset : ℕ) (behind after : List ℕ)
+    → drop at s ≡ indexBytes offset items ++ behind → drop offset s ≡ packed items ++ after → offset + length (packed items) ≤ 262144
+    → Back s items at offset
+unfolding itemsFrom sumOf packed indexBytes
+items-back s no-item at offset behind after index octets limit = record { same = refl; sums = ap Sum (omega arith) }
+items-back s (good-item {item} {rest} fields o good) at offset behind after index octets limit =
+    let size : ℕ = length (item .bytes) in
+    let e : Entry = record { kind = item .kind; flags = item .flags; length = size; offset = offset } in
+    let front : List ℕ = entryBytes (item .kind) (item .flags) size offset in
+    let others : List ℕ = indexBytes (offset + size) rest in
+    let joined : drop at s ≡ front ++ (others ++ behind) = index ∙ append-assoc front others behind in
+    let parts : drop offset s ≡ item .bytes ++ (packed rest ++ after) = octets ∙ append-assoc (item .bytes) (packed rest) after in
+    let long : offset + size + length (packed rest) ≡ offset + length (item .bytes ++ packed rest) =
+    omega (arith, length-append (item .bytes) (packed rest)) in
+    let small : size ≤ 16384 = fields-small _ _ _ fields in
+    let entry : entryAt s at ≡ e =
+    entry-at s at ∙ ap (λ (t : List ℕ). entryAt t 0) joined
+    ∙ entry-back (item .kind) (item .flags) size offset (others ++ behind) (omega arith) (omega arith) in
+    let index′ : drop (at + 8) s ≡ others ++ behind = drop-next s front (others ++ behind) at 8 joined (length-entry _ _ size offset) in
+    let octets′ : drop (offset + size) s ≡ packed rest ++ after = drop-next s (item .bytes) _ offset size parts refl in
+    let next = items-back s good (at + 8) (offset + size) behind after index′ octets′ (omega arith) in
+    record {
+      same = ap₂ _∷_ (ap (itemAt s) entry ∙ item-at s item offset _ parts) (next .same);
+      sums = rw (entry, entry-good e offset fields refl) (next .sums ∙ ap Sum long);
+    }
+
+day-low : (day : ℕ) → realDay 1950 2099 day ≡ true → day < 4294967296
+unfolding realDay
+day-low day e =
+    let rest = and-eq-true-iff (leb 1950 (day / 10000)) _ .0 e .1 in
+    let year : day / 10000 ≤ 2099 = leb-true (day / 10000) 2099 (and-eq-true-iff (leb (day / 10000) 2099) _ .0 rest .0) in
+    omega arith
+
+pub image-back :
+    (items : List Item) (day : ℕ) → Fits items day
+    → (openedOf (imageBytes items day) ≡ Image (length items) day) × (itemsIn (imageBytes items day) ≡ items)
+unfolding imageBytes itemsIn totalOf trailerOf
+image-back items day f =
+    let s : List ℕ = imageBytes items day in
+    let start : ℕ = length (packed items) in
+    let n : ℕ = length items in
+    let trailer : List ℕ = trailerBytes start n day in
+    let long : length s ≡ start + 8 * n + 12 = length-image items day in
+    let few : n ≤ 96 = omega (arith, f .few) in
+    let small : length s ≤ 262144 = omega (arith, f .small) in
+    let at : length s - 12 ≡ start + 8 * n = omega arith in
+    let index : drop start s ≡ indexBytes 0 items ++ trailer = drop-at (packed items) _ start refl in
+    let last : drop (length s - 12) s ≡ trailer = rw at (drop-next s (indexBytes 0 items) trailer start (8 * n) index (length-index 0 items)) in
+    let t : Trailer s start n 1 day = trailer-back s start n day (omega arith) last (omega arith) (omega arith) (day-low day (f .real)) in
+    let b : Back s items start 0 = items-back s (f .good) start 0 trailer _ index refl (omega arith) in
+    let h : Holds s = record {
+      long = omega arith;
+      short = small;
+      version = t .version;
+      few = rw (t .entries) few;
+      real = rw (t .day) (f .real);
+      ends = rw (t .start, t .entries) (sym long);
+      sums = rw (t .start, t .entries) (b .sums ∙ ap Sum (omega arith));
+    } in
+    (holds-opened s h ∙ ap₂ Image (t .entries) (t .day), rw (t .start, t .entries) (b .same))

@@ -1,0 +1,24 @@
+-- Item lists that an image can hold.
+use Prim.Native.Nat.{ℕ, _≤_}
+use mathlib.Core.Path.{_≡_}
+use mathlib.Core.Bool.{true}
+use mathlib.Core.List.{List, [], _∷_}
+use lib.ListN.{length}
+use Rattle.der.specs.Octets.{Octets}
+use Rattle.calendar.specs.Days.{realDay}
+use Rattle.image.specs.Items.{Item, imageBytes}
+use Rattle.image.specs.Rules.{fieldsGood}
+
+-- each item has its fields in their ranges, and octets
+pub data GoodItems : List Item → Type 0 where
+  no-item : GoodItems []
+  good-item :
+      {item : Item} {rest : List Item} → fieldsGood (item .kind) (item .flags) (length (item .bytes)) ≡ true
+      → Octets (item .bytes) → GoodItems rest → GoodItems (item ∷ rest)
+
+-- good items, not too many, with a real day, whose image is not too long
+pub record Fits (items : List Item) (day : ℕ) : Type 0 where
+  pub good : GoodItems items
+  pub few : length items ≤ 96
+  pub real : realDay 1950 2099 day ≡ true
+  pub small : length (imageBytes items day) ≤ 262144

@@ -1,0 +1,4 @@
+pub mod Good
+pub mod Smallest
+pub mod Tells
+pub mod Columns
