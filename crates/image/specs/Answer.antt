@@ -8,7 +8,7 @@ use Rattle.refusal.specs.declared.Refusal.{Refusal}
 use Rattle.refusal.specs.declared.Refusal.the-variants as refusal
 use Rattle.refusal.specs.Rules.{firstBroken}
 use Rattle.calendar.specs.Days.{realDay}
-use Rattle.image.specs.declared.Entry.{Entry}
+use Rattle.image.specs.declared.IndexEntry.{IndexEntry}
 use Rattle.image.specs.declared.Opened.{Opened}
 use Rattle.image.specs.declared.Opened.the-variants.{Image, Refused}
 use Rattle.image.specs.declared.Place.{Place}
@@ -31,7 +31,7 @@ unfoldable pub openedFor : List ℕ → ℕ → Opened
 openedFor s wanted = cond (realDay 1950 2099 wanted) (onDay wanted (openedOf s)) (Refused refusal.Argument)
 
 -- one entry: the image's 5, then 1 for a place that is not there
-unfoldable pub onPlace : ℕ → Entry → Opened → Place
+unfoldable pub onPlace : ℕ → IndexEntry → Opened → Place
 onPlace place entry (Refused refusal) = placed.Refused refusal
 onPlace place entry (Image entries day) = cond (ltb place entries) (placed.Is entry) (placed.Refused refusal.Argument)
 

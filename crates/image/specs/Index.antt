@@ -3,7 +3,7 @@ use Prim.Native.Nat.{ℕ, zero, suc, _+_, _-_, _*_}
 use mathlib.Core.List.{List, [], _∷_}
 use lib.ListN.{length, take, drop}
 use Rattle.der.specs.Octets.{number}
-use Rattle.image.specs.declared.Entry.{Entry}
+use Rattle.image.specs.declared.IndexEntry.{IndexEntry}
 use Rattle.image.specs.Items.{Item}
 
 -- the big-endian number in k octets at an offset
@@ -24,16 +24,16 @@ unfoldable pub dayIn : List ℕ → ℕ
 dayIn s = field s (length s - 4) 4
 
 -- the index entry at an offset
-unfoldable pub entryAt : List ℕ → ℕ → Entry
+unfoldable pub entryAt : List ℕ → ℕ → IndexEntry
 entryAt s at =
     record { kind = field s at 1; flags = field s (at + 1) 1; length = field s (at + 2) 2; offset = field s (at + 4) 4 }
 
 -- the entry of a place
-unfoldable pub entryIn : List ℕ → ℕ → Entry
+unfoldable pub entryIn : List ℕ → ℕ → IndexEntry
 entryIn s place = entryAt s (indexStart s + 8 * place)
 
 -- the item that an entry tells
-unfoldable pub itemAt : List ℕ → Entry → Item
+unfoldable pub itemAt : List ℕ → IndexEntry → Item
 itemAt s e = record { kind = e .kind; flags = e .flags; bytes = take (e .length) (drop (e .offset) s) }
 
 -- the items of some places in a row

@@ -5,7 +5,7 @@ use mathlib.Core.List.{List, [], _∷_}
 use lib.Dec.{leb, eqb}
 use lib.ListN.{length}
 use Rattle.calendar.specs.Days.{realDay}
-use Rattle.image.specs.declared.Entry.{Entry}
+use Rattle.image.specs.declared.IndexEntry.{IndexEntry}
 use Rattle.image.specs.declared.Total.{Total}
 use Rattle.image.specs.declared.Total.the-variants.{Sum, Unfit}
 use Rattle.image.specs.Index.{indexStart, entryCount, versionIn, dayIn, entryAt}
@@ -36,7 +36,7 @@ fieldsGood kind flags size =
     leb 1 kind && (leb kind 4 && (cond (eqb kind 1) (leb flags 1) (eqb flags 0) && (leb 1 size && leb size 16384)))
 
 -- an entry whose offset is the sum of the lengths before it
-unfoldable pub entryGood : Entry → ℕ → Bool
+unfoldable pub entryGood : IndexEntry → ℕ → Bool
 entryGood e sum = fieldsGood (e .kind) (e .flags) (e .length) && eqb (e .offset) sum
 
 -- 6: each entry; the sum of all lengths where each is good

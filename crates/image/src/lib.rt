@@ -2,9 +2,12 @@
 use calendar::real_day;
 use refusal::Refusal;
 ghost use mathlib.Core.Path.{_≡_};
-ghost use Prim.Native.Nat.{_+_, _*_, _≤_};
-ghost use lib.ListN.{length};
-ghost use Rattle.image.specs.Index.{field, entryAt, entryIn};
+ghost use mathlib.Core.Bool.{cond};
+ghost use Prim.Native.Nat.{_+_, _*_, _^_, _≤_, _<_};
+ghost use lib.Dec.{leb, eqb};
+ghost use lib.ListN.{length, take, drop};
+ghost use Rattle.der.specs.Octets.{number};
+ghost use Rattle.image.specs.Index.{field, indexStart, entryAt, entryIn};
 ghost use Rattle.image.specs.Rules.{fieldsGood, entryGood, sumOf};
 ghost use Rattle.image.specs.Answer.{openedOf, openedFor, placeOf, itemOf};
 
@@ -15,7 +18,7 @@ pub enum Opened {
 }
 
 // Kind 1 anchor, 2 link, 3 document signer, 4 CRL; flags 1 for an enabled anchor; where the item stands.
-pub struct Entry {
+pub struct IndexEntry {
     pub kind: usize,
     pub flags: usize,
     pub length: usize,
@@ -23,7 +26,7 @@ pub struct Entry {
 }
 
 pub enum Place {
-    Is(Entry),
+    Is(IndexEntry),
     Refused(Refusal),
 }
 
@@ -44,22 +47,22 @@ pub fn open(image: &[u8]) -> Opened
     if 262144 < n {
         return broken(1);
     }
-    if number(image, n - 6, 2) != 1 {
+    if two(image, n - 6) != 1 {
         return broken(2);
     }
-    let entries = number(image, n - 8, 2);
+    let entries = two(image, n - 8);
     if 96 < entries {
         return broken(3);
     }
-    let day = number(image, n - 4, 4) as u64;
+    let day = four(image, n - 4) as u64;
     if !real_day(day) {
         return broken(4);
     }
-    let start = number(image, n - 12, 4);
+    let start = four(image, n - 12);
     if start + 8 * entries + 12 != n {
         return broken(5);
     }
-    let Total::Sum(sum) = total(image, start, entries) else {
+    let Total::Sum(sum) = sum_entries(image, start, entries) else {
         return broken(6);
     };
     if sum != start {
@@ -91,13 +94,16 @@ pub fn open_for(image: &[u8], wanted: u64) -> Opened
 pub fn entry(image: &[u8], place: u64) -> Place
     ensures { λ r. ⌜ r ≡ placeOf (now (image .entry)) place ⌝ }
 {
-    let Opened::Image { entries, day: _ } = open(image) else {
-        return refused(open(image));
-    };
-    if entries as u64 <= place {
-        return Place::Refused(Refusal::Argument);
+    match open(image) {
+        Opened::Refused(refusal) => Place::Refused(refusal),
+        Opened::Image { entries, day: _ } => {
+            if place < entries as u64 {
+                Place::Is(entry_in(image, place as usize))
+            } else {
+                Place::Refused(Refusal::Argument)
+            }
+        }
     }
-    Place::Is(entry_in(image, place as usize))
 }
 
 // The bytes of an item, as a part of the image; an empty part on a refusal.
@@ -110,19 +116,50 @@ pub fn item(image: &[u8], place: u64) -> &[u8]
     part(image, e.offset, e.length)
 }
 
-// The entry of a place as it stands in an image's index; zeros beyond its end.
-pub fn entry_in(image: &[u8], place: usize) -> Entry
+// The entry of a place as it stands in an image's index; octets beyond the end are not there, and zeros where there is none.
+pub fn entry_in(image: &[u8], place: usize) -> IndexEntry
     ensures { λ r. ⌜ r ≡ entryIn (now (image .entry)) place ⌝ }
 {
-    let start = number(image, image.len() - 12, 4);
-    entry_at(image, start + 8 * place)
+    let n = image.len();
+    if n / 8 < place {
+        return IndexEntry { kind: 0, flags: 0, length: 0, offset: 0 };
+    }
+    let at = index_start(image) + 8 * place;
+    if n < at + 8 {
+        return entry_cut(image, at);
+    }
+    entry_at(image, at)
 }
 
-// The index entry at an offset.
-fn entry_at(image: &[u8], at: usize) -> Entry
+fn index_start(image: &[u8]) -> usize
+    ensures { λ r. ⌜ (r ≡ indexStart (now (image .entry))) × (r < 2 ^ 32) ⌝ }
+{
+    let n = image.len();
+    if n < 12 {
+        return number(image, 0, 4);
+    }
+    four(image, n - 12)
+}
+
+// The index entry at an offset, all of it there.
+fn entry_at(image: &[u8], at: usize) -> IndexEntry
+    requires { ⌜ at + 8 ≤ length (now image) ⌝ }
+    ensures { λ r. ⌜ (r ≡ entryAt (now (image .entry)) at) × (r .length < 65536) ⌝ }
+{
+    IndexEntry {
+        kind: image[at] as usize,
+        flags: image[at + 1] as usize,
+        length: two(image, at + 2),
+        offset: four(image, at + 4),
+    }
+}
+
+// The index entry at an offset, of which some octets lie beyond the end.
+fn entry_cut(image: &[u8], at: usize) -> IndexEntry
+    requires { ⌜ at + 8 < 2 ^ 64 ⌝ }
     ensures { λ r. ⌜ r ≡ entryAt (now (image .entry)) at ⌝ }
 {
-    Entry {
+    IndexEntry {
         kind: number(image, at, 1),
         flags: number(image, at + 1, 1),
         length: number(image, at + 2, 2),
@@ -130,8 +167,59 @@ fn entry_at(image: &[u8], at: usize) -> Entry
     }
 }
 
+// The numbers in two and in four octets that are there.
+fn two(image: &[u8], at: usize) -> usize
+    requires { ⌜ at + 2 ≤ length (now image) ⌝ }
+    ensures { λ r. ⌜ (r ≡ field (now (image .entry)) at 2) × (r < 65536) ⌝ }
+{
+    image[at] as usize * 256 + image[at + 1] as usize
+}
+
+fn four(image: &[u8], at: usize) -> usize
+    requires { ⌜ at + 4 ≤ length (now image) ⌝ }
+    ensures { λ r. ⌜ (r ≡ field (now (image .entry)) at 4) × (r < 2 ^ 32) ⌝ }
+{
+    two(image, at) * 65536 + two(image, at + 2)
+}
+
+// The number in the octets that are there of a few.
+fn number(image: &[u8], at: usize, count: usize) -> usize
+    requires { ⌜ count ≤ 4 ⌝ }
+    ensures { λ r. ⌜ (r ≡ field (now (image .entry)) at count) × (r < 2 ^ 32) ⌝ }
+{
+    number_of(part(image, at, count))
+}
+
+fn number_of(c: &[u8]) -> usize
+    requires { ⌜ length (now c) ≤ 4 ⌝ }
+    ensures { λ r. ⌜ (r ≡ number (now (c .entry))) × (r < 2 ^ 32) ⌝ }
+{
+    let mut value = 0;
+    let mut i = 0;
+    while i < c.len() {
+        value = value * 256 + c[i] as usize;
+        i += 1;
+    }
+    value
+}
+
+// As many octets as there are, from an offset on.
+fn part(image: &[u8], from: usize, size: usize) -> &[u8]
+    ensures { λ r. ⌜ now r ≡ take size (drop from (now (image .entry))) ⌝ }
+{
+    let n = image.len();
+    if n < from {
+        return &image[0..0];
+    }
+    if n - from < size {
+        return &image[from..];
+    }
+    let end = from + size;
+    &image[from..end]
+}
+
 // The sum of the lengths of entries in a row, if each is good.
-fn total(image: &[u8], start: usize, entries: usize) -> Total
+fn sum_entries(image: &[u8], start: usize, entries: usize) -> Total
     requires { ⌜ (start + 8 * entries + 12 ≤ length (now image)) × (entries ≤ 96) ⌝ }
     ensures { λ r. ⌜ r ≡ sumOf (now (image .entry)) start entries 0 ⌝ }
 {
@@ -151,7 +239,7 @@ fn total(image: &[u8], start: usize, entries: usize) -> Total
 }
 
 // Kind, flags and length in their ranges, the offset the sum of the lengths before.
-fn entry_good(e: Entry, sum: usize) -> bool
+fn entry_good(e: IndexEntry, sum: usize) -> bool
     ensures { λ r. ⌜ r ≡ entryGood e sum ⌝ }
 {
     if !fields_good(e.kind, e.flags, e.length) {
@@ -170,17 +258,22 @@ pub fn fields_good(kind: usize, flags: usize, length: usize) -> bool
     if 4 < kind {
         return false;
     }
-    if kind == 1 {
-        if 1 < flags {
-            return false;
-        }
-    } else if flags != 0 {
+    if !flags_good(kind, flags) {
         return false;
     }
     if length < 1 {
         return false;
     }
     length <= 16384
+}
+
+fn flags_good(kind: usize, flags: usize) -> bool
+    ensures { λ r. ⌜ r ≡ cond (eqb kind 1) (leb flags 1) (eqb flags 0) ⌝ }
+{
+    if kind == 1 {
+        return flags <= 1;
+    }
+    flags == 0
 }
 
 fn broken(rule: u64) -> Opened

@@ -1,8 +1,15 @@
 // Writing a trust image.
+use calendar::real_day;
+use image::fields_good;
 use refusal::Refusal;
 ghost use mathlib.Core.Path.{_≡_};
-ghost use lib.ListN.{length};
-ghost use Rattle.writer.specs.Writing.{writtenOf, outputOf};
+ghost use mathlib.Core.List.{_++_};
+ghost use Prim.Native.Nat.{_*_, _≤_};
+ghost use lib.ListN.{length, drop};
+ghost use Rattle.der.specs.Octets.{big};
+ghost use Rattle.image.specs.Items.{entryBytes, trailerBytes};
+ghost use Rattle.writer.specs.Rows.{rowsBytes};
+ghost use Rattle.writer.specs.Writing.{rowsGood, sumAll, argumentsGood, writtenOf, outputOf};
 
 // The length of the image that was written.
 pub enum Written {
@@ -16,5 +23,138 @@ pub fn write(packed: &[u8], kinds: &[u8], flags: &[u8], lengths: &[u32], day: u6
     ensures answer { λ r. ⌜ r ≡ writtenOf (now (packed .entry)) (now (kinds .entry)) (now (flags .entry)) (now (lengths .entry)) day (length (now (out .entry))) ⌝ }
     ensures output { λ _. ⌜ now (out .exit) ≡ outputOf (now (packed .entry)) (now (kinds .entry)) (now (flags .entry)) (now (lengths .entry)) day (now (out .entry)) ⌝ }
 {
-    Written::Refused(Refusal::Argument)
+    if !arguments_good(packed, kinds, flags, lengths, day) {
+        return Written::Refused(Refusal::Argument);
+    }
+    let start = packed.len();
+    let count = kinds.len();
+    let trailer = start + 8 * count;
+    let size = trailer + 12;
+    if 262144 < size {
+        return Written::Refused(Refusal::Limit { at: 0 });
+    }
+    if out.len() < size {
+        return Written::Refused(Refusal::Short);
+    }
+    copy(packed, out);
+    put_index(kinds, flags, lengths, &mut out[start..]);
+    put_trailer(start, count, day, &mut out[trailer..]);
+    Written::Length(size)
+}
+
+// The day, the columns and the sum of the lengths.
+fn arguments_good(packed: &[u8], kinds: &[u8], flags: &[u8], lengths: &[u32], day: u64) -> bool
+    ensures { λ r. ⌜ r ≡ argumentsGood (now (packed .entry)) (now (kinds .entry)) (now (flags .entry)) (now (lengths .entry)) day ⌝ }
+{
+    if !real_day(day) {
+        return false;
+    }
+    let count = kinds.len();
+    if 96 < count {
+        return false;
+    }
+    if flags.len() != count {
+        return false;
+    }
+    if lengths.len() != count {
+        return false;
+    }
+    if !rows_good(kinds, flags, lengths) {
+        return false;
+    }
+    sum_all(lengths) == packed.len()
+}
+
+fn rows_good(kinds: &[u8], flags: &[u8], lengths: &[u32]) -> bool
+    requires { ⌜ (length (now flags) ≡ length (now kinds)) × (length (now lengths) ≡ length (now kinds)) ⌝ }
+    ensures { λ r. ⌜ r ≡ rowsGood (now (kinds .entry)) (now (flags .entry)) (now (lengths .entry)) ⌝ }
+{
+    let mut i = 0;
+    while i < kinds.len() {
+        if !fields_good(kinds[i] as usize, flags[i] as usize, lengths[i] as usize) {
+            return false;
+        }
+        i += 1;
+    }
+    true
+}
+
+fn sum_all(lengths: &[u32]) -> usize
+    requires { ⌜ length (now lengths) ≤ 96 ⌝ }
+    ensures { λ r. ⌜ r ≡ sumAll (now (lengths .entry)) ⌝ }
+{
+    let mut sum = 0;
+    let mut i = 0;
+    while i < lengths.len() {
+        sum += lengths[i] as usize;
+        i += 1;
+    }
+    sum
+}
+
+fn copy(from: &[u8], out: &mut [u8])
+    requires { ⌜ length (now from) ≤ length (now out) ⌝ }
+    ensures { λ _. ⌜ now (out .exit) ≡ now (from .entry) ++ drop (length (now (from .entry))) (now (out .entry)) ⌝ }
+{
+    let mut i = 0;
+    while i < from.len() {
+        out[i] = from[i];
+        i += 1;
+    }
+}
+
+// The index of the columns, each offset the sum of the lengths before it.
+fn put_index(kinds: &[u8], flags: &[u8], lengths: &[u32], out: &mut [u8])
+    requires { ⌜ (length (now flags) ≡ length (now kinds)) × (length (now lengths) ≡ length (now kinds)) × (length (now kinds) ≤ 96) × (8 * length (now kinds) ≤ length (now out)) ⌝ }
+    ensures { λ _. ⌜ now (out .exit) ≡ rowsBytes 0 (now (kinds .entry)) (now (flags .entry)) (now (lengths .entry)) ++ drop (8 * length (now (kinds .entry))) (now (out .entry)) ⌝ }
+{
+    let mut offset = 0;
+    let mut at = 0;
+    let mut i = 0;
+    while i < kinds.len() {
+        let size = lengths[i] as usize;
+        put_entry(kinds[i], flags[i], size, offset, &mut out[at..]);
+        offset += size;
+        at += 8;
+        i += 1;
+    }
+}
+
+fn put_entry(kind: u8, flags: u8, size: usize, offset: usize, out: &mut [u8])
+    requires { ⌜ 8 ≤ length (now out) ⌝ }
+    ensures { λ _. ⌜ now (out .exit) ≡ entryBytes kind flags size offset ++ drop 8 (now (out .entry)) ⌝ }
+{
+    out[0] = kind;
+    out[1] = flags;
+    put_two(size, &mut out[2..]);
+    put_four(offset, &mut out[4..]);
+}
+
+fn put_trailer(start: usize, entries: usize, day: u64, out: &mut [u8])
+    requires { ⌜ 12 ≤ length (now out) ⌝ }
+    ensures { λ _. ⌜ now (out .exit) ≡ trailerBytes start entries day ++ drop 12 (now (out .entry)) ⌝ }
+{
+    put_four(start, &mut out[0..]);
+    put_two(entries, &mut out[4..]);
+    put_two(1, &mut out[6..]);
+    put_four(day as usize, &mut out[8..]);
+}
+
+// The last two and the last four octets of a number.
+fn put_two(n: usize, out: &mut [u8])
+    requires { ⌜ 2 ≤ length (now out) ⌝ }
+    ensures { λ _. ⌜ now (out .exit) ≡ big 2 n ++ drop 2 (now (out .entry)) ⌝ }
+{
+    out[0] = (n / 256 % 256) as u8;
+    out[1] = (n % 256) as u8;
+}
+
+fn put_four(n: usize, out: &mut [u8])
+    requires { ⌜ 4 ≤ length (now out) ⌝ }
+    ensures { λ _. ⌜ now (out .exit) ≡ big 4 n ++ drop 4 (now (out .entry)) ⌝ }
+{
+    out[0] = (n / 16777216 % 256) as u8;
+    out[1] = (n / 65536 % 256) as u8;
+    out[2] = (n / 256 % 256) as u8;
+    out[3] = (n % 256) as u8;
 }

@@ -1,0 +1,58 @@
+-- A field octet by octet: each octet that is there adds itself to 256 times those before it, and beyond the end there is none.
+use Prim.Native.Nat.{ℕ, zero, suc, _+_, _*_, _-_, _^_, _<_, _≤_}
+use mathlib.Core.Path.{_≡_, refl, ap, sym, _∙_}
+use mathlib.Core.List.{List, []}
+use native.Mathlib.Nat.{add-assoc}
+use native.Mathlib.Omega.{arith}
+use lib.ListN.{length, getD, take, drop, length-drop, drop-of-length-le}
+use lib.Seq.{getD-drop, take-nil}
+use Rattle.der.specs.Octets.{number}
+use Rattle.der.proofs.Weights.{number-next}
+use Rattle.image.specs.declared.IndexEntry.{IndexEntry}
+use Rattle.image.specs.Index.{field, entryAt}
+
+pub field-next :
+    (s : List ℕ) (at k : ℕ) → at + k < length s → field s at (suc k) ≡ field s at k * 256 + getD s (at + k) 0
+unfolding field
+field-next s at k h =
+    let more : k < length (drop at s) = rw length-drop (omega arith) in
+    number-next (drop at s) k more ∙ rw (getD-drop at s k 0)
+
+nothing : (s : List ℕ) (at : ℕ) → field s at 0 ≡ 0
+unfolding field number
+nothing s at = refl
+
+pub field-one : (s : List ℕ) (at : ℕ) → at < length s → field s at 1 ≡ getD s at 0
+field-one s at h =
+    let here : at + 0 ≡ at = omega arith in
+    omega (arith, nothing s at, field-next s at 0 (omega arith), ap (λ (i : ℕ). getD s i 0) here)
+
+pub field-two :
+    (s : List ℕ) (at : ℕ) → at + 2 ≤ length s → field s at 2 ≡ getD s at 0 * 256 + getD s (at + 1) 0
+field-two s at h = omega (arith, field-next s at 1 (omega arith), field-one s at (omega arith))
+
+pub field-four :
+    (s : List ℕ) (at : ℕ) → at + 4 ≤ length s → field s at 4 ≡ field s at 2 * 65536 + field s (at + 2) 2
+field-four s at h =
+    omega (
+      arith,
+      field-next s at 3 (omega arith),
+      field-next s at 2 (omega arith),
+      field-two s (at + 2) (omega arith),
+      ap (λ (i : ℕ). getD s i 0) (add-assoc at 2 1),
+    )
+
+pub field-past : (s : List ℕ) (at k : ℕ) → length s ≤ at → field s at k ≡ 0
+unfolding field number
+field-past s at k h = rw (drop-of-length-le s, take-nil)
+
+pub entry-past :
+    (s : List ℕ) (at : ℕ) → length s ≤ at → record { kind = 0; flags = 0; length = 0; offset = 0 } ≡ entryAt s at
+unfolding entryAt
+entry-past s at h =
+    rw (
+      field-past s at 1 h,
+      field-past s (at + 1) 1 (omega arith),
+      field-past s (at + 2) 2 (omega arith),
+      field-past s (at + 4) 4 (omega arith),
+    )

@@ -1,0 +1,53 @@
+-- A place past an eighth of the octets has its entry beyond the end, and any other lies where no sum wraps.
+use mathlib.Core.Path.{_≡_, refl, ap, sym, _∙_}
+use native.Mathlib.Omega.{arith}
+use Prim.Native.Nat.{ℕ, _+_, _*_}
+use Rattle.image.specs.Index.{indexStart, entryAt, entryIn}
+use Rattle.image.proofs.Fields.{entry-past}
+use borrow.Author.Needs.{needs}
+use Rattle.image.proofs.entry_in.Statement.{statement}
+use Rattle.image.proofs.entry_in.Tie as tie
+
+returns : tie.Need-returns
+unfolding entryIn
+returns c = entry-past (c .before .before .args .image .now) (indexStart (c .before .before .args .image .now) + 8 * c .before .before .args .place) (omega arith)
+
+index-start-requires : tie.Need-index-start-requires
+index-start-requires c κs = search needs
+
+mul-at : tie.Need-mul-at
+mul-at c = search needs
+
+add-at : tie.Need-add-at
+add-at c = search needs
+
+add-if2 : tie.Need-add-if2
+add-if2 c = search needs
+
+entry-cut-requires : tie.Need-entry-cut-requires
+entry-cut-requires c κs = search needs
+
+returns-2 : tie.Need-returns-2
+unfolding entryIn
+returns-2 c = c .entry-cut .ensures ∙ ap (λ (i : ℕ). entryAt (c .before .before .before .before .before .args .image .now) (i + 8 * c .before .before .before .before .before .args .place)) (c .before .before .index-start .ensures .0)
+
+entry-at-requires : tie.Need-entry-at-requires
+entry-at-requires c κs = search needs
+
+returns-3 : tie.Need-returns-3
+unfolding entryIn
+returns-3 c = c .entry-at .ensures .0 ∙ ap (λ (i : ℕ). entryAt (c .before .before .before .before .before .args .image .now) (i + 8 * c .before .before .before .before .before .args .place)) (c .before .before .index-start .ensures .0)
+
+pub entry-in-spec : {M : Type 1} → statement M
+entry-in-spec =
+    tie.close
+    (tie.spec
+    returns
+    index-start-requires
+    mul-at
+    add-at
+    add-if2
+    entry-cut-requires
+    returns-2
+    entry-at-requires
+    returns-3)

@@ -1,0 +1,13 @@
+-- The definition asks the same tests.
+use borrow.Author.Tests.{eq-eqb, ne-eqb}
+use Rattle.image.proofs.flags_good.Statement.{statement}
+use Rattle.image.proofs.flags_good.Tie as tie
+
+returns : tie.Need-returns
+returns c = simp (eq-eqb _ _ (c .if1 .taken))
+
+returns-2 : tie.Need-returns-2
+returns-2 c = simp (ne-eqb _ _ (c .if1 .left))
+
+pub flags-good-spec : {M : Type 1} → statement M
+flags-good-spec = tie.close (tie.spec returns returns-2)

@@ -1,0 +1,52 @@
+-- One law for each answer of the writer, and what the output is then.
+use Prim.Native.Nat.{ℕ, _≤_, _<_}
+use mathlib.Core.Path.{_≡_, sym, _∙_}
+use mathlib.Core.Bool.{true, false}
+use mathlib.Core.List.{List, _++_, append-assoc}
+use borrow.Author.Tests.{le-leb, lt-leb}
+use lib.ListN.{length, drop}
+use Rattle.refusal.specs.declared.Refusal.{Refusal}
+use Rattle.refusal.specs.declared.Refusal.the-variants.{Argument, Limit, Short}
+use Rattle.image.specs.Items.{trailerBytes}
+use Rattle.writer.specs.declared.Written.the-variants.{Length, Refused}
+use Rattle.writer.specs.Rows.{rowsBytes}
+use Rattle.writer.specs.Writing.{argumentsGood, sizeOf, writtenOf, onWritten, outputOf}
+use Rattle.writer.proofs.Columns.{arguments-tell, image-of}
+
+module _ (octets kinds flags lengths : List ℕ) (day : ℕ) (old : List ℕ) where
+  pub refused-argument :
+      argumentsGood octets kinds flags lengths day ≡ false → writtenOf octets kinds flags lengths day (length old) ≡ Refused Argument
+  unfolding writtenOf
+  refused-argument e = simp e
+
+  pub output-refused :
+      {refusal : Refusal} → writtenOf octets kinds flags lengths day (length old) ≡ Refused refusal
+      → old ≡ outputOf octets kinds flags lengths day old
+  unfolding outputOf onWritten
+  output-refused e = simp e
+
+  module _ (good : argumentsGood octets kinds flags lengths day ≡ true) where
+    pub refused-limit :
+        262144 < sizeOf octets kinds → writtenOf octets kinds flags lengths day (length old) ≡ Refused (Limit 0)
+    unfolding writtenOf
+    refused-limit h = simp (good, lt-leb _ _ h)
+
+    module _ (small : sizeOf octets kinds ≤ 262144) where
+      pub refused-short :
+          length old < sizeOf octets kinds → writtenOf octets kinds flags lengths day (length old) ≡ Refused Short
+      unfolding writtenOf
+      refused-short h = simp (good, le-leb _ _ small, lt-leb _ _ h)
+
+      module _ (room : sizeOf octets kinds ≤ length old) where
+        pub all-written : writtenOf octets kinds flags lengths day (length old) ≡ Length (sizeOf octets kinds)
+        unfolding writtenOf
+        all-written = simp (good, le-leb _ _ small, le-leb _ _ room)
+
+        pub output-written :
+            outputOf octets kinds flags lengths day old
+            ≡ ((octets ++ rowsBytes 0 kinds flags lengths) ++ trailerBytes (length octets) (length kinds) day)
+            ++ drop (sizeOf octets kinds) old
+        unfolding outputOf onWritten
+        output-written =
+            let tell = arguments-tell octets kinds flags lengths day good in
+            simp (all-written, image-of octets kinds flags lengths day (tell .2) (tell .3), append-assoc)

@@ -1,0 +1,71 @@
+-- Kind and flags are stored, each number follows, and the output beyond the last is as it was.
+use mathlib.Core.Path.{_≡_, refl, ap, sym, _∙_}
+use native.Mathlib.Omega.{arith}
+use Prim.Native.Nat.{_≤_}
+use mathlib.Core.List.{[], _∷_, _++_}
+use lib.ListN.{length, set, length-set, length-take, length-drop}
+use Rattle.der.specs.Octets.{big}
+use Rattle.image.specs.Items.{entryBytes}
+use Rattle.writer.proofs.Stores.{set-two, put-next}
+use borrow.Author.Needs.{needs}
+use Rattle.writer.proofs.put_entry.Statement.{statement}
+use Rattle.writer.proofs.put_entry.Tie as tie
+
+slice-write-out : tie.Need-slice-write-out
+slice-write-out c = search needs
+
+slice-write-out-2 : tie.Need-slice-write-out-2
+slice-write-out-2 c = simp length-set (omega arith)
+
+sub-put-two : tie.Need-sub-put-two
+sub-put-two c = simp length-set (omega arith)
+
+part-put-two-start : tie.Need-part-put-two-start
+part-put-two-start c = simp length-set (omega arith)
+
+part-put-two-end : tie.Need-part-put-two-end
+part-put-two-end c = search needs
+
+put-two-requires : tie.Need-put-two-requires
+put-two-requires c κs = simp (length-take, length-drop, length-set) (omega arith)
+
+sub-put-four : tie.Need-sub-put-four
+sub-put-four c = omega (arith, c .before .out .given .1, length-set (c .before .before .before .before .before .args .out .now) 0 (c .before .before .before .before .before .args .kind), length-set (set (c .before .before .before .before .before .args .out .now) 0 (c .before .before .before .before .before .args .kind)) 1 (c .before .before .before .before .before .args .flags))
+
+part-put-four-start : tie.Need-part-put-four-start
+part-put-four-start c = omega (arith, c .before .out .given .1, length-set (c .before .before .before .before .before .args .out .now) 0 (c .before .before .before .before .before .args .kind), length-set (set (c .before .before .before .before .before .args .out .now) 0 (c .before .before .before .before .before .args .kind)) 1 (c .before .before .before .before .before .args .flags))
+
+part-put-four-end : tie.Need-part-put-four-end
+part-put-four-end c = search needs
+
+put-four-requires : tie.Need-put-four-requires
+put-four-requires c κs = simp (length-take, length-drop) (omega (arith, c .before .before .out .given .1, length-set (c .before .before .before .before .before .before .args .out .now) 0 (c .before .before .before .before .before .before .args .kind), length-set (set (c .before .before .before .before .before .before .args .out .now) 0 (c .before .before .before .before .before .before .args .kind)) 1 (c .before .before .before .before .before .before .args .flags)))
+
+same-length : tie.Need-same-length
+same-length c = omega (arith, c .before .before .before .before .before .out .given .1, c .before .out2 .given .1, length-set (c .before .before .before .before .before .before .before .before .before .args .out .now) 0 (c .before .before .before .before .before .before .before .before .before .args .kind), length-set (set (c .before .before .before .before .before .before .before .before .before .args .out .now) 0 (c .before .before .before .before .before .before .before .before .before .args .kind)) 1 (c .before .before .before .before .before .before .before .before .before .args .flags))
+
+returns : tie.Need-returns
+unfolding entryBytes big
+returns c =
+    let old = c .before .before .before .before .before .before .before .before .before .args .out .now in
+    let room : 2 ≤ length old = omega (arith, c .before .before .before .before .before .before .before .before .before .pre) in
+    let two = c .before .before .before .before .before .before .before .before .before .args .kind ∷ c .before .before .before .before .before .before .before .before .before .args .flags ∷ [] in
+    let first = put-next old two (big 2 (c .before .before .before .before .before .before .before .before .before .args .size)) _ _ 2 2 refl (set-two old (c .before .before .before .before .before .before .before .before .before .args .kind) (c .before .before .before .before .before .before .before .before .before .args .flags) room) (c .before .before .before .before .before .before .put-two .ensures) in
+    put-next old (two ++ big 2 (c .before .before .before .before .before .before .before .before .before .args .size)) (big 4 (c .before .before .before .before .before .before .before .before .before .args .offset)) _ _ 4 4 refl first (c .before .before .put-four .ensures)
+
+pub put-entry-spec : {M : Type 1} → statement M
+put-entry-spec =
+    tie.close
+    (tie.spec
+    slice-write-out
+    slice-write-out-2
+    sub-put-two
+    part-put-two-start
+    part-put-two-end
+    put-two-requires
+    sub-put-four
+    part-put-four-start
+    part-put-four-end
+    put-four-requires
+    same-length
+    returns)

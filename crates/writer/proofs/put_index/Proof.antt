@@ -1,0 +1,122 @@
+-- The entries written so far and those of the rows left are the whole index; each stands 8 octets after the one before it.
+use mathlib.Core.Path.{_≡_, refl, ap, sym, _∙_}
+use native.Mathlib.Omega.{arith}
+use Prim.Native.Nat.{ℕ, _+_, _*_, _-_, _^_, _≤_}
+use mathlib.Core.List.{List, [], _++_, append-assoc, append-nil}
+use lib.ListN.{length, getD, drop, length-append, length-take, length-drop, drop-of-length-le}
+use Rattle.image.specs.Items.{entryBytes}
+use Rattle.writer.specs.Rows.{rowsBytes}
+use Rattle.writer.proofs.Stores.{put-next}
+use Rattle.writer.proofs.Columns.{rows-next, entry-length}
+use Rattle.writer.proofs.put_index.Statement.{statement}
+use Rattle.writer.proofs.put_index.Tie as tie
+
+abbrev Inv-loop : tie.InvT-loop
+Inv-loop kinds flags lengths out₀ offset₀ at₀ i₀ out offset at i =
+    (i ≤ length kinds) × (at ≡ 8 * i) × (offset ≤ i * 2 ^ 32) × (length out ≡ length out₀)
+    × ((done : List ℕ) × (length done ≡ at) × (out ≡ done ++ drop at out₀)
+    × (done ++ rowsBytes offset (drop i kinds) (drop i flags) (drop i lengths) ≡ rowsBytes 0 kinds flags lengths))
+
+abbrev μ-loop : tie.MeasureT-loop
+μ-loop kinds flags lengths out₀ offset₀ at₀ i₀ out offset at i = length kinds - i
+
+loop-holds : tie.Need-loop-holds Inv-loop μ-loop
+loop-holds c = (omega arith, omega arith, omega arith, refl, ([], refl, refl, refl))
+
+mul-size : tie.Need-mul-size Inv-loop μ-loop
+mul-size c = omega (arith, c .before .before .before .before .before .before .pre)
+
+shared-slice-read-size : tie.Need-shared-slice-read-size Inv-loop μ-loop
+shared-slice-read-size c = omega (arith, c .before .before .before .before .before .before .before .pre)
+
+cast-size : tie.Need-cast-size Inv-loop μ-loop
+cast-size c = omega (arith, c .shared-slice-known4 .given (c .before .before .loop .i))
+
+shared-slice-read-put-entry : tie.Need-shared-slice-read-put-entry Inv-loop μ-loop
+shared-slice-read-put-entry c = omega (arith, c .before .before .before .before .before .before .before .before .pre)
+
+shared-slice-read-put-entry-2 : tie.Need-shared-slice-read-put-entry-2 Inv-loop μ-loop
+shared-slice-read-put-entry-2 c = omega (arith, c .before .before .before .before .before .before .before .before .before .pre)
+
+sub-put-entry : tie.Need-sub-put-entry Inv-loop μ-loop
+sub-put-entry c = omega (arith, c .before .before .before .before .before .before .before .before .before .pre)
+
+part-put-entry-start : tie.Need-part-put-entry-start Inv-loop μ-loop
+part-put-entry-start c = omega (arith, c .before .before .before .before .before .before .before .before .before .pre)
+
+part-put-entry-end : tie.Need-part-put-entry-end Inv-loop μ-loop
+part-put-entry-end c = omega (arith, c .before .before .before .before .before .before .before .before .before .pre)
+
+put-entry-requires : tie.Need-put-entry-requires Inv-loop μ-loop
+put-entry-requires c κs = simp (length-take, length-drop) (omega (arith, c .before .before .before .before .before .before .before .before .before .before .pre))
+
+add-offset : tie.Need-add-offset Inv-loop μ-loop
+add-offset c = omega (arith, c .before .before .before .before .before .before .before .before .before .before .before .before .before .pre, c .before .before .before .before .before .before .shared-slice-known4 .given (c .before .before .before .before .before .before .before .before .loop .i))
+
+add-at : tie.Need-add-at Inv-loop μ-loop
+add-at c = omega (arith, c .before .before .before .before .before .before .before .before .before .before .before .before .before .pre)
+
+add-i : tie.Need-add-i Inv-loop μ-loop
+add-i c = omega (arith, c .before .before .before .before .before .before .before .before .before .before .before .before .before .pre)
+
+loop-less : tie.Need-loop-less Inv-loop μ-loop
+loop-less c = omega (arith, c .before .before .before .before .before .before .before .before .before .before .before .before .before .pre)
+
+loop-again : tie.Need-loop-again Inv-loop μ-loop
+loop-again c =
+    let a = c .before .before .before .before .before .before .before .before .before .before .before .before .before .args in
+    let now = c .before .before .before .before .before .before .before .before .loop in
+    let done = now .inv .4 .0 in
+    let entry = entryBytes (getD (a .kinds .now) (now .i) 0) (getD (a .flags .now) (now .i) 0) (getD (a .lengths .now) (now .i) 0) (now .offset) in
+    let row = rows-next (a .kinds .now) (a .flags .now) (a .lengths .now) (now .i) (c .before .before .before .before .before .before .before .loop-test .taken) (now .offset) in
+    let rest = rowsBytes (now .offset + getD (a .lengths .now) (now .i) 0) (drop (now .i + 1) (a .kinds .now)) (drop (now .i + 1) (a .flags .now)) (drop (now .i + 1) (a .lengths .now)) in
+    let size : length (done ++ entry) ≡ now .at + 8 = length-append done entry ∙ rw (now .inv .4 .1, entry-length) in
+    (
+      omega arith,
+      omega arith,
+      omega (arith, c .before .before .before .before .before .before .shared-slice-known4 .given (now .i)),
+      c .before .out .given .1 ∙ now .inv .3,
+      (
+        done ++ entry,
+        size,
+        put-next (a .out .now) done entry (now .out) _ (now .at) 8 (now .inv .4 .1) (now .inv .4 .2) (c .before .before .put-entry .ensures),
+        append-assoc done entry rest ∙ (ap (λ (l : List ℕ). done ++ l) (sym row) ∙ now .inv .4 .3),
+      ),
+    )
+
+same-length : tie.Need-same-length Inv-loop μ-loop
+same-length c = omega (arith, c .before .before .before .before .before .before .pre)
+
+returns : tie.Need-returns Inv-loop μ-loop
+unfolding rowsBytes
+returns c =
+    let kinds = c .before .before .before .before .before .before .args .kinds .now in
+    let now = c .before .loop in
+    let all : now .at ≡ 8 * length kinds = omega arith in
+    let none = drop-of-length-le kinds (c .loop-test .left) in
+    let done : now .inv .4 .0 ≡ rowsBytes 0 kinds (c .before .before .before .before .before .before .args .flags .now) (c .before .before .before .before .before .before .args .lengths .now) = rw (none, append-nil) at (now .inv .4 .3) in
+    rw (all, done) at (now .inv .4 .2)
+
+pub put-index-spec : {M : Type 1} → statement M
+put-index-spec =
+    tie.close
+    (tie.spec
+    Inv-loop
+    μ-loop
+    loop-holds
+    mul-size
+    shared-slice-read-size
+    cast-size
+    shared-slice-read-put-entry
+    shared-slice-read-put-entry-2
+    sub-put-entry
+    part-put-entry-start
+    part-put-entry-end
+    put-entry-requires
+    add-offset
+    add-at
+    add-i
+    loop-less
+    loop-again
+    same-length
+    returns)

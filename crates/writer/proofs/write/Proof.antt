@@ -1,0 +1,125 @@
+-- The tests come in the order of the refusals; then the octets, the index and the trailer follow one another.
+use mathlib.Core.Path.{_≡_, refl, ap, sym, _∙_}
+use native.Mathlib.Omega.{arith}
+use Prim.Native.Nat.{ℕ, _+_, _*_, _≤_}
+use mathlib.Core.Bool.{true}
+use mathlib.Core.List.{_++_}
+use borrow.Author.Tests.{not-true, not-false}
+use lib.ListN.{length, length-append, length-take, length-drop}
+use Rattle.image.specs.Items.{trailerBytes}
+use Rattle.writer.specs.Rows.{rowsBytes}
+use Rattle.writer.specs.Writing.{argumentsGood, sizeOf}
+use Rattle.writer.proofs.Stores.{put-next}
+use Rattle.writer.proofs.Columns.{rows-length, arguments-tell}
+use Rattle.writer.proofs.Answers.{refused-argument, refused-limit, refused-short, output-refused, all-written, output-written}
+use borrow.Author.Needs.{needs}
+use Rattle.writer.proofs.write.Statement.{statement}
+use Rattle.writer.proofs.write.Tie as tie
+
+arguments-good-requires : tie.Need-arguments-good-requires
+arguments-good-requires c κs = search needs
+
+returns : tie.Need-returns
+returns c =
+    let told = refused-argument (c .before .before .before .before .before .before .before .args .packed .now) (c .before .before .before .before .before .before .before .args .kinds .now) (c .before .before .before .before .before .before .before .args .flags .now) (c .before .before .before .before .before .before .before .args .lengths .now) (c .before .before .before .before .before .before .before .args .day) (c .before .before .before .before .before .before .before .args .out .now) (sym (c .before .arguments-good .ensures) ∙ not-true _ (c .if1 .taken)) in
+    (sym told, output-refused (c .before .before .before .before .before .before .before .args .packed .now) (c .before .before .before .before .before .before .before .args .kinds .now) (c .before .before .before .before .before .before .before .args .flags .now) (c .before .before .before .before .before .before .before .args .lengths .now) (c .before .before .before .before .before .before .before .args .day) (c .before .before .before .before .before .before .before .args .out .now) told)
+
+good : (c : tie.Else1) →
+    let a = c .before .before .before .before .before .before .before .args in
+    argumentsGood (a .packed .now) (a .kinds .now) (a .flags .now) (a .lengths .now) (a .day) ≡ true
+good c = sym (c .before .arguments-good .ensures) ∙ not-false _ (c .if1 .left)
+
+few : (c : tie.Else1) → length (c .before .before .before .before .before .before .before .args .kinds .now) ≤ 96
+few c =
+    let a = c .before .before .before .before .before .before .before .args in
+    arguments-tell (a .packed .now) (a .kinds .now) (a .flags .now) (a .lengths .now) (a .day) (good c) .0
+
+mul-trailer : tie.Need-mul-trailer
+mul-trailer c = omega (arith, few c)
+
+add-trailer : tie.Need-add-trailer
+add-trailer c = omega (arith, few c, c .before .before .before .before .before .before .before .good)
+
+add-size : tie.Need-add-size
+add-size c = omega (arith, few c, c .before .before .before .before .before .before .before .good)
+
+returns-2 : tie.Need-returns-2
+unfolding sizeOf
+returns-2 c =
+    let told = refused-limit (c .before .before .before .before .before .before .before .before .args .packed .now) (c .before .before .before .before .before .before .before .before .args .kinds .now) (c .before .before .before .before .before .before .before .before .args .flags .now) (c .before .before .before .before .before .before .before .before .args .lengths .now) (c .before .before .before .before .before .before .before .before .args .day) (c .before .before .before .before .before .before .before .before .args .out .now) (good (c .before)) (c .if2 .taken) in
+    (sym told, output-refused (c .before .before .before .before .before .before .before .before .args .packed .now) (c .before .before .before .before .before .before .before .before .args .kinds .now) (c .before .before .before .before .before .before .before .before .args .flags .now) (c .before .before .before .before .before .before .before .before .args .lengths .now) (c .before .before .before .before .before .before .before .before .args .day) (c .before .before .before .before .before .before .before .before .args .out .now) told)
+
+returns-3 : tie.Need-returns-3
+unfolding sizeOf
+returns-3 c =
+    let told = refused-short (c .before .before .before .before .before .before .before .before .before .args .packed .now) (c .before .before .before .before .before .before .before .before .before .args .kinds .now) (c .before .before .before .before .before .before .before .before .before .args .flags .now) (c .before .before .before .before .before .before .before .before .before .args .lengths .now) (c .before .before .before .before .before .before .before .before .before .args .day) (c .before .before .before .before .before .before .before .before .before .args .out .now) (good (c .before .before)) (c .before .if2 .left) (c .if3 .taken) in
+    (sym told, output-refused (c .before .before .before .before .before .before .before .before .before .args .packed .now) (c .before .before .before .before .before .before .before .before .before .args .kinds .now) (c .before .before .before .before .before .before .before .before .before .args .flags .now) (c .before .before .before .before .before .before .before .before .before .args .lengths .now) (c .before .before .before .before .before .before .before .before .before .args .day) (c .before .before .before .before .before .before .before .before .before .args .out .now) told)
+
+copy-requires : tie.Need-copy-requires
+copy-requires c κs = search needs
+
+sub-put-index : tie.Need-sub-put-index
+sub-put-index c = search needs
+
+part-put-index-start : tie.Need-part-put-index-start
+part-put-index-start c = search needs
+
+part-put-index-end : tie.Need-part-put-index-end
+part-put-index-end c = search needs
+
+put-index-requires : tie.Need-put-index-requires
+put-index-requires c κs =
+    let tell = arguments-tell (c .before .before .before .before .before .before .before .before .before .before .before .before .before .before .args .packed .now) (c .before .before .before .before .before .before .before .before .before .before .before .before .before .before .args .kinds .now) (c .before .before .before .before .before .before .before .before .before .before .before .before .before .before .args .flags .now) (c .before .before .before .before .before .before .before .before .before .before .before .before .before .before .args .lengths .now) (c .before .before .before .before .before .before .before .before .before .before .before .before .before .before .args .day) (good (c .before .before .before .before .before .before .before)) in
+    (tell .1, tell .2, tell .0, simp (length-take, length-drop) (omega (arith, c .before .before .out .given, c .before .before .before .copy .kept)))
+
+sub-put-trailer : tie.Need-sub-put-trailer
+sub-put-trailer c = search needs
+
+part-put-trailer-start : tie.Need-part-put-trailer-start
+part-put-trailer-start c = search needs
+
+part-put-trailer-end : tie.Need-part-put-trailer-end
+part-put-trailer-end c = search needs
+
+put-trailer-requires : tie.Need-put-trailer-requires
+put-trailer-requires c κs = search needs
+
+same-length : tie.Need-same-length
+same-length c = search needs
+
+returns-4 : tie.Need-returns-4
+unfolding sizeOf
+returns-4 c =
+    let octets = c .before .before .before .before .before .before .before .before .before .before .before .before .before .before .before .before .before .before .before .before .before .args .packed .now in
+    let kinds = c .before .before .before .before .before .before .before .before .before .before .before .before .before .before .before .before .before .before .before .before .before .args .kinds .now in
+    let rows = rowsBytes 0 kinds (c .before .before .before .before .before .before .before .before .before .before .before .before .before .before .before .before .before .before .before .before .before .args .flags .now) (c .before .before .before .before .before .before .before .before .before .before .before .before .before .before .before .before .before .before .before .before .before .args .lengths .now) in
+    let old = c .before .before .before .before .before .before .before .before .before .before .before .before .before .before .before .before .before .before .before .before .before .args .out .now in
+    let sum : length (octets ++ rows) ≡ length octets + 8 * length kinds =
+    length-append octets rows ∙ rw (rows-length kinds (c .before .before .before .before .before .before .before .before .before .before .before .before .before .before .before .before .before .before .before .before .before .args .flags .now) (c .before .before .before .before .before .before .before .before .before .before .before .before .before .before .before .before .before .before .before .before .before .args .lengths .now) 0) in
+    let index = put-next old octets rows _ _ (length octets) (8 * length kinds) refl (c .before .before .before .before .before .before .before .before .before .before .copy .ensures) (c .before .before .before .before .before .before .put-index .ensures) in
+    let trailer = put-next old (octets ++ rows) (trailerBytes (length octets) (length kinds) (c .before .before .before .before .before .before .before .before .before .before .before .before .before .before .before .before .before .before .before .before .before .args .day)) _ _ (length octets + 8 * length kinds) 12 sum index (c .before .before .put-trailer .ensures) in
+    let told = output-written (c .before .before .before .before .before .before .before .before .before .before .before .before .before .before .before .before .before .before .before .before .before .args .packed .now) (c .before .before .before .before .before .before .before .before .before .before .before .before .before .before .before .before .before .before .before .before .before .args .kinds .now) (c .before .before .before .before .before .before .before .before .before .before .before .before .before .before .before .before .before .before .before .before .before .args .flags .now) (c .before .before .before .before .before .before .before .before .before .before .before .before .before .before .before .before .before .before .before .before .before .args .lengths .now) (c .before .before .before .before .before .before .before .before .before .before .before .before .before .before .before .before .before .before .before .before .before .args .day) old (good (c .before .before .before .before .before .before .before .before .before .before .before .before .before .before)) (c .before .before .before .before .before .before .before .before .before .before .before .before .before .if2 .left) (c .before .before .before .before .before .before .before .before .before .before .before .before .if3 .left) in
+    (sym (all-written (c .before .before .before .before .before .before .before .before .before .before .before .before .before .before .before .before .before .before .before .before .before .args .packed .now) (c .before .before .before .before .before .before .before .before .before .before .before .before .before .before .before .before .before .before .before .before .before .args .kinds .now) (c .before .before .before .before .before .before .before .before .before .before .before .before .before .before .before .before .before .before .before .before .before .args .flags .now) (c .before .before .before .before .before .before .before .before .before .before .before .before .before .before .before .before .before .before .before .before .before .args .lengths .now) (c .before .before .before .before .before .before .before .before .before .before .before .before .before .before .before .before .before .before .before .before .before .args .day) old (good (c .before .before .before .before .before .before .before .before .before .before .before .before .before .before)) (c .before .before .before .before .before .before .before .before .before .before .before .before .before .if2 .left) (c .before .before .before .before .before .before .before .before .before .before .before .before .if3 .left)), trailer ∙ sym told)
+
+pub write-spec : {M : Type 1} → statement M
+write-spec =
+    tie.close
+    (tie.spec
+    arguments-good-requires
+    returns
+    mul-trailer
+    add-trailer
+    add-size
+    returns-2
+    returns-3
+    copy-requires
+    sub-put-index
+    part-put-index-start
+    part-put-index-end
+    put-index-requires
+    sub-put-trailer
+    part-put-trailer-start
+    part-put-trailer-end
+    put-trailer-requires
+    same-length
+    returns-4)

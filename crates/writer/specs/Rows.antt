@@ -1,0 +1,12 @@
+-- The index that the columns of kinds, flags and lengths tell.
+use Prim.Native.Nat.{ℕ, _+_}
+use mathlib.Core.List.{List, [], _∷_, _++_}
+use lib.ListN.{getD, drop}
+use Rattle.image.specs.Items.{entryBytes}
+
+-- the entries, the first item standing at `offset`
+unfoldable pub rowsBytes : ℕ → List ℕ → List ℕ → List ℕ → List ℕ
+rowsBytes offset [] flags lengths = []
+rowsBytes offset (kind ∷ rest) flags lengths =
+    entryBytes kind (getD flags 0 0) (getD lengths 0 0) offset
+    ++ rowsBytes (offset + getD lengths 0 0) rest (drop 1 flags) (drop 1 lengths)
