@@ -9,15 +9,22 @@ import sys
 
 sys.dont_write_bytecode = True
 
+import cases_certificate
+import cases_certificate_extensions
+import cases_certificate_parts
+import cases_certificate_shape
 import cases_contents
+import cases_crl
 import cases_days
 import cases_der
 import cases_integer
 import cases_limits
+import cases_listed
 import cases_member
 from record import NO_KIND, ROOM, WALK, Case, head
 
-PARTS = (cases_der, cases_contents, cases_limits, cases_integer, cases_member, cases_days)
+PARTS = (cases_der, cases_contents, cases_limits, cases_integer, cases_member, cases_days, cases_certificate,
+         cases_certificate_shape, cases_certificate_parts, cases_certificate_extensions, cases_crl, cases_listed)
 FOLDER = pathlib.Path(__file__).resolve().parents[2] / 'crates' / 'cases'
 
 
