@@ -35,7 +35,9 @@ def breaks(rules, label, role, item):
     label = '%s, %s' % (ROLES[role], label)
     broken = oracle_certificate.broken_rules(item, role)
     assert broken == list(rules), (label, broken)
-    return asked(label, role, item, 'refused 4, rule %d' % rules[0])
+    case = asked(label, role, item, 'refused 4, rule %d' % rules[0])
+    case.broken = rules
+    return case
 
 
 def keeps(label, role, parts):
@@ -86,12 +88,13 @@ def good():
         SIGNER, ('a key of over 512 octets', (), {'key': wide}),
         ('a subject of over 256 octets', (), {'subject': name(country('UT'), common('a' * 300))}),
         ('an issuer of 130 octets', (), {'issuer': name(country('UT'), common('b' * 106))}),
-        ('algorithms and key empty', (), {'algorithm': octets('30 00'), 'outer': octets('30 00'), 'key': octets('30 00')}),
+        ('algorithms and key empty', (),
+         {'algorithm': octets('30 00'), 'outer': octets('30 00'), 'key': octets('30 00')}),
         ('a signature of no bits', (), {'signature': octets('03 01 00')}))
 
 
 def roles():
-    """A role that is none is told before anything of the bytes; a good certificate of one role is judged for another."""
+    """A role that is none, told before anything of the bytes, and good certificates asked for under another role."""
     long = certificate(SIGNER, key=sequence(octet_string(bytes(16384))))
     for role in (0, 4, 5, 255, 257, 2 ** 32 + 3, 2 ** 63, MOST):
         yield asked('role %d, a good signer' % role, role, certificate(SIGNER), 'refused 1')

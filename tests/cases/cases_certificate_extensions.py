@@ -45,15 +45,17 @@ def doubled():
          extensions(SIGNER, extension('1.3.6.1', b''), extension('1.3.6.2', b''))),
         ('a number of an extension that starts another', (),
          extensions(SIGNER, extension('1.3.6.1', b''), extension('1.3.6.1.1', b''), extension('1.3.6', b''))),
-        ('a number that starts keyUsage\'s, and one that goes on', (),
+        ('the start of the number of keyUsage, and one that goes on', (),
          extensions(SIGNER, extension('2.5.29', b''), extension('2.5.29.15.1', b''))),
         ('one extension and no more', (9, 11, 12, 13), [one]),
         ('one extension twice and no more', (8, 9, 11, 12, 13), [one, one]))
 
 
 def key_usage():
-    for role, right, other in ((ANCHOR, SIGNS_CERTIFICATES, SIGNS_DOCUMENTS), (LINK, SIGNS_CERTIFICATES, SIGNS_DOCUMENTS),
-                               (SIGNER, SIGNS_DOCUMENTS, SIGNS_CERTIFICATES)):
+    for role in ROLES:
+        right, other = SIGNS_CERTIFICATES, SIGNS_DOCUMENTS
+        if role == SIGNER:
+            right, other = other, right
         yield from changed(
             role,
             ('keyUsage missing', (9,), 'key_usage', b''),
@@ -61,17 +63,21 @@ def key_usage():
             ('keyUsage of another role', (9,), 'key_usage', extension(KEY_USAGE, other, True)),
             ('keyUsage critical with its bits', (), 'key_usage', extension(KEY_USAGE, right, True)))
     wrong = (
-        ('03 02 01 86', 'with digitalSignature too'), ('03 02 02 04', 'with keyCertSign alone'), ('03 02 01 02', 'with cRLSign alone'),
+        ('03 02 01 86', 'with digitalSignature too'), ('03 02 02 04', 'with keyCertSign alone'),
+        ('03 02 01 02', 'with cRLSign alone'),
         ('03 02 00 06', 'with a bit that need not stand'), ('03 03 01 06 00', 'of 16 bits'), ('03 01 00', 'of no bits'),
-        ('', 'of no octets'), ('03 02 01 06 05 00', 'with a NULL after'), ('03 02 01', 'cut short'), ('04 02 01 06', 'as OCTET STRING'),
-        ('30 04 03 02 01 06', 'in a SEQUENCE'), ('03 02 01 07', 'with an unused bit set'), ('03 81 02 01 06', 'with a longer length'))
+        ('', 'of no octets'), ('03 02 01 06 05 00', 'with a NULL after'), ('03 02 01', 'cut short'),
+        ('04 02 01 06', 'as OCTET STRING'),
+        ('30 04 03 02 01 06', 'in a SEQUENCE'), ('03 02 01 07', 'with an unused bit set'),
+        ('03 81 02 01 06', 'with a longer length'))
     for text, label in wrong:
         yield from changed(ANCHOR, ('keyUsage ' + label, (9,), 'key_usage', extension(KEY_USAGE, octets(text), True)))
     yield from changed(
         SIGNER,
         ('keyUsage with nonRepudiation too', (9,), 'key_usage', extension(KEY_USAGE, octets('03 02 06 C0'), True)),
         ('keyUsage of no octets', (9,), 'key_usage', extension(KEY_USAGE, b'', True)),
-        ('keyUsage with a bit that need not stand', (9,), 'key_usage', extension(KEY_USAGE, octets('03 02 00 80'), True)),
+        ('keyUsage with a bit that need not stand', (9,), 'key_usage',
+         extension(KEY_USAGE, octets('03 02 00 80'), True)),
         ('keyUsage under a number that goes on', (9, 14), 'key_usage', extension('2.5.29.15.0', SIGNS_DOCUMENTS, True)))
 
 
@@ -81,19 +87,24 @@ def constraints():
             role,
             ('basicConstraints missing', (10,), 'constraints', b''),
             ('basicConstraints not critical', (10,), 'constraints', extension(CONSTRAINTS, LAST_AUTHORITY)),
-            ('basicConstraints critical with path length 0', (), 'constraints', extension(CONSTRAINTS, LAST_AUTHORITY, True)))
+            ('basicConstraints critical with path length 0', (), 'constraints',
+             extension(CONSTRAINTS, LAST_AUTHORITY, True)))
     wrong = (
-        ('without a path length', '30 03 01 01 FF'), ('with path length 1', '30 06 01 01 FF 02 01 01'), ('empty', '30 00'),
+        ('without a path length', '30 03 01 01 FF'), ('with path length 1', '30 06 01 01 FF 02 01 01'),
+        ('empty', '30 00'),
         ('of no octets', ''), ('with FALSE', '30 06 01 01 00 02 01 00'), ('with a path length alone', '30 03 02 01 00'),
         ('with a NULL inside', '30 08 01 01 FF 02 01 00 05 00'), ('with a NULL after', '30 06 01 01 FF 02 01 00 05 00'),
-        ('as SET', '31 06 01 01 FF 02 01 00'), ('cut short', '30 06 01 01 FF 02 01'), ('with path length 256', '30 07 01 01 FF 02 02 01 00'),
+        ('as SET', '31 06 01 01 FF 02 01 00'), ('cut short', '30 06 01 01 FF 02 01'),
+        ('with path length 256', '30 07 01 01 FF 02 02 01 00'),
         ('with a path length that is not minimal', '30 07 01 01 FF 02 02 00 00'))
     for label, text in wrong:
-        yield from changed(LINK, ('basicConstraints ' + label, (10,), 'constraints', extension(CONSTRAINTS, octets(text), True)))
+        odd = extension(CONSTRAINTS, octets(text), critical=True)
+        yield from changed(LINK, ('basicConstraints ' + label, (10,), 'constraints', odd))
     yield from changed(
         SIGNER,
         ('basicConstraints of an authority', (10,), 'constraints', extension(CONSTRAINTS, LAST_AUTHORITY, True)),
-        ('basicConstraints of an authority, not critical', (10,), 'constraints', extension(CONSTRAINTS, LAST_AUTHORITY)),
+        ('basicConstraints of an authority, not critical', (10,), 'constraints',
+         extension(CONSTRAINTS, LAST_AUTHORITY)),
         ('basicConstraints empty', (10,), 'constraints', extension(CONSTRAINTS, octets('30 00'))),
         ('basicConstraints empty, critical', (10,), 'constraints', extension(CONSTRAINTS, octets('30 00'), True)),
         ('basicConstraints absent', (), 'constraints', b''))
@@ -111,14 +122,14 @@ def key_identifiers():
         yield from changed(
             role, ('subject key identifier critical', (11, 14), 'subject_key', subject_key(critical=True)),
             ('authority key identifier critical', (11, 14), 'authority_key', authority_key(critical=True)))
-        for label, contents in WRONG_SUBJECT_KEYS:
-            yield from changed(role, ('subject key identifier ' + label, (11,), 'subject_key', subject_key(contents)))
-        for label, contents in RIGHT_SUBJECT_KEYS:
-            yield from changed(role, ('subject key identifier ' + label, (), 'subject_key', subject_key(contents)))
-        for label, contents in WRONG_AUTHORITY_KEYS:
-            yield from changed(role, ('authority key identifier ' + label, (11,), 'authority_key', authority_key(contents)))
-        for label, contents in RIGHT_AUTHORITY_KEYS:
-            yield from changed(role, ('authority key identifier ' + label, (), 'authority_key', authority_key(contents)))
+        for rules, subject_keys, authority_keys in (((11,), WRONG_SUBJECT_KEYS, WRONG_AUTHORITY_KEYS),
+                                                    ((), RIGHT_SUBJECT_KEYS, RIGHT_AUTHORITY_KEYS)):
+            for label, contents in subject_keys:
+                label = 'subject key identifier ' + label
+                yield from changed(role, (label, rules, 'subject_key', subject_key(contents)))
+            for label, contents in authority_keys:
+                label = 'authority key identifier ' + label
+                yield from changed(role, (label, rules, 'authority_key', authority_key(contents)))
 
 
 WRONG_SUBJECT_KEYS = (
@@ -242,8 +253,10 @@ def types():
         SIGNER,
         ('document type list missing', (13,), 'document_types', b''),
         ('document type list critical', (13, 14), 'document_types', document_types(critical=True)),
-        ('document type list under the number before it', (13,), 'document_types', extension('2.23.136.1.1.6.1', type_list(printable('P')))),
-        ('document type list under a shorter number', (13,), 'document_types', extension('2.23.136.1.1.6', type_list(printable('P')))))
+        ('document type list under the number before it', (13,), 'document_types',
+         extension('2.23.136.1.1.6.1', type_list(printable('P')))),
+        ('document type list under a shorter number', (13,), 'document_types',
+         extension('2.23.136.1.1.6', type_list(printable('P')))))
     for role in (ANCHOR, LINK):
         yield from changed(
             role,
@@ -261,8 +274,13 @@ def critical():
             ('an unknown extension that is not critical', (), extensions(role, extension(NO_MEANING, b''))),
             ('critical certificate policies', (14,), extensions(role, extension(POLICIES, sequence(), True))),
             ('certificate policies that are not critical', (), extensions(role, extension(POLICIES, sequence()))))
-    for label, number in (('keyUsage\'s number and one more', '2.5.29.15.1'), ('the start of keyUsage\'s number', '2.5.29'),
-                          ('the number after basicConstraints\'', '2.5.29.20'), ('extended key usage', '2.5.29.37')):
+    numbers = (
+        ('the number of keyUsage and one more', '2.5.29.15.1'),
+        ('the start of the number of keyUsage', '2.5.29'),
+        ('the number after that of basicConstraints', '2.5.29.20'),
+        ('extended key usage', '2.5.29.37'),
+    )
+    for label, number in numbers:
         yield from lists(LINK, ('critical: ' + label, (14,), extensions(LINK, extension(number, b'', True))))
 
 

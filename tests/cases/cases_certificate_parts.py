@@ -145,7 +145,8 @@ def unique():
     one, two = element(0x81, b'\0\1'), element(0x82, b'\0\1')
     for role in (ANCHOR, LINK, SIGNER):
         yield from rows(role, ('an 81', (6,), {'unique': one}), ('an 82', (6,), {'unique': two}))
-    yield from rows(SIGNER, ('81 and 82', (6,), {'unique': one + two}), ('an empty 81', (6,), {'unique': element(0x81)}),
+    yield from rows(SIGNER, ('81 and 82', (6,), {'unique': one + two}),
+                    ('an empty 81', (6,), {'unique': element(0x81)}),
                     ('an empty 82', (6,), {'unique': element(0x82)}), ('neither 81 nor 82', (), {'unique': b''}))
 
 
@@ -153,7 +154,8 @@ UTC_FORMS = (
     ('of no octets', ''), ('without seconds', '2401010000Z'), ('without Z', '240101000000'),
     ('with a lower case z', '240101000000z'), ('with an offset', '240101000000+0000'),
     ('with an octet after Z', '240101000000ZZ'), ('with a letter', '24010100000OZ'), ('with a sign', '+40101000000Z'),
-    ('with a space', '24 101000000Z'), ('with a fraction', '240101000000.5Z'), ('of four year digits', '20240101000000Z'),
+    ('with a space', '24 101000000Z'), ('with a fraction', '240101000000.5Z'),
+    ('of four year digits', '20240101000000Z'),
     ('with a colon', '24010100000:Z'), ('with a slash', '2401010/0000Z'),
 )
 UTC_MOMENTS = (
@@ -168,17 +170,21 @@ UTC_MOMENTS = (
 )
 WIDE_FORMS = (
     ('of no octets', ''), ('of two year digits', '600101000000Z'), ('without seconds', '206001010000Z'),
-    ('without Z', '20600101000000'), ('with a fraction', '20600101000000.5Z'), ('with an offset', '20600101000000+0000'),
-    ('with a letter', '2O600101000000Z'), ('of five year digits', '120600101000000Z'), ('with a lower case z', '20600101000000z'),
+    ('without Z', '20600101000000'), ('with a fraction', '20600101000000.5Z'),
+    ('with an offset', '20600101000000+0000'),
+    ('with a letter', '2O600101000000Z'), ('of five year digits', '120600101000000Z'),
+    ('with a lower case z', '20600101000000z'),
 )
 WIDE_MOMENTS = (
     ('of 2049', '20491231235959Z', False), ('of 2050', '20500101000000Z', True), ('of 9999', '99991231235959Z', True),
-    ('of 2024', '20240101000000Z', False), ('of 1950', '19500101000000Z', False), ('of year 0', '00000101000000Z', False),
+    ('of 2024', '20240101000000Z', False), ('of 1950', '19500101000000Z', False),
+    ('of year 0', '00000101000000Z', False),
     ('of 2100', '21000228000000Z', True), ('29 February of 2100', '21000229000000Z', False),
     ('29 February of 2400', '24000229000000Z', True), ('29 February of 2052', '20520229000000Z', True),
     ('29 February of 2051', '20510229000000Z', False), ('month 13', '20601301000000Z', False),
     ('month 00', '20600001000000Z', False), ('day 00', '20600100000000Z', False), ('day 32', '20600132000000Z', False),
-    ('hour 24', '20600101240000Z', False), ('minute 60', '20600101006000Z', False), ('second 60', '20600101000060Z', False),
+    ('hour 24', '20600101240000Z', False), ('minute 60', '20600101006000Z', False),
+    ('second 60', '20600101000060Z', False),
 )
 
 
@@ -211,7 +217,8 @@ def order():
     )
     for label, start, end, rules in table:
         yield from rows(LINK, (label, rules, {'start': start, 'end': end}))
-    yield from rows(ANCHOR, ('start one second after end', (7,), {'start': utc('240101000001Z'), 'end': utc('240101000000Z')}),
+    yield from rows(ANCHOR,
+                    ('start one second after end', (7,), {'start': utc('240101000001Z'), 'end': utc('240101000000Z')}),
                     ('start and end equal', (), {'start': utc('240101000001Z'), 'end': utc('240101000001Z')}))
 
 

@@ -52,7 +52,8 @@ def serials():
             ('another than the only one', sequence(entry(FIRST)), SECOND, no),
             ('one that stands twice', sequence(entry(FIRST), entry(SECOND), entry(FIRST)), FIRST, yes),
             ('between two that stand twice', sequence(entry(FIRST), entry(SECOND), entry(FIRST)), SECOND, yes),
-            ('after an entry with extensions', sequence(entry(FIRST, extensions=[reason()]), entry(SECOND)), SECOND, yes),
+            ('after an entry with extensions', sequence(entry(FIRST, extensions=[reason()]), entry(SECOND)), SECOND,
+             yes),
             ('in an entry with extensions', sequence(entry(FIRST), entry(SECOND, extensions=[reason()])), SECOND, yes),
             ('FF, where FF is listed', sequence(entry(b'\xff')), b'\xff', yes),
             ('00 FF, where FF is listed', sequence(entry(b'\xff')), b'\0\xff', no),
@@ -63,7 +64,8 @@ def serials():
             ('20 octets that differ in the last', sequence(entry(b'\x7f' * 20)), b'\x7f' * 19 + b'\x7e', no),
             ('16 octets, where 17 are listed', sequence(entry(b'\x7f' * 17)), b'\x7f' * 16, no),
             ('33 octets', sequence(entry(b'\x7f' * 33)), b'\x7f' * 33, yes),
-            ('33 octets that differ in the 17th', sequence(entry(b'\x7f' * 33)), b'\x7f' * 16 + b'\0' + b'\x7f' * 16, no),
+            ('33 octets that differ in the 17th', sequence(entry(b'\x7f' * 33)), b'\x7f' * 16 + b'\0' + b'\x7f' * 16,
+             no),
             ('130 octets', sequence(entry(b'\x7f' * 130)), b'\x7f' * 130, yes)):
         yield listed(label, crl(entries=listing), serial, stated)
     many = [(1000 + place).to_bytes(2, 'big') for place in range(500)]

@@ -23,6 +23,8 @@ class Case:
         self.answer = answer
         self.item = item
         self.numbers = numbers
+        # every rule of a profile that the item breaks
+        self.broken = ()
 
     def record(self):
         label = self.label.encode('ascii')

@@ -17,6 +17,14 @@ fn tell(fields: Fields) {
     say::part(b", subject ", fields.subject_at, fields.subject_len);
     say::part(b", key ", fields.key_at, fields.key_len);
     say::part(b", serial ", fields.serial_at, fields.serial_len);
-    say::part(b", subject key ", fields.subject_key_at, fields.subject_key_len);
-    say::part(b", authority key ", fields.authority_key_at, fields.authority_key_len);
+    say::part(
+        b", subject key ",
+        fields.subject_key_at,
+        fields.subject_key_len,
+    );
+    say::part(
+        b", authority key ",
+        fields.authority_key_at,
+        fields.authority_key_len,
+    );
 }

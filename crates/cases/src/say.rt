@@ -28,7 +28,7 @@ fn magnitude(value: i64) -> u64
     }
 }
 
-// What every passing certificate and CRL is told by: two moments, then the letters of its country.
+// How the answer begins for a certificate or a CRL that passes.
 pub(crate) fn times(start: u64, end: u64) {
     text(b"passed, ");
     number(start);
