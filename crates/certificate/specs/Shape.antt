@@ -13,7 +13,8 @@ use Rattle.elements.specs.Elements.{foundTagged, onFound}
 use Rattle.elements.specs.Envelope.{envelopeOf}
 use Rattle.extensions.specs.Extensions.{extensionsShaped}
 use Rattle.names.specs.Names.{nameOf}
-use Rattle.elements.specs.Steps.{onlyOf, pastOf, timeAt}
+use Rattle.elements.specs.Steps.{onlyOf, pastOf}
+use Rattle.times.specs.Times.{timeAt}
 use Rattle.certificate.specs.declared.shapes.Layout.{Layout}
 use Rattle.certificate.specs.declared.shapes.Shape.{Shape}
 use Rattle.certificate.specs.declared.shapes.Shape.the-variants.{Parts, Broken}

@@ -86,11 +86,16 @@ fn profile(item: &[u8], role: u64) -> Judged
 fn fields_of(l: Layout, r: Readings) -> Fields
     ensures { λ f. ⌜ f ≡ fieldsOf l r ⌝ }
 {
+    let start = r.start;
+    let finish = r.finish;
+    let issuer = r.issuer;
+    let own = r.own;
+    let authority = r.authority;
     Fields {
-        start: moment(r.start),
-        end: moment(r.finish),
-        first: first_letter(r.issuer),
-        second: second_letter(r.issuer),
+        start: moment(start),
+        end: moment(finish),
+        first: first_letter(issuer),
+        second: second_letter(issuer),
         issuer_at: l.issuer.at,
         issuer_len: between(l.issuer.at, l.issuer.end),
         subject_at: l.subject.at,
@@ -99,10 +104,10 @@ fn fields_of(l: Layout, r: Readings) -> Fields
         key_len: between(l.key.at, l.key.end),
         serial_at: l.serial.contents,
         serial_len: between(l.serial.contents, l.serial.end),
-        subject_key_at: key_at(r.own),
-        subject_key_len: key_length(r.own),
-        authority_key_at: key_at(r.authority),
-        authority_key_len: key_length(r.authority),
+        subject_key_at: key_at(own),
+        subject_key_len: key_length(own),
+        authority_key_at: key_at(authority),
+        authority_key_len: key_length(authority),
     }
 }
 

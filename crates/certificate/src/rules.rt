@@ -70,13 +70,17 @@ pub(crate) fn rules_2_to_8(item: &[u8], l: Layout, r: Readings) -> u64
     if !algorithms_same(item, l) {
         return 4;
     }
-    if !same_two(r.issuer, r.subject) {
+    let issuer = r.issuer;
+    let subject = r.subject;
+    if !same_two(issuer, subject) {
         return 5;
     }
     if l.unique {
         return 6;
     }
-    if !in_order(r.start, r.finish) {
+    let start = r.start;
+    let finish = r.finish;
+    if !in_order(start, finish) {
         return 7;
     }
     if !extensions_once(item, l) {
@@ -95,7 +99,9 @@ pub(crate) fn rules_9_to_14(item: &[u8], extensions: Element, r: Readings, role:
     if !constraints_good(item, extensions, role) {
         return 10;
     }
-    if !keys_good(r.own, r.authority, role) {
+    let own = r.own;
+    let authority = r.authority;
+    if !keys_good(own, authority, role) {
         return 11;
     }
     if !four_plain(item, extensions) {

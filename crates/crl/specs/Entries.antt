@@ -11,8 +11,7 @@ use Rattle.times.specs.declared.Time.{Time}
 use Rattle.times.specs.declared.Time.the-variants.{Moment, Untimely}
 use Rattle.elements.specs.Elements.{foundTagged, onFound, membersOf}
 use Rattle.extensions.specs.Extensions.{extensionsShaped, criticalOf}
-use Rattle.elements.specs.Steps.{timeAt}
-use Rattle.times.specs.Times.{timeOf}
+use Rattle.times.specs.Times.{timeAt, timeOf}
 use Rattle.crl.specs.declared.entries.Entry.{Entry}
 use Rattle.crl.specs.declared.entries.Entry.the-variants.{Bare, Extended, Misshapen}
 use Rattle.crl.specs.declared.entries.Survey.{Survey}

@@ -4,3 +4,4 @@ pub mod Rules
 pub mod Answer
 pub mod Listed
 pub mod Age
+pub mod Meets

@@ -16,7 +16,8 @@ use Rattle.elements.specs.Elements.{foundTagged, onFound}
 use Rattle.elements.specs.Envelope.{envelopeOf}
 use Rattle.extensions.specs.Extensions.{extensionsShaped}
 use Rattle.names.specs.Names.{nameOf}
-use Rattle.elements.specs.Steps.{onlyOf, timeAt}
+use Rattle.elements.specs.Steps.{onlyOf}
+use Rattle.times.specs.Times.{timeAt}
 use Rattle.crl.specs.declared.entries.Survey.{Survey}
 use Rattle.crl.specs.declared.entries.Survey.the-variants as survey
 use Rattle.crl.specs.declared.shapes.Front.{Front}

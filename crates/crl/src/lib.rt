@@ -64,11 +64,14 @@ fn profile(item: &[u8]) -> Judged
 fn fields_of(l: Layout, r: Readings) -> Fields
     ensures { λ f. ⌜ f ≡ fieldsOf l r ⌝ }
 {
+    let current = r.current;
+    let coming = r.coming;
+    let country = r.country;
     Fields {
-        this_update: moment(r.current),
-        next_update: moment(r.coming),
-        first: first_letter(r.country),
-        second: second_letter(r.country),
+        this_update: moment(current),
+        next_update: moment(coming),
+        first: first_letter(country),
+        second: second_letter(country),
         entries: l.count,
         issuer_at: l.issuer.at,
         issuer_len: between(l.issuer.at, l.issuer.end),

@@ -88,7 +88,9 @@ fn country_good(r: Readings) -> bool
 fn times_good(l: Layout, r: Readings) -> bool
     ensures { λ good. ⌜ good ≡ rule5 l r ⌝ }
 {
-    if !in_order(r.current, r.coming) {
+    let current = r.current;
+    let coming = r.coming;
+    if !in_order(current, coming) {
         return false;
     }
     l.timely

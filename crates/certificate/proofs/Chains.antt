@@ -1,0 +1,89 @@
+-- What is said of a part that is there, and of one that is not.
+use Prim.Native.Nat.{ℕ}
+use mathlib.Core.Bool.{Bool}
+use mathlib.Core.Path.{_≡_}
+use borrow.Author.Tests.{eq-eqb, ne-eqb}
+use Rattle.refusal.specs.declared.Refusal.the-variants.{Profile}
+use Rattle.elements.specs.declared.elements.Element.{Element}
+use Rattle.elements.specs.declared.envelopes.Envelope.{Envelope}
+use Rattle.elements.specs.declared.envelopes.Envelope.the-variants as envelope
+use Rattle.names.specs.declared.Name.{Name}
+use Rattle.names.specs.declared.Name.the-variants.{Holds, Shapeless}
+use Rattle.names.specs.declared.Seen.{Seen}
+use Rattle.certificate.specs.declared.shapes.Shape.{Shape}
+use Rattle.certificate.specs.declared.shapes.Shape.the-variants.{Parts, Broken}
+use Rattle.certificate.specs.declared.shapes.Front.{Front}
+use Rattle.certificate.specs.declared.shapes.Front.the-variants.{Opens, Frontless}
+use Rattle.certificate.specs.declared.shapes.Back.{Back}
+use Rattle.certificate.specs.declared.shapes.Back.the-variants.{Closes, Backless}
+use Rattle.certificate.specs.declared.shapes.Validity.{Validity}
+use Rattle.certificate.specs.declared.shapes.Validity.the-variants.{Times, Timeless}
+use Rattle.certificate.specs.declared.shapes.Layout.{Layout}
+use Rattle.certificate.specs.declared.Fields.{Fields}
+use Rattle.certificate.specs.declared.Judged.{Judged}
+use Rattle.certificate.specs.declared.Judged.the-variants.{Passed, Refused}
+use Rattle.certificate.specs.Answer.{onShape, graded}
+use Rattle.certificate.specs.Shape.{onEnvelope, onFront, onValidity, onBack, onName}
+
+module _ {x : Envelope} (next : Element → Element → Shape) where
+  pub envelope-bad : x ≡ envelope.Formless → Broken ≡ onEnvelope x next
+  unfolding onEnvelope
+  envelope-bad h = rw h
+
+  pub envelope-good : {tbs algorithm : Element} {r : Shape} → x ≡ envelope.Parts tbs algorithm → r ≡ next tbs algorithm → r ≡ onEnvelope x next
+  unfolding onEnvelope
+  envelope-good h g = rw h g
+
+module _ {x : Front} (next : Element → Element → Element → Element → Element → Shape) where
+  pub front-bad : x ≡ Frontless → Broken ≡ onFront x next
+  unfolding onFront
+  front-bad h = rw h
+
+  pub front-good : {version serial inner issuer validity : Element} {r : Shape} → x ≡ Opens version serial inner issuer validity → r ≡ next version serial inner issuer validity → r ≡ onFront x next
+  unfolding onFront
+  front-good h g = rw h g
+
+module _ {x : Validity} (next : Element → Element → Shape) where
+  pub validity-bad : x ≡ Timeless → Broken ≡ onValidity x next
+  unfolding onValidity
+  validity-bad h = rw h
+
+  pub validity-good : {start finish : Element} {r : Shape} → x ≡ Times start finish → r ≡ next start finish → r ≡ onValidity x next
+  unfolding onValidity
+  validity-good h g = rw h g
+
+module _ {x : Back} (next : Element → Element → Bool → Element → Shape) where
+  pub back-bad : x ≡ Backless → Broken ≡ onBack x next
+  unfolding onBack
+  back-bad h = rw h
+
+  pub back-good : {subject key extensions : Element} {unique : Bool} {r : Shape} → x ≡ Closes subject key unique extensions → r ≡ next subject key unique extensions → r ≡ onBack x next
+  unfolding onBack
+  back-good h g = rw h g
+
+module _ {x : Name} (next : Seen → Shape) where
+  pub name-bad : x ≡ Shapeless → Broken ≡ onName x next
+  unfolding onName
+  name-bad h = rw h
+
+  pub name-good : {seen : Seen} {r : Shape} → x ≡ Holds seen → r ≡ next seen → r ≡ onName x next
+  unfolding onName
+  name-good h g = rw h g
+
+module _ {x : Shape} (next : Layout → Judged) where
+  pub shape-bad : x ≡ Broken → Refused (Profile 1) ≡ onShape x next
+  unfolding onShape
+  shape-bad h = rw h
+
+  pub shape-good : {l : Layout} {r : Judged} → x ≡ Parts l → r ≡ next l → r ≡ onShape x next
+  unfolding onShape
+  shape-good h g = rw h g
+
+-- a rule that is broken, and none
+pub graded-broken : (fields : Fields) {rule n : ℕ} → rule ≡ n → (n ≡ 0 → ⊥) → Refused (Profile n) ≡ graded rule fields
+unfolding graded
+graded-broken fields h g = rw (h, ne-eqb _ _ g)
+
+pub graded-whole : {fields f : Fields} {rule : ℕ} → rule ≡ 0 → f ≡ fields → Passed f ≡ graded rule fields
+unfolding graded
+graded-whole h g = rw (g, eq-eqb _ _ h)

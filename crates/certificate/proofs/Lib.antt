@@ -1,0 +1,5 @@
+pub mod Inside
+pub mod Chains
+pub mod Order
+pub mod Faults
+pub mod Theorems

@@ -1,0 +1,41 @@
+-- The key identifier is told apart as in the definition.
+use borrow.Author.Needs.{needs}
+use Rattle.certificate.specs.Answer.{keyLength}
+use Rattle.certificate.proofs.key_length.Statement.{statement}
+use Rattle.certificate.proofs.key_length.Tie as tie
+
+enum-known-key : tie.Need-enum-known-key
+enum-known-key c = search needs
+
+between-requires : tie.Need-between-requires
+between-requires c κs = search needs
+
+enum-told : tie.Need-enum-told
+enum-told c = search needs
+
+enum-told-2 : tie.Need-enum-told-2
+enum-told-2 c = search needs
+
+returns : tie.Need-returns
+unfolding keyLength
+returns c = rw (c .before .before .key .given .1) (c .between .ensures)
+
+returns-2 : tie.Need-returns-2
+unfolding keyLength
+returns-2 c = rw (c .enum-told .given .1)
+
+returns-3 : tie.Need-returns-3
+unfolding keyLength
+returns-3 c = rw (c .enum-told2 .given .1)
+
+pub key-length-spec : {M : Type 1} → statement M
+key-length-spec =
+    tie.close
+    (tie.spec
+    enum-known-key
+    between-requires
+    enum-told
+    enum-told-2
+    returns
+    returns-2
+    returns-3)

@@ -1,0 +1,91 @@
+-- Of the strings, those from `at` on are left: the answer for all is the answer for them.
+use mathlib.Core.Path.{_≡_, refl, sym, _∙_}
+use Prim.Native.Nat.{_-_}
+use native.Mathlib.Omega.{arith}
+use borrow.Author.Needs.{needs}
+use borrow.Author.Tests.{eq-eqb, ne-eqb, lt-leb, le-leb}
+use Rattle.elements.specs.Elements.{membersOf, inside}
+use Rattle.certificate.specs.Keys.{typesGood, typesIn}
+use Rattle.elements.proofs.Members.{members-none, members-more, found-within}
+use Rattle.certificate.proofs.Inside.{none-inside, some-inside}
+use Rattle.certificate.proofs.keys.types_good.Statement.{statement}
+use Rattle.certificate.proofs.keys.types_good.Tie as tie
+
+abbrev Inv-loop : tie.InvT-loop
+Inv-loop item end at₀ at = typesGood item (membersOf item at₀ end) ≡ typesGood item (membersOf item at end)
+
+abbrev μ-loop : tie.MeasureT-loop
+μ-loop item end at₀ at = end - at
+
+element-at-requires : tie.Need-element-at-requires Inv-loop μ-loop
+element-at-requires c κs = search needs
+
+enum-told : tie.Need-enum-told Inv-loop μ-loop
+enum-told c = search needs
+
+enum-told-2 : tie.Need-enum-told-2 Inv-loop μ-loop
+enum-told-2 c = search needs
+
+returns : tie.Need-returns Inv-loop μ-loop
+unfolding typesIn
+returns c = rw (none-inside (c .before .before .before .before .args .item .now) (c .before .before .before .before .args .types) (sym (c .before .before .element-at .ensures) ∙ c .enum-told2 .given .1))
+
+loop-holds : tie.Need-loop-holds Inv-loop μ-loop
+loop-holds c = refl
+
+element-at-requires-2 : tie.Need-element-at-requires-2 Inv-loop μ-loop
+element-at-requires-2 c κs = search needs
+
+enum-known-e : tie.Need-enum-known-e Inv-loop μ-loop
+enum-known-e c = search needs
+
+enum-told-3 : tie.Need-enum-told-3 Inv-loop μ-loop
+enum-told-3 c = search needs
+
+returns-2 : tie.Need-returns-2 Inv-loop μ-loop
+unfolding typesIn inside typesGood
+returns-2 c = sym (rw (some-inside (c .before .before .before .before .before .before .before .before .args .item .now) (c .before .before .before .before .before .before .before .before .args .types) (sym (c .before .before .before .before .before .before .element-at .ensures) ∙ c .before .before .before .before .enum-told .given .1)) (c .before .before .before .loop .inv ∙ rw (members-none _ _ _ (sym (c .before .before .element-at2 .ensures) ∙ c .enum-told3 .given .1))))
+
+returns-3 : tie.Need-returns-3 Inv-loop μ-loop
+unfolding typesIn inside typesGood
+returns-3 c = sym (rw (some-inside (c .before .before .before .before .before .before .before .before .before .before .before .args .item .now) (c .before .before .before .before .before .before .before .before .before .before .before .args .types) (sym (c .before .before .before .before .before .before .before .before .before .element-at .ensures) ∙ c .before .before .before .before .before .before .before .enum-told .given .1)) (c .before .before .before .before .before .before .loop .inv ∙ rw (members-more _ _ _ (sym (c .before .before .before .before .before .element-at2 .ensures) ∙ c .before .before .before .e .given .1), ne-eqb _ _ (c .if1 .taken))))
+
+contents-requires : tie.Need-contents-requires Inv-loop μ-loop
+contents-requires c κs = search needs
+
+returns-4 : tie.Need-returns-4 Inv-loop μ-loop
+unfolding typesIn inside typesGood
+returns-4 c = sym (rw (some-inside (c .before .before .before .before .before .before .before .before .before .before .before .before .before .args .item .now) (c .before .before .before .before .before .before .before .before .before .before .before .before .before .args .types) (sym (c .before .before .before .before .before .before .before .before .before .before .before .element-at .ensures) ∙ c .before .before .before .before .before .before .before .before .before .enum-told .given .1)) (c .before .before .before .before .before .before .before .before .loop .inv ∙ rw (members-more _ _ _ (sym (c .before .before .before .before .before .before .before .element-at2 .ensures) ∙ c .before .before .before .before .before .e .given .1), eq-eqb _ _ (c .before .before .if1 .left), ← c .before .contents .ensures, lt-leb _ _ (c .if2 .taken))))
+
+returns-5 : tie.Need-returns-5 Inv-loop μ-loop
+unfolding typesIn inside typesGood
+returns-5 c = sym (rw (some-inside (c .before .before .before .before .before .before .before .before .before .before .before .before .before .before .args .item .now) (c .before .before .before .before .before .before .before .before .before .before .before .before .before .before .args .types) (sym (c .before .before .before .before .before .before .before .before .before .before .before .before .element-at .ensures) ∙ c .before .before .before .before .before .before .before .before .before .before .enum-told .given .1)) (c .before .before .before .before .before .before .before .before .before .loop .inv ∙ rw (members-more _ _ _ (sym (c .before .before .before .before .before .before .before .before .element-at2 .ensures) ∙ c .before .before .before .before .before .before .e .given .1), eq-eqb _ _ (c .before .before .before .if1 .left), ← c .before .before .contents .ensures, le-leb _ _ (c .before .if2 .left), lt-leb _ _ (c .if3 .taken))))
+
+loop-less : tie.Need-loop-less Inv-loop μ-loop
+loop-less c = omega (arith, found-within _ _ _ (sym (c .before .before .before .before .before .before .before .before .element-at2 .ensures) ∙ c .before .before .before .before .before .before .e .given .1))
+
+loop-again : tie.Need-loop-again Inv-loop μ-loop
+unfolding typesGood
+loop-again c = c .before .before .before .before .before .before .before .before .before .loop .inv ∙ rw (members-more _ _ _ (sym (c .before .before .before .before .before .before .before .before .element-at2 .ensures) ∙ c .before .before .before .before .before .before .e .given .1), eq-eqb _ _ (c .before .before .before .if1 .left), ← c .before .before .contents .ensures, le-leb _ _ (c .before .if2 .left), le-leb _ _ (c .if3 .left))
+
+pub types-good-spec : {M : Type 1} → statement M
+types-good-spec =
+    tie.close
+    (tie.spec
+    Inv-loop
+    μ-loop
+    element-at-requires
+    enum-told
+    enum-told-2
+    returns
+    loop-holds
+    element-at-requires-2
+    enum-known-e
+    enum-told-3
+    returns-2
+    returns-3
+    contents-requires
+    returns-4
+    returns-5
+    loop-less
+    loop-again)

@@ -1,0 +1,20 @@
+-- The list is asked of a document signer alone.
+use borrow.Author.Needs.{needs}
+use borrow.Author.Tests.{eq-eqb, ne-eqb}
+use Rattle.certificate.specs.Rules.{rule13}
+use Rattle.certificate.proofs.rules.documents_good.Statement.{statement}
+use Rattle.certificate.proofs.rules.documents_good.Tie as tie
+
+document-types-requires : tie.Need-document-types-requires
+document-types-requires c κs = search needs
+
+returns : tie.Need-returns
+unfolding rule13
+returns c = rw (eq-eqb _ _ (c .before .if1 .taken)) (c .document-types .ensures)
+
+returns-2 : tie.Need-returns-2
+unfolding rule13
+returns-2 c = rw (ne-eqb _ _ (c .if1 .left))
+
+pub documents-good-spec : {M : Type 1} → statement M
+documents-good-spec = tie.close (tie.spec document-types-requires returns returns-2)

@@ -1,0 +1,39 @@
+-- There is an extension just if one is found where their contents start.
+use mathlib.Core.Path.{sym, ap, _∙_}
+use mathlib.Core.Bool.{not}
+use borrow.Author.Needs.{needs}
+use Rattle.certificate.specs.Rules.{rule8}
+use Rattle.certificate.proofs.Inside.{none-inside, some-inside}
+use Rattle.certificate.proofs.rules.extensions_once.Statement.{statement}
+use Rattle.certificate.proofs.rules.extensions_once.Tie as tie
+
+element-at-requires : tie.Need-element-at-requires
+element-at-requires c κs = search needs
+
+enum-told : tie.Need-enum-told
+enum-told c = search needs
+
+enum-told-2 : tie.Need-enum-told-2
+enum-told-2 c = search needs
+
+returns : tie.Need-returns
+unfolding rule8
+returns c = rw (none-inside (c .before .before .before .before .before .args .item .now) (c .before .before .before .before .before .args .l .extensions) (sym (c .before .before .element-at .ensures) ∙ c .enum-told2 .given .1))
+
+doubled-requires : tie.Need-doubled-requires
+doubled-requires c κs = search needs
+
+returns-2 : tie.Need-returns-2
+unfolding rule8
+returns-2 c = rw (some-inside (c .before .before .before .before .before .before .args .item .now) (c .before .before .before .before .before .before .args .l .extensions) (sym (c .before .before .before .element-at .ensures) ∙ c .before .enum-told .given .1)) (ap not (c .doubled .ensures))
+
+pub extensions-once-spec : {M : Type 1} → statement M
+extensions-once-spec =
+    tie.close
+    (tie.spec
+    element-at-requires
+    enum-told
+    enum-told-2
+    returns
+    doubled-requires
+    returns-2)

@@ -1,0 +1,24 @@
+-- The subject's key identifier is judged first, then the authority's.
+use mathlib.Core.Path.{sym, _∙_}
+use borrow.Author.Needs.{needs}
+use borrow.Author.Tests.{not-true, not-false}
+use Rattle.certificate.specs.Rules.{bothKeys}
+use Rattle.certificate.proofs.rules.keys_good.Statement.{statement}
+use Rattle.certificate.proofs.rules.keys_good.Tie as tie
+
+key-good-requires : tie.Need-key-good-requires
+key-good-requires c κs = search needs
+
+returns : tie.Need-returns
+unfolding bothKeys
+returns c = rw (sym (c .before .key-good .ensures) ∙ not-true _ (c .if1 .taken))
+
+key-good-requires-2 : tie.Need-key-good-requires-2
+key-good-requires-2 c κs = search needs
+
+returns-2 : tie.Need-returns-2
+unfolding bothKeys
+returns-2 c = rw (sym (c .before .before .key-good .ensures) ∙ not-false _ (c .before .if1 .left)) (c .key-good2 .ensures)
+
+pub keys-good-spec : {M : Type 1} → statement M
+keys-good-spec = tie.close (tie.spec key-good-requires returns key-good-requires-2 returns-2)

@@ -1,0 +1,73 @@
+-- The rules are tried in their order, so the first that is broken is told.
+use mathlib.Core.Path.{sym, ap, _∙_}
+use mathlib.Core.Bool.{not}
+use borrow.Author.Needs.{needs}
+use borrow.Author.Tests.{not-true, not-false}
+use Rattle.certificate.specs.Rules.{rule11, rule14, rules9to14}
+use Rattle.certificate.proofs.Order.{broken-here, broken-later, none-broken}
+use Rattle.certificate.proofs.rules.rules_9_to_14.Statement.{statement}
+use Rattle.certificate.proofs.rules.rules_9_to_14.Tie as tie
+
+usage-good-requires : tie.Need-usage-good-requires
+usage-good-requires c κs = search needs
+
+returns : tie.Need-returns
+unfolding rules9to14 rule11 rule14
+returns c = sym (broken-here _ _ (sym (c .before .usage-good .ensures) ∙ not-true _ (c .if1 .taken)))
+
+constraints-good-requires : tie.Need-constraints-good-requires
+constraints-good-requires c κs = search needs
+
+returns-2 : tie.Need-returns-2
+unfolding rules9to14 rule11 rule14
+returns-2 c = sym (broken-later _ _ (sym (c .before .before .before .usage-good .ensures) ∙ not-false _ (c .before .before .if1 .left)) ∙ broken-here _ _ (sym (c .before .constraints-good .ensures) ∙ not-true _ (c .if2 .taken)))
+
+keys-good-requires : tie.Need-keys-good-requires
+keys-good-requires c κs = search needs
+
+returns-3 : tie.Need-returns-3
+unfolding rules9to14 rule11 rule14
+returns-3 c = sym (broken-later _ _ (sym (c .before .before .before .before .before .usage-good .ensures) ∙ not-false _ (c .before .before .before .before .if1 .left)) ∙ broken-later _ _ (sym (c .before .before .before .constraints-good .ensures) ∙ not-false _ (c .before .before .if2 .left)) ∙ broken-here _ _ (sym (c .before .keys-good .ensures) ∙ not-true _ (c .if3 .taken)))
+
+four-plain-requires : tie.Need-four-plain-requires
+four-plain-requires c κs = search needs
+
+returns-4 : tie.Need-returns-4
+unfolding rules9to14 rule11 rule14
+returns-4 c = sym (broken-later _ _ (sym (c .before .before .before .before .before .before .before .usage-good .ensures) ∙ not-false _ (c .before .before .before .before .before .before .if1 .left)) ∙ broken-later _ _ (sym (c .before .before .before .before .before .constraints-good .ensures) ∙ not-false _ (c .before .before .before .before .if2 .left)) ∙ broken-later _ _ (sym (c .before .before .before .keys-good .ensures) ∙ not-false _ (c .before .before .if3 .left)) ∙ broken-here _ _ (sym (c .before .four-plain .ensures) ∙ not-true _ (c .if4 .taken)))
+
+documents-good-requires : tie.Need-documents-good-requires
+documents-good-requires c κs = search needs
+
+returns-5 : tie.Need-returns-5
+unfolding rules9to14 rule11 rule14
+returns-5 c = sym (broken-later _ _ (sym (c .before .before .before .before .before .before .before .before .before .usage-good .ensures) ∙ not-false _ (c .before .before .before .before .before .before .before .before .if1 .left)) ∙ broken-later _ _ (sym (c .before .before .before .before .before .before .before .constraints-good .ensures) ∙ not-false _ (c .before .before .before .before .before .before .if2 .left)) ∙ broken-later _ _ (sym (c .before .before .before .before .before .keys-good .ensures) ∙ not-false _ (c .before .before .before .before .if3 .left)) ∙ broken-later _ _ (sym (c .before .before .before .four-plain .ensures) ∙ not-false _ (c .before .before .if4 .left)) ∙ broken-here _ _ (sym (c .before .documents-good .ensures) ∙ not-true _ (c .if5 .taken)))
+
+some-critical-requires : tie.Need-some-critical-requires
+some-critical-requires c κs = search needs
+
+returns-6 : tie.Need-returns-6
+unfolding rules9to14 rule11 rule14
+returns-6 c = sym (broken-later _ _ (sym (c .before .before .before .before .before .before .before .before .before .before .before .usage-good .ensures) ∙ not-false _ (c .before .before .before .before .before .before .before .before .before .before .if1 .left)) ∙ broken-later _ _ (sym (c .before .before .before .before .before .before .before .before .before .constraints-good .ensures) ∙ not-false _ (c .before .before .before .before .before .before .before .before .if2 .left)) ∙ broken-later _ _ (sym (c .before .before .before .before .before .before .before .keys-good .ensures) ∙ not-false _ (c .before .before .before .before .before .before .if3 .left)) ∙ broken-later _ _ (sym (c .before .before .before .before .before .four-plain .ensures) ∙ not-false _ (c .before .before .before .before .if4 .left)) ∙ broken-later _ _ (sym (c .before .before .before .documents-good .ensures) ∙ not-false _ (c .before .before .if5 .left)) ∙ broken-here _ _ (ap not (sym (c .before .some-critical .ensures) ∙ c .if6 .taken)))
+
+returns-7 : tie.Need-returns-7
+unfolding rules9to14 rule11 rule14
+returns-7 c = sym (broken-later _ _ (sym (c .before .before .before .before .before .before .before .before .before .before .before .usage-good .ensures) ∙ not-false _ (c .before .before .before .before .before .before .before .before .before .before .if1 .left)) ∙ broken-later _ _ (sym (c .before .before .before .before .before .before .before .before .before .constraints-good .ensures) ∙ not-false _ (c .before .before .before .before .before .before .before .before .if2 .left)) ∙ broken-later _ _ (sym (c .before .before .before .before .before .before .before .keys-good .ensures) ∙ not-false _ (c .before .before .before .before .before .before .if3 .left)) ∙ broken-later _ _ (sym (c .before .before .before .before .before .four-plain .ensures) ∙ not-false _ (c .before .before .before .before .if4 .left)) ∙ broken-later _ _ (sym (c .before .before .before .documents-good .ensures) ∙ not-false _ (c .before .before .if5 .left)) ∙ broken-later _ _ (ap not (sym (c .before .some-critical .ensures) ∙ c .if6 .left)) ∙ none-broken _)
+
+pub rules-9-to-14-spec : {M : Type 1} → statement M
+rules-9-to-14-spec =
+    tie.close
+    (tie.spec
+    usage-good-requires
+    returns
+    constraints-good-requires
+    returns-2
+    keys-good-requires
+    returns-3
+    four-plain-requires
+    returns-4
+    documents-good-requires
+    returns-5
+    some-critical-requires
+    returns-6
+    returns-7)

@@ -1,0 +1,47 @@
+-- The letters are compared in the order of the definition.
+use borrow.Author.Needs.{needs}
+use borrow.Author.Tests.{eq-eqb, ne-eqb}
+use Rattle.certificate.specs.Rules.{sameTwo}
+use Rattle.certificate.proofs.rules.same_two.Statement.{statement}
+use Rattle.certificate.proofs.rules.same_two.Tie as tie
+
+enum-known-one : tie.Need-enum-known-one
+enum-known-one c = search needs
+
+enum-told : tie.Need-enum-told
+enum-told c = search needs
+
+returns : tie.Need-returns
+unfolding sameTwo
+returns c = rw (c .enum-told .given .1)
+
+enum-known-other : tie.Need-enum-known-other
+enum-known-other c = search needs
+
+enum-told-2 : tie.Need-enum-told-2
+enum-told-2 c = search needs
+
+returns-2 : tie.Need-returns-2
+unfolding sameTwo
+returns-2 c = rw (c .before .before .before .one .given .1, c .enum-told2 .given .1)
+
+returns-3 : tie.Need-returns-3
+unfolding sameTwo
+returns-3 c = rw (c .before .before .before .before .before .one .given .1, c .before .before .other .given .1, ne-eqb _ _ (c .if1 .taken))
+
+returns-4 : tie.Need-returns-4
+unfolding sameTwo
+returns-4 c = rw (c .before .before .before .before .before .one .given .1, c .before .before .other .given .1, eq-eqb _ _ (c .if1 .left))
+
+pub same-two-spec : {M : Type 1} → statement M
+same-two-spec =
+    tie.close
+    (tie.spec
+    enum-known-one
+    enum-told
+    returns
+    enum-known-other
+    enum-told-2
+    returns-2
+    returns-3
+    returns-4)

@@ -1,0 +1,82 @@
+-- What is said of a part that is there, and of one that is not; and of the first rule that is broken.
+use Prim.Native.Nat.{ℕ, suc}
+use mathlib.Core.Bool.{Bool, true, false}
+use mathlib.Core.List.{List, [], _∷_}
+use mathlib.Core.Path.{_≡_, refl}
+use Rattle.refusal.specs.declared.Refusal.the-variants.{Profile}
+use Rattle.elements.specs.declared.elements.Element.{Element}
+use Rattle.elements.specs.declared.envelopes.Envelope.{Envelope}
+use Rattle.elements.specs.declared.envelopes.Envelope.the-variants as envelope
+use Rattle.names.specs.declared.Name.{Name}
+use Rattle.names.specs.declared.Name.the-variants.{Holds, Shapeless}
+use Rattle.names.specs.declared.Seen.{Seen}
+use Rattle.refusal.specs.Rules.{firstBroken}
+use Rattle.crl.specs.declared.entries.Survey.{Survey}
+use Rattle.crl.specs.declared.entries.Survey.the-variants as survey
+use Rattle.crl.specs.declared.shapes.Front.{Front}
+use Rattle.crl.specs.declared.shapes.Front.the-variants.{Opens, Frontless}
+use Rattle.crl.specs.declared.shapes.Layout.{Layout}
+use Rattle.crl.specs.declared.shapes.Shape.{Shape}
+use Rattle.crl.specs.declared.shapes.Shape.the-variants.{Parts, Broken}
+use Rattle.crl.specs.declared.Judged.{Judged}
+use Rattle.crl.specs.declared.Judged.the-variants.{Refused}
+use Rattle.crl.specs.Shape.{onEnvelope, onFront, onName, onSurvey}
+use Rattle.crl.specs.Answer.{onShape}
+
+module _ {f : Envelope} (next : Element → Element → Shape) where
+  pub envelope-missing : f ≡ envelope.Formless → Broken ≡ onEnvelope f next
+  unfolding onEnvelope
+  envelope-missing h = rw h
+
+  pub envelope-there : {tbs algorithm : Element} {r : Shape} → f ≡ envelope.Parts tbs algorithm → r ≡ next tbs algorithm → r ≡ onEnvelope f next
+  unfolding onEnvelope
+  envelope-there h g = rw h g
+
+module _ {f : Front} (next : Element → Element → Element → Element → Element → Shape) where
+  pub front-missing : f ≡ Frontless → Broken ≡ onFront f next
+  unfolding onFront
+  front-missing h = rw h
+
+  pub front-there : {version inner issuer current coming : Element} {r : Shape} → f ≡ Opens version inner issuer current coming → r ≡ next version inner issuer current coming → r ≡ onFront f next
+  unfolding onFront
+  front-there h g = rw h g
+
+module _ {f : Name} (next : Seen → Shape) where
+  pub name-missing : f ≡ Shapeless → Broken ≡ onName f next
+  unfolding onName
+  name-missing h = rw h
+
+  pub name-there : {seen : Seen} {r : Shape} → f ≡ Holds seen → r ≡ next seen → r ≡ onName f next
+  unfolding onName
+  name-there h g = rw h g
+
+module _ {f : Survey} (next : ℕ → Bool → Bool → Shape) where
+  pub survey-missing : f ≡ survey.Shapeless → Broken ≡ onSurvey f next
+  unfolding onSurvey
+  survey-missing h = rw h
+
+  pub survey-there : {count : ℕ} {times quiet : Bool} {r : Shape} → f ≡ survey.Entries count times quiet → r ≡ next count times quiet → r ≡ onSurvey f next
+  unfolding onSurvey
+  survey-there h g = rw h g
+
+module _ {f : Shape} (next : Layout → Judged) where
+  pub shape-missing : f ≡ Broken → Refused (Profile 1) ≡ onShape f next
+  unfolding onShape
+  shape-missing h = rw h
+
+  pub shape-there : {l : Layout} {r : Judged} → f ≡ Parts l → r ≡ next l → r ≡ onShape f next
+  unfolding onShape
+  shape-there h g = rw h g
+
+module _ (rule : ℕ) {holds : Bool} (rest : List Bool) where
+  pub broken-here : holds ≡ false → rule ≡ firstBroken rule (holds ∷ rest)
+  unfolding firstBroken
+  broken-here h = rw h
+
+  pub broken-later : {r : ℕ} → holds ≡ true → r ≡ firstBroken (suc rule) rest → r ≡ firstBroken rule (holds ∷ rest)
+  unfolding firstBroken
+  broken-later h g = rw h g
+
+pub broken-none : (rule : ℕ) → 0 ≡ firstBroken rule []
+unfolding firstBroken
+broken-none rule = refl

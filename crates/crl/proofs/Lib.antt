@@ -1,0 +1,4 @@
+pub mod Chains
+pub mod Faults
+pub mod Surveys
+pub mod Theorems

@@ -1,0 +1,85 @@
+-- The entries that are left, with what was found of those before them, come to what all of them come to.
+use Prim.Native.Nat.{ℕ, zero, suc, _+_, _≤_}
+use mathlib.Core.Bool.{Bool, true, false, cond, _&&_, not, and-true, and-assoc}
+use mathlib.Core.List.{List, [], _∷_}
+use mathlib.Core.Path.{_≡_, refl, ap, sym, _∙_}
+use native.Mathlib.Omega.{arith}
+use lib.ListN.{length}
+use Rattle.elements.specs.declared.elements.Element.{Element}
+use Rattle.elements.specs.declared.elements.Found.{Found}
+use Rattle.elements.specs.declared.elements.Found.the-variants.{One, Missing}
+use Rattle.elements.specs.Elements.{foundAt, onFound, membersIn, membersOf}
+use Rattle.extensions.specs.Extensions.{criticalOf}
+use Rattle.times.specs.Times.{timeOf}
+use Rattle.elements.proofs.Members.{members-none, members-more}
+use Rattle.crl.specs.declared.entries.Entry.{Entry}
+use Rattle.crl.specs.declared.entries.Entry.the-variants.{Bare, Extended, Misshapen}
+use Rattle.crl.specs.declared.entries.Survey.{Survey}
+use Rattle.crl.specs.declared.entries.Survey.the-variants.{Entries, Shapeless}
+use Rattle.crl.specs.Entries.{entryOf, shaped, isTime, timely, calm, allShaped, allTimely, allCalm, surveyOf}
+
+-- there are no more members than octets
+members-in-few : (fuel : ℕ) (s : List ℕ) (from end : ℕ) → length (membersIn fuel s from end) ≤ fuel
+unfolding membersIn onFound
+members-in-few zero s from end = omega arith
+members-in-few (suc fuel) s from end = go (λ at. members-in-few fuel s at end) (foundAt s from end)
+  where
+    go : ((at : ℕ) → length (membersIn fuel s at end) ≤ fuel) → (f : Found) → length (onFound f [] (λ e. e ∷ membersIn fuel s (e .end) end)) ≤ suc fuel
+    go less Missing = omega arith
+    go less (One e) = omega (arith, less (e .end))
+
+pub members-few : (s : List ℕ) (from end : ℕ) → length (membersOf s from end) ≤ length s
+unfolding membersOf
+members-few s from end = members-in-few (length s) s from end
+
+-- the survey of the entries that are left, with the number, times and calm of those before them
+unfoldable pub surveyWith : List ℕ → ℕ → Bool → Bool → List Element → Survey
+surveyWith s count times quiet rest =
+    cond (allShaped s rest) (Entries (count + length rest) (times && allTimely s rest) (quiet && allCalm s rest)) Shapeless
+
+pub survey-starts : (s : List ℕ) (from end : ℕ) → surveyOf s from end ≡ surveyWith s 0 true true (membersOf s from end)
+unfolding surveyOf surveyWith
+survey-starts s from end =
+    let none : 0 + length (membersOf s from end) ≡ length (membersOf s from end) = omega arith in
+    rw none
+
+-- what one entry adds: it has the shape, and its time and calm count
+pub record Adds (s : List ℕ) (e : Element) (times quiet times' quiet' : Bool) : Type 0 where
+  pub fit : shaped (entryOf s e) ≡ true
+  pub timed : times' ≡ (times && timely s (entryOf s e))
+  pub calmed : quiet' ≡ (quiet && calm s (entryOf s e))
+
+module _ (s : List ℕ) (count : ℕ) (times quiet : Bool) (at end : ℕ) where
+  pub survey-done : foundAt s at end ≡ Missing → surveyWith s count times quiet (membersOf s at end) ≡ Entries count times quiet
+  unfolding surveyWith allShaped allTimely allCalm
+  survey-done h =
+      let none : count + length {A = Element} [] ≡ count = omega arith in
+      rw (members-none s at end h, none, and-true times, and-true quiet)
+
+  module _ {e : Element} (h : foundAt s at end ≡ One e) where
+    pub survey-bad : entryOf s e ≡ Misshapen → surveyWith s count times quiet (membersOf s at end) ≡ Shapeless
+    unfolding surveyWith allShaped shaped
+    survey-bad g = rw (members-more s at end h, g)
+
+    pub survey-on : {times' quiet' : Bool} → Adds s e times quiet times' quiet' → surveyWith s count times quiet (membersOf s at end) ≡ surveyWith s (count + 1) times' quiet' (membersOf s (e .end) end)
+    unfolding surveyWith allShaped allTimely allCalm
+    survey-on a =
+        let more : count + suc (length (membersOf s (e .end) end)) ≡ count + 1 + length (membersOf s (e .end) end) = omega arith in
+        rw (members-more s at end h, a .fit, a .timed, a .calmed, and-assoc times _ _, and-assoc quiet _ _, more)
+
+-- a mark that falls, and one that stays
+pub falls : (mark : Bool) {good mark' : Bool} → good ≡ false → mark' ≡ false → mark' ≡ (mark && good)
+falls true h g = g ∙ sym h
+falls false h g = g
+
+pub stays : (mark : Bool) {good mark' : Bool} → good ≡ true → mark' ≡ mark → mark' ≡ (mark && good)
+stays mark h g = rw (g, h, and-true mark)
+
+module _ {s : List ℕ} {e serial time : Element} {times quiet times' quiet' : Bool} where
+  pub bare-adds : entryOf s e ≡ Bare serial time → times' ≡ (times && isTime (timeOf s time)) → quiet' ≡ quiet → Adds s e times quiet times' quiet'
+  unfolding shaped timely calm
+  bare-adds h t q = record { fit = rw h; timed = rw (h, t); calmed = rw (h, q, and-true quiet) }
+
+  pub extended-adds : {extensions : Element} → entryOf s e ≡ Extended serial time extensions → times' ≡ (times && isTime (timeOf s time)) → quiet' ≡ (quiet && not (criticalOf s extensions false)) → Adds s e times quiet times' quiet'
+  unfolding shaped timely calm
+  extended-adds h t q = record { fit = rw h; timed = rw (h, t); calmed = rw (h, q) }

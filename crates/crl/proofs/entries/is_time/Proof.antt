@@ -1,0 +1,26 @@
+-- One case for a moment, and one for none.
+use mathlib.Core.Path.{sym, _∙_}
+use borrow.Author.Needs.{needs}
+use Rattle.crl.specs.Entries.{isTime}
+use Rattle.crl.proofs.entries.is_time.Statement.{statement}
+use Rattle.crl.proofs.entries.is_time.Tie as tie
+
+time-of-requires : tie.Need-time-of-requires
+time-of-requires c κs = search needs
+
+enum-told : tie.Need-enum-told
+enum-told c = search needs
+
+enum-told-2 : tie.Need-enum-told-2
+enum-told-2 c = search needs
+
+returns : tie.Need-returns
+unfolding isTime
+returns c = rw (sym (c .before .before .time-of .ensures) ∙ c .enum-told .given .1)
+
+returns-2 : tie.Need-returns-2
+unfolding isTime
+returns-2 c = rw (sym (c .before .before .time-of .ensures) ∙ c .enum-told2 .given .1)
+
+pub is-time-spec : {M : Type 1} → statement M
+is-time-spec = tie.close (tie.spec time-of-requires enum-told enum-told-2 returns returns-2)

@@ -1,0 +1,100 @@
+-- The entries from `at` on, with what was found of those before them, come to what all of them come to.
+use Prim.Native.Nat.{_+_, _-_, _≤_}
+use mathlib.Core.Bool.{not}
+use mathlib.Core.Logic.{⊎-elim}
+use mathlib.Core.Path.{_≡_, ap, sym, _∙_}
+use native.Mathlib.Omega.{arith}
+use borrow.Author.Tests.{not-true, not-false}
+use borrow.Author.Needs.{needs}
+use lib.ListN.{length}
+use Rattle.elements.specs.Elements.{membersOf}
+use Rattle.elements.proofs.Members.{found-within, members-more}
+use Rattle.crl.specs.Entries.{surveyOf}
+use Rattle.crl.proofs.Surveys.{members-few, surveyWith, survey-starts, survey-done, survey-bad, survey-on, falls, stays, bare-adds, extended-adds}
+use Rattle.crl.proofs.entries.survey_of.Statement.{statement}
+use Rattle.crl.proofs.entries.survey_of.Tie as tie
+
+abbrev Inv-loop : tie.InvT-loop
+Inv-loop item from end count₀ timely₀ calm₀ at₀ count timely calm at = (count + length (membersOf item at end) ≤ length item) × (surveyOf item from end ≡ surveyWith item count timely calm (membersOf item at end))
+
+abbrev μ-loop : tie.MeasureT-loop
+μ-loop item from end count₀ timely₀ calm₀ at₀ count timely calm at = end - at
+
+loop-holds : tie.Need-loop-holds Inv-loop μ-loop
+loop-holds c = (omega (arith, members-few (c .before .args .item .now) (c .before .args .from) (c .before .args .end)), survey-starts _ _ _)
+
+element-at-requires : tie.Need-element-at-requires Inv-loop μ-loop
+element-at-requires c κs = search needs
+
+enum-known-e : tie.Need-enum-known-e Inv-loop μ-loop
+enum-known-e c = search needs
+
+enum-told : tie.Need-enum-told Inv-loop μ-loop
+enum-told c = search needs
+
+returns : tie.Need-returns Inv-loop μ-loop
+returns c = sym (c .before .before .before .loop .inv .1 ∙ survey-done _ _ _ _ _ _ (sym (c .before .before .element-at .ensures) ∙ c .enum-told .given .1))
+
+entry-of-requires : tie.Need-entry-of-requires Inv-loop μ-loop
+entry-of-requires c κs = search needs
+
+enum-told-2 : tie.Need-enum-told-2 Inv-loop μ-loop
+enum-told-2 c = search needs
+
+returns-2 : tie.Need-returns-2 Inv-loop μ-loop
+returns-2 c = sym (c .before .before .before .before .before .before .before .loop .inv .1 ∙ survey-bad _ _ _ _ _ _ (sym (c .before .before .before .before .before .before .element-at .ensures) ∙ c .before .before .before .before .e .given .1) (sym (c .before .before .entry-of .ensures) ∙ c .enum-told2 .given .1))
+
+enum-known-time : tie.Need-enum-known-time Inv-loop μ-loop
+enum-known-time c = search needs
+
+is-time-requires : tie.Need-is-time-requires Inv-loop μ-loop
+is-time-requires c κs = search needs
+
+enum-known-time-2 : tie.Need-enum-known-time-2 Inv-loop μ-loop
+enum-known-time-2 c = search needs
+
+is-time-requires-2 : tie.Need-is-time-requires-2 Inv-loop μ-loop
+is-time-requires-2 c κs = search needs
+
+some-critical-requires : tie.Need-some-critical-requires Inv-loop μ-loop
+some-critical-requires c κs = search needs
+
+add-count : tie.Need-add-count Inv-loop μ-loop
+add-count c = omega (arith, c .before .before .before .before .before .before .loop .inv .0, ap length (members-more _ _ _ (sym (c .before .before .before .before .before .element-at .ensures) ∙ c .before .before .before .e .given .1)))
+
+loop-less : tie.Need-loop-less Inv-loop μ-loop
+loop-less c = omega (arith, found-within _ _ _ (sym (c .before .before .before .before .before .element-at .ensures) ∙ c .before .before .before .e .given .1))
+
+loop-again : tie.Need-loop-again Inv-loop μ-loop
+loop-again c = (omega (arith, c .before .before .before .before .before .before .loop .inv .0, ap length (members-more _ _ _ (sym (c .before .before .before .before .before .element-at .ensures) ∙ c .before .before .before .e .given .1))), c .before .before .before .before .before .before .loop .inv .1 ∙ survey-on _ _ _ _ _ _ (sym (c .before .before .before .before .before .element-at .ensures) ∙ c .before .before .before .e .given .1) (
+    ⊎-elim
+    (λ w. bare-adds (sym (c .before .entry-of .ensures) ∙ w .1 .given .1) (falls (c .before .before .before .before .before .before .loop .timely) (sym (w .3 .ensures) ∙ not-true _ (w .4 .taken)) (w .5)) (w .6))
+    (⊎-elim
+    (λ w. bare-adds (sym (c .before .entry-of .ensures) ∙ w .1 .given .1) (stays (c .before .before .before .before .before .before .loop .timely) (sym (w .3 .ensures) ∙ not-false _ (w .4 .left)) (w .5)) (w .6))
+    (⊎-elim
+    (λ w. extended-adds (sym (c .before .entry-of .ensures) ∙ w .1 .given .1) (w .7 ∙ ⊎-elim (λ v. falls (c .before .before .before .before .before .before .loop .timely) (sym (w .3 .ensures) ∙ not-true _ (v .0 .taken)) (v .1)) (λ v. stays (c .before .before .before .before .before .before .loop .timely) (sym (w .3 .ensures) ∙ not-false _ (v .0 .left)) (v .1)) (w .4 .came)) (falls (c .before .before .before .before .before .before .loop .calm) (ap not (sym (w .5 .ensures) ∙ w .6 .taken)) (w .8)))
+    (λ w. extended-adds (sym (c .before .entry-of .ensures) ∙ w .1 .given .1) (w .7 ∙ ⊎-elim (λ v. falls (c .before .before .before .before .before .before .loop .timely) (sym (w .3 .ensures) ∙ not-true _ (v .0 .taken)) (v .1)) (λ v. stays (c .before .before .before .before .before .before .loop .timely) (sym (w .3 .ensures) ∙ not-false _ (v .0 .left)) (v .1)) (w .4 .came)) (stays (c .before .before .before .before .before .before .loop .calm) (ap not (sym (w .5 .ensures) ∙ w .6 .left)) (w .8)))))
+    (c .match2 .came)))
+
+pub survey-of-spec : {M : Type 1} → statement M
+survey-of-spec =
+    tie.close
+    (tie.spec
+    Inv-loop
+    μ-loop
+    loop-holds
+    element-at-requires
+    enum-known-e
+    enum-told
+    returns
+    entry-of-requires
+    enum-told-2
+    returns-2
+    enum-known-time
+    is-time-requires
+    enum-known-time-2
+    is-time-requires-2
+    some-critical-requires
+    add-count
+    loop-less
+    loop-again)

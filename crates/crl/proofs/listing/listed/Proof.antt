@@ -1,0 +1,63 @@
+-- Of the entries, those from `at` on are left: the answer for all is the answer for them.
+use Prim.Native.Nat.{_-_}
+use mathlib.Core.Path.{_≡_, refl, sym, _∙_}
+use native.Mathlib.Omega.{arith}
+use borrow.Author.Needs.{needs}
+use Rattle.elements.specs.Elements.{membersOf}
+use Rattle.elements.proofs.Members.{found-within, members-none, members-more}
+use Rattle.crl.specs.Listed.{someLists, listedOf}
+use Rattle.crl.proofs.listing.listed.Statement.{statement}
+use Rattle.crl.proofs.listing.listed.Tie as tie
+
+abbrev Inv-loop : tie.InvT-loop
+Inv-loop item from end serial at₀ at = listedOf item from end serial ≡ someLists item serial (membersOf item at end)
+
+abbrev μ-loop : tie.MeasureT-loop
+μ-loop item from end serial at₀ at = end - at
+
+loop-holds : tie.Need-loop-holds Inv-loop μ-loop
+unfolding listedOf
+loop-holds c = refl
+
+element-at-requires : tie.Need-element-at-requires Inv-loop μ-loop
+element-at-requires c κs = search needs
+
+enum-known-e : tie.Need-enum-known-e Inv-loop μ-loop
+enum-known-e c = search needs
+
+enum-told : tie.Need-enum-told Inv-loop μ-loop
+enum-told c = search needs
+
+returns : tie.Need-returns Inv-loop μ-loop
+unfolding someLists
+returns c = sym (c .before .before .before .loop .inv ∙ rw (members-none _ _ _ (sym (c .before .before .element-at .ensures) ∙ c .enum-told .given .1)))
+
+has-serial-requires : tie.Need-has-serial-requires Inv-loop μ-loop
+has-serial-requires c κs = search needs
+
+returns-2 : tie.Need-returns-2 Inv-loop μ-loop
+unfolding someLists
+returns-2 c = sym (c .before .before .before .before .before .before .loop .inv ∙ rw (members-more _ _ _ (sym (c .before .before .before .before .before .element-at .ensures) ∙ c .before .before .before .e .given .1), ← c .before .has-serial .ensures, c .if1 .taken))
+
+loop-less : tie.Need-loop-less Inv-loop μ-loop
+loop-less c = omega (arith, found-within _ _ _ (sym (c .before .before .before .before .before .element-at .ensures) ∙ c .before .before .before .e .given .1))
+
+loop-again : tie.Need-loop-again Inv-loop μ-loop
+unfolding someLists
+loop-again c = c .before .before .before .before .before .before .loop .inv ∙ rw (members-more _ _ _ (sym (c .before .before .before .before .before .element-at .ensures) ∙ c .before .before .before .e .given .1), ← c .before .has-serial .ensures, c .if1 .left)
+
+pub listed-spec : {M : Type 1} → statement M
+listed-spec =
+    tie.close
+    (tie.spec
+    Inv-loop
+    μ-loop
+    loop-holds
+    element-at-requires
+    enum-known-e
+    enum-told
+    returns
+    has-serial-requires
+    returns-2
+    loop-less
+    loop-again)

@@ -1,0 +1,62 @@
+-- What the answers say of a CRL: the rules that it meets, the first that it breaks, and where a serial is listed.
+use Prim.Native.Nat.{ℕ, _-_, _≤_, _<_}
+use mathlib.Core.Bool.{Bool, true, false}
+use mathlib.Core.List.{List, List·Memᴰ}
+use mathlib.Core.Path.{_≡_}
+use lib.ListN.{getD}
+use Rattle.der.specs.declared.walking.Walked.the-variants.{Passed}
+use Rattle.der.specs.Forms.{paper}
+use Rattle.der.specs.Walk.{walkOf}
+use Rattle.elements.specs.declared.elements.Element.{Element}
+use Rattle.elements.specs.declared.elements.Found.the-variants.{One}
+use Rattle.elements.specs.Elements.{foundTagged, contentsOf}
+use Rattle.crl.specs.declared.shapes.Layout.{Layout}
+use Rattle.crl.specs.declared.shapes.Shape.the-variants.{Parts, Broken}
+use Rattle.crl.specs.declared.Fields.{Fields}
+use Rattle.crl.specs.Answer.{fieldsOf}
+use Rattle.crl.specs.Rules.{readingsOf, rule2, rule3, rule4, rule5, rule6, rule7, rule8, rules2to8}
+use Rattle.crl.specs.Shape.{layoutOf}
+
+-- rules 1 to 8, of a CRL that has the parts `l`
+pub record Meets (s : List ℕ) (l : Layout) : Type 0 where
+  -- 1: the shape
+  pub shape : layoutOf s ≡ Parts l
+  -- 2: version number 1
+  pub version : rule2 s l ≡ true
+  -- 3: algorithms equal
+  pub algorithms : rule3 s l ≡ true
+  -- 4: the issuer's country
+  pub country : rule4 (readingsOf s l) ≡ true
+  -- 5: the times
+  pub times : rule5 l (readingsOf s l) ≡ true
+  -- 6: no empty entry list
+  pub entries : rule6 l ≡ true
+  -- 7: the extensions
+  pub extensions : rule7 s l ≡ true
+  -- 8: nothing critical
+  pub critical : rule8 s l ≡ true
+
+-- the walk passes, each rule is met, and the fields are those of the parts
+pub record Passes (s : List ℕ) (f : Fields) : Type 0 where
+  pub count : ℕ
+  pub walks : walkOf paper s ≡ Passed count
+  pub parts : Layout
+  pub meets : Meets s parts
+  pub fields : f ≡ fieldsOf parts (readingsOf s parts)
+
+-- one of rules 2 to 8, by its number
+unfoldable pub ruleOf : List ℕ → Layout → ℕ → Bool
+ruleOf s l k = getD (rules2to8 s l (readingsOf s l)) (k - 2) true
+
+-- rule k is broken, and each smaller one holds
+pub data Smallest (s : List ℕ) (k : ℕ) : Type 0 where
+  of-shape : k ≡ 1 → layoutOf s ≡ Broken → Smallest s k
+  of-rule : {l : Layout} → layoutOf s ≡ Parts l → 2 ≤ k → k ≤ 8 → ruleOf s l k ≡ false → ((j : ℕ) → 2 ≤ j → j < k → ruleOf s l j ≡ true) → Smallest s k
+
+-- one of the entries has an INTEGER first whose contents are the serial
+pub record InList (s : List ℕ) (serial : List ℕ) (entries : List Element) : Type 0 where
+  pub entry : Element
+  pub own : Element
+  pub member : List·Memᴰ entry entries
+  pub first : foundTagged s (entry .contents) (entry .end) 0x02 ≡ One own
+  pub same : contentsOf s own ≡ serial

@@ -1,0 +1,199 @@
+-- The members of a certificate's tbs, one after the other, by going back through the steps of its shape.
+use Prim.Native.Nat.{ℕ}
+use mathlib.Core.Path.{_≡_, refl, sym, ap, subst, _∙_}
+use mathlib.Core.Bool.{Bool, true, false, cond}
+use mathlib.Core.List.{List}
+use native.Mathlib.Omega.{arith}
+use lib.Dec.{eqb}
+use Rattle.tree.specs.Tree.{Tree, Trees, none, more}
+use Rattle.elements.specs.declared.elements.Element.{Element}
+use Rattle.elements.specs.declared.envelopes.Envelope.{Envelope}
+use Rattle.elements.specs.declared.envelopes.Envelope.the-variants as envelope
+use Rattle.elements.specs.Elements.{foundTagged, onFound}
+use Rattle.elements.specs.Envelope.{envelopeOf}
+use Rattle.elements.specs.Steps.{onlyOf}
+use Rattle.names.specs.declared.Name.{Name}
+use Rattle.names.specs.declared.Name.the-variants.{Holds, Shapeless}
+use Rattle.names.specs.declared.Seen.{Seen}
+use Rattle.names.specs.Names.{nameOf}
+use Rattle.extensions.specs.Extensions.{extensionsShaped}
+use Rattle.certificate.specs.declared.shapes.Back.{Back}
+use Rattle.certificate.specs.declared.shapes.Back.the-variants.{Closes, Backless}
+use Rattle.certificate.specs.declared.shapes.Front.{Front}
+use Rattle.certificate.specs.declared.shapes.Front.the-variants.{Opens, Frontless}
+use Rattle.certificate.specs.declared.shapes.Layout.{Layout}
+use Rattle.certificate.specs.declared.shapes.Shape.{Shape}
+use Rattle.certificate.specs.declared.shapes.Shape.the-variants.{Parts, Broken}
+use Rattle.certificate.specs.declared.shapes.Validity.{Validity}
+use Rattle.certificate.specs.declared.shapes.Validity.the-variants.{Times, Timeless}
+use Rattle.certificate.specs.Shape.{onEnvelope, onFront, onValidity, onBack, onName, frontOf, validityOf, uniqueEnd, backOf, layoutOf}
+use Rattle.parts.proofs.Inverse.{Went, went, kept}
+use Rattle.parts.proofs.Spans.{Spans, Member}
+use Rattle.parts.proofs.Enveloped.{Tagged, tagged-first}
+
+broken : {l : Layout} → _≡_ {A = Shape} Broken (Parts l) → ⊥
+broken p = let z : _≡_ {A = ℕ} 0 1 = cc in omega arith
+
+frontless : {a b c d e : Element} → _≡_ {A = Front} Frontless (Opens a b c d e) → ⊥
+frontless p = let z : _≡_ {A = ℕ} 0 1 = cc in omega arith
+
+backless : {a b d : Element} {c : Bool} → _≡_ {A = Back} Backless (Closes a b c d) → ⊥
+backless p = let z : _≡_ {A = ℕ} 0 1 = cc in omega arith
+
+by-envelope : {l : Layout} (v : Envelope) (k : Element → Element → Shape) → onEnvelope v k ≡ Parts l
+    → (tbs : Element) × (outer : Element) × (v ≡ envelope.Parts tbs outer) × (k tbs outer ≡ Parts l)
+unfolding onEnvelope
+by-envelope envelope.Formless k e = absurd (broken e)
+by-envelope (envelope.Parts tbs outer) k e = (tbs, outer, refl, e)
+
+by-front : {l : Layout} (v : Front) (k : Element → Element → Element → Element → Element → Shape) → onFront v k ≡ Parts l
+    → (a : Element) × (b : Element) × (c : Element) × (d : Element) × (e : Element) × (v ≡ Opens a b c d e) × (k a b c d e ≡ Parts l)
+unfolding onFront
+by-front Frontless k p = absurd (broken p)
+by-front (Opens a b c d e) k p = (a, b, c, d, e, refl, p)
+
+by-validity : {l : Layout} (v : Validity) (k : Element → Element → Shape) → onValidity v k ≡ Parts l
+    → (a : Element) × (b : Element) × (v ≡ Times a b) × (k a b ≡ Parts l)
+unfolding onValidity
+by-validity Timeless k p = absurd (broken p)
+by-validity (Times a b) k p = (a, b, refl, p)
+
+by-back : {l : Layout} (v : Back) (k : Element → Element → Bool → Element → Shape) → onBack v k ≡ Parts l
+    → (a : Element) × (b : Element) × (c : Bool) × (d : Element) × (v ≡ Closes a b c d) × (k a b c d ≡ Parts l)
+unfolding onBack
+by-back Backless k p = absurd (broken p)
+by-back (Closes a b c d) k p = (a, b, c, d, refl, p)
+
+by-name : {l : Layout} (v : Name) (k : Seen → Shape) → onName v k ≡ Parts l → (seen : Seen) × (k seen ≡ Parts l)
+unfolding onName
+by-name Shapeless k p = absurd (broken p)
+by-name (Holds seen) k p = (seen, p)
+
+parts-same : {l m : Layout} → _≡_ {A = Shape} (Parts l) (Parts m) → l ≡ m
+parts-same p = cc
+
+-- what a layout tells of the steps that found it
+pub record Laid (s : List ℕ) (l : Layout) : Type 0 where
+  pub tbs : Element
+  pub outer : Element
+  pub version : Element
+  pub validity : Element
+  pub unique : Bool
+  pub last : Element
+  pub around : envelopeOf s ≡ envelope.Parts tbs outer
+  pub front : frontOf s tbs ≡ Opens version (l .serial) (l .inner) (l .issuer) validity
+  pub back : backOf s (validity .end) (tbs .end) ≡ Closes (l .subject) (l .key) unique last
+
+pub laid : (s : List ℕ) (l : Layout) → layoutOf s ≡ Parts l → Laid s l
+unfolding layoutOf
+laid s l e =
+    let a = by-envelope (envelopeOf s) _ e in
+    let b = by-front (frontOf s (a .0)) _ (a .3) in
+    let c = by-validity (validityOf s (b .4)) _ (b .6) in
+    let d = by-back (backOf s (b .4 .end) (a .0 .end)) _ (c .3) in
+    let f = by-name (nameOf s (b .3)) _ (d .5) in
+    let g = by-name (nameOf s (d .0)) _ (f .1) in
+    let h = kept (extensionsShaped s (d .3)) _ Broken (Parts l) broken (g .1) in
+    subst (Laid s) (parts-same (h .1))
+    (record {
+        tbs = a .0; outer = a .1; version = b .0; validity = b .4; unique = d .2; last = d .3; around = a .2; front = b .5;
+        back = d .4 })
+
+-- the first five members of the tbs
+pub record Fronted (s : List ℕ) (end : ℕ) (members : Trees) (b c d v : Element) : Type 0 where
+  pub version : Tree
+  pub serial : Tree
+  pub inner : Tree
+  pub issuer : Tree
+  pub validity : Tree
+  pub rest : Trees
+  pub split : members ≡ more version (more serial (more inner (more issuer (more validity rest))))
+  pub serial-member : Member s end b serial (more inner (more issuer (more validity rest)))
+  pub issuer-member : Member s end d issuer (more validity rest)
+  pub next : Spans s (v .end) end rest
+
+split-five :
+    {x y z w u : Tree} {members p q r t n : Trees}
+    → members ≡ more x p → p ≡ more y q → q ≡ more z r → r ≡ more w t → t ≡ more u n → members ≡ more x (more y (more z (more w (more u n))))
+split-five a b c d e = cc
+
+split-three : {z w u : Tree} {q r t n : Trees} → q ≡ more z r → r ≡ more w t → t ≡ more u n → q ≡ more z (more w (more u n))
+split-three a b c = cc
+
+opens-same :
+    {a b c d e p q r t u : Element} → _≡_ {A = Front} (Opens a b c d e) (Opens p q r t u) → (b ≡ q) × (d ≡ t) × (e ≡ u)
+opens-same h = (cc, cc, cc)
+
+pub fronted :
+    (s : List ℕ) (tbs a b c d v : Element) (members : Trees) → Spans s (tbs .contents) (tbs .end) members
+    → frontOf s tbs ≡ Opens a b c d v → Fronted s (tbs .end) members b c d v
+unfolding frontOf
+fronted s tbs a b c d v members sp e =
+    let r = Opens a b c d v in
+    let f1 = went (foundTagged s (tbs .contents) (tbs .end) 0xA0) Frontless _ r frontless e in
+    let t1 = tagged-first s _ (tbs .end) 0xA0 members (f1 .element) sp (f1 .there) in
+    let f2 = went (onlyOf s (f1 .element) 0x02) Frontless _ r frontless (f1 .then) in
+    let f3 = went (foundTagged s (f1 .element .end) (tbs .end) 0x02) Frontless _ r frontless (f2 .then) in
+    let t3 = tagged-first s _ (tbs .end) 0x02 (t1 .rest) (f3 .element) (t1 .member .next) (f3 .there) in
+    let f4 = went (foundTagged s (f3 .element .end) (tbs .end) 0x30) Frontless _ r frontless (f3 .then) in
+    let t4 = tagged-first s _ (tbs .end) 0x30 (t3 .rest) (f4 .element) (t3 .member .next) (f4 .there) in
+    let f5 = went (foundTagged s (f4 .element .end) (tbs .end) 0x30) Frontless _ r frontless (f4 .then) in
+    let t5 = tagged-first s _ (tbs .end) 0x30 (t4 .rest) (f5 .element) (t4 .member .next) (f5 .there) in
+    let f6 = went (foundTagged s (f5 .element .end) (tbs .end) 0x30) Frontless _ r frontless (f5 .then) in
+    let t6 = tagged-first s _ (tbs .end) 0x30 (t5 .rest) (f6 .element) (t5 .member .next) (f6 .there) in
+    let same = opens-same (f6 .then) in
+    record {
+        version = t1 .tree;
+        serial = t3 .tree;
+        inner = t4 .tree;
+        issuer = t5 .tree;
+        validity = t6 .tree;
+        rest = t6 .rest;
+        split = split-five (t1 .split) (t3 .split) (t4 .split) (t5 .split) (t6 .split);
+        serial-member =
+            subst (λ (m : Trees). Member s (tbs .end) b (t3 .tree) m) (split-three (t4 .split) (t5 .split) (t6 .split))
+            (subst (λ (x : Element). Member s (tbs .end) x (t3 .tree) (t3 .rest)) (same .0) (t3 .member));
+        issuer-member =
+            subst (λ (m : Trees). Member s (tbs .end) d (t5 .tree) m) (t6 .split)
+            (subst (λ (x : Element). Member s (tbs .end) x (t5 .tree) (t5 .rest)) (same .1) (t5 .member));
+        next = subst (λ (x : Element). Spans s (x .end) (tbs .end) (t6 .rest)) (same .2) (t6 .member .next) }
+
+-- the two members after them
+pub record Backed (s : List ℕ) (end : ℕ) (members : Trees) (a b : Element) : Type 0 where
+  pub subject : Tree
+  pub key : Tree
+  pub rest : Trees
+  pub split : members ≡ more subject (more key rest)
+  pub subject-member : Member s end a subject (more key rest)
+  pub key-member : Member s end b key rest
+
+split-two : {x y : Tree} {members p q : Trees} → members ≡ more x p → p ≡ more y q → members ≡ more x (more y q)
+split-two a b = cc
+
+closes-same :
+    {a b d p q t : Element} {c r : Bool} → _≡_ {A = Back} (Closes a b c d) (Closes p q r t) → (a ≡ p) × (b ≡ q)
+closes-same h = (cc, cc)
+
+pub backed :
+    (s : List ℕ) (from end : ℕ) (a b : Element) (c : Bool) (d : Element) (members : Trees) → Spans s from end members
+    → backOf s from end ≡ Closes a b c d → Backed s end members a b
+unfolding backOf
+backed s from end a b c d members sp e =
+    let r = Closes a b c d in
+    let f1 = went (foundTagged s from end 0x30) Backless _ r backless e in
+    let t1 = tagged-first s from end 0x30 members (f1 .element) sp (f1 .there) in
+    let f2 = went (foundTagged s (f1 .element .end) end 0x30) Backless _ r backless (f1 .then) in
+    let t2 = tagged-first s _ end 0x30 (t1 .rest) (f2 .element) (t1 .member .next) (f2 .there) in
+    let f3 = went (foundTagged s (uniqueEnd s (f2 .element .end) end) end 0xA3) Backless _ r backless (f2 .then) in
+    let k = kept (eqb (f3 .element .end) end) _ Backless r backless (f3 .then) in
+    let f4 = went (onlyOf s (f3 .element) 0x30) Backless _ r backless (k .1) in
+    let same = closes-same (f4 .then) in
+    record {
+        subject = t1 .tree;
+        key = t2 .tree;
+        rest = t2 .rest;
+        split = split-two (t1 .split) (t2 .split);
+        subject-member =
+            subst (λ (m : Trees). Member s end a (t1 .tree) m) (t2 .split)
+            (subst (λ (x : Element). Member s end x (t1 .tree) (t1 .rest)) (same .0) (t1 .member));
+        key-member = subst (λ (x : Element). Member s end x (t2 .tree) (t2 .rest)) (same .1) (t2 .member) }

@@ -1,0 +1,6 @@
+pub mod Spans
+pub mod Inverse
+pub mod Enveloped
+pub mod Certificates
+pub mod Lists
+pub mod Theorems

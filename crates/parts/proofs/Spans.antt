@@ -1,0 +1,134 @@
+-- A stretch of an item that encodes some trees: the element found at its start is the first of them, what follows encodes
+-- the others, and its contents encode its members.
+use Prim.Native.Nat.{ℕ, _+_, _-_, _≤_}
+use mathlib.Core.Path.{_≡_, refl, sym, ap, subst, _∙_}
+use mathlib.Core.Bool.{true, false, true≢false}
+use mathlib.Core.List.{List, [], _∷_, _++_, append-nil, append-assoc}
+use native.Mathlib.Omega.{arith}
+use lib.Dec.{lit≤}
+use lib.ListN.{length, take, drop, length-append}
+use Rattle.der.specs.declared.stepping.Step.{Step}
+use Rattle.der.specs.declared.stepping.Step.the-variants.{At, Nothing}
+use Rattle.der.specs.Forms.{paper}
+use Rattle.der.specs.Heading.{constructed}
+use Rattle.der.specs.Member.{memberOf}
+use Rattle.tree.specs.Tree.{Tree, leaf, node, Trees, none, more, encoded, encodedAll, tagOf, contentsOf, headerOf, Sound, sound-leaf, sound-node, SoundAll, sound-none, sound-more}
+use Rattle.tree.proofs.Theorems.{step-none, step-more, step-next, step-inside, step-contents}
+use Rattle.tree.proofs.Members.{part-at, length-more}
+use Rattle.tree.proofs.Parts.{length-parts}
+use Rattle.elements.specs.declared.elements.Element.{Element}
+use Rattle.elements.specs.declared.elements.Found.{Found}
+use Rattle.elements.specs.declared.elements.Found.the-variants.{One, Missing}
+use Rattle.elements.specs.Elements.{stepped, foundAt, wholeOf}
+use Rattle.elements.specs.Elements as elements
+
+pub record Spans (s : List ℕ) (from end : ℕ) (trees : Trees) : Type 0 where
+  pub before : List ℕ
+  pub behind : List ℕ
+  pub whole : before ++ encodedAll trees ++ behind ≡ s
+  pub start : length before ≡ from
+  pub stop : length before + length (encodedAll trees) ≡ end
+  pub sound : SoundAll paper trees
+
+-- the element found at the start of a stretch is this tree
+pub record Member (s : List ℕ) (end : ℕ) (e : Element) (tree : Tree) (trees : Trees) : Type 0 where
+  pub tag : e .tag ≡ tagOf tree
+  pub octets : wholeOf s e ≡ encoded tree
+  pub contents : elements.contentsOf s e ≡ contentsOf tree
+  pub sound : Sound paper tree
+  pub next : Spans s (e .end) end trees
+  pub inside : (tag : ℕ) (members : Trees) → tree ≡ node tag members → Spans s (e .contents) (e .end) members
+
+members-sound : (tag : ℕ) (members : Trees) → Sound paper (node tag members) → SoundAll paper members
+members-sound tag members (sound-node small good built fits all) = all
+
+module _ (before behind : List ℕ) (tree : Tree) (trees : Trees) (sound : Sound paper tree) (rest : SoundAll paper trees) where
+  item : List ℕ
+  item = before ++ encodedAll (more tree trees) ++ behind
+
+  stop-at : ℕ
+  stop-at = length before + length (encodedAll (more tree trees))
+
+  first : Element
+  first =
+      record {
+          tag = tagOf tree;
+          at = length before;
+          contents = length before + length (headerOf tree);
+          end = length before + length (encoded tree) }
+
+  first-found : foundAt item (length before) stop-at ≡ One first
+  unfolding item stop-at first foundAt stepped
+  first-found = rw (step-more paper (lit≤ tt) before behind tree trees sound)
+
+  first-member : Member item stop-at first tree trees
+  unfolding item stop-at first wholeOf elements.contentsOf contentsOf
+  first-member =
+      record {
+          tag = refl;
+          octets = whole-part;
+          contents = step-contents before behind tree trees;
+          sound = sound;
+          next = next-span;
+          inside = inside-span }
+    where
+      whole-part : take (length before + length (encoded tree) - length before) (drop (length before) (before ++ encodedAll (more tree trees) ++ behind)) ≡ encoded tree
+      whole-part =
+          rw (step-next before behind tree trees, append-assoc (before ++ encoded tree) (encodedAll trees) behind)
+          (part-at before (encoded tree) (encodedAll trees ++ behind) (length before + length (encoded tree) - length before) (omega arith))
+
+      next-span : Spans (before ++ encodedAll (more tree trees) ++ behind) (length before + length (encoded tree)) (length before + length (encodedAll (more tree trees))) trees
+      next-span =
+          record {
+              before = before ++ encoded tree;
+              behind = behind;
+              whole = sym (step-next before behind tree trees);
+              start = length-append before (encoded tree);
+              stop = omega (arith, length-append before (encoded tree), length-more tree trees);
+              sound = rest }
+
+      inside-span : (tag : ℕ) (members : Trees) → tree ≡ node tag members → Spans (before ++ encodedAll (more tree trees) ++ behind) (length before + length (headerOf tree)) (length before + length (encoded tree)) members
+      inside-span tag members e =
+          let c : contentsOf tree ≡ encodedAll members = ap contentsOf e in
+          let n : length (contentsOf tree) ≡ length (encodedAll members) = ap length c in
+          record {
+              before = before ++ headerOf tree;
+              behind = encodedAll trees ++ behind;
+              whole = rw (← c) (sym (step-inside before behind tree trees));
+              start = length-append before (headerOf tree);
+              stop = omega (arith, length-append before (headerOf tree), length-parts tree);
+              sound = members-sound tag members (subst (Sound paper) e sound) }
+
+  found-member : (e : Element) → foundAt item (length before) stop-at ≡ One e → Member item stop-at e tree trees
+  found-member e f = subst (λ (x : Element). Member item stop-at x tree trees) (one (sym first-found ∙ f)) first-member
+    where
+      one : _≡_ {A = Found} (One first) (One e) → first ≡ e
+      one p = cc
+
+-- an element that is found in a stretch is the first of its trees
+pub first-of :
+    (s : List ℕ) (from end : ℕ) (trees : Trees) (e : Element) → Spans s from end trees → foundAt s from end ≡ One e
+    → (tree : Tree) × (rest : Trees) × (trees ≡ more tree rest) × Member s end e tree rest
+unfolding foundAt stepped encodedAll item stop-at
+first-of s from end none e sp f = absurd (never (sym gone ∙ f))
+  where
+    gone : foundAt s from end ≡ Missing
+    gone =
+        subst (λ (t : List ℕ). foundAt t from end ≡ Missing) (sp .whole)
+        (subst (λ (b : ℕ). foundAt (sp .before ++ encodedAll none ++ sp .behind) b end ≡ Missing) (sp .start)
+        (subst (λ (b : ℕ). foundAt (sp .before ++ encodedAll none ++ sp .behind) (length (sp .before)) b ≡ Missing) (sp .stop)
+        (ap (stepped (length (sp .before))) (step-none paper (sp .before) (sp .behind)))))
+
+    never : _≡_ {A = Found} Missing (One e) → ⊥
+    never p = let z : _≡_ {A = ℕ} 0 1 = cc in omega arith
+first-of s from end (more tree rest) e sp f =
+    (tree, rest, refl, moved (sp .sound) f)
+  where
+    moved : SoundAll paper (more tree rest) → foundAt s from end ≡ One e → Member s end e tree rest
+    moved (sound-more sound others) =
+        let b = sp .before in
+        let h = sp .behind in
+        subst (λ (t : List ℕ). foundAt t from end ≡ One e → Member t end e tree rest) (sp .whole)
+        (subst (λ (a : ℕ). foundAt (item b h tree rest sound others) a end ≡ One e → Member (item b h tree rest sound others) end e tree rest) (sp .start)
+        (subst (λ (d : ℕ). foundAt (item b h tree rest sound others) (length b) d ≡ One e → Member (item b h tree rest sound others) d e tree rest) (sp .stop)
+        (found-member b h tree rest sound others e)))
