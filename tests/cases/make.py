@@ -9,15 +9,22 @@ import sys
 
 sys.dont_write_bytecode = True
 
+import cases_certificate
+import cases_certificate_extensions
+import cases_certificate_parts
+import cases_certificate_shape
 import cases_contents
+import cases_crl
 import cases_days
 import cases_der
 import cases_integer
 import cases_limits
+import cases_listed
 import cases_member
-from record import NO_KIND, ROOM, WALK, Case, head
+from record import CERTIFICATE, CRL, NO_KIND, ROOM, WALK, Case, head
 
-PARTS = (cases_der, cases_contents, cases_limits, cases_integer, cases_member, cases_days)
+PARTS = (cases_der, cases_contents, cases_limits, cases_integer, cases_member, cases_days, cases_certificate,
+         cases_certificate_shape, cases_certificate_parts, cases_certificate_extensions, cases_crl, cases_listed)
 FOLDER = pathlib.Path(__file__).resolve().parents[2] / 'crates' / 'cases'
 
 
@@ -28,6 +35,10 @@ def cases():
     double = sorted({label for label in labels if labels.count(label) > 1})
     if double:
         sys.exit('two cases have the label: ' + ', '.join(double))
+    for kind, rules in ((CERTIFICATE, 14), (CRL, 8)):
+        for rule in range(1, rules + 1):
+            if sum(case.kind == kind and case.broken == (rule,) for case in found) < 2:
+                sys.exit('kind %d: fewer than two cases break rule %d alone' % (kind, rule))
     return found
 
 

@@ -6,6 +6,7 @@ numbers of eight octets, then the label and the bytes. Numbers are big-endian.
 import struct
 
 WALK, INTEGER, REAL_DAY, REAL_MOMENT, ANY_DAY, ANY_MOMENT, DIFFERENCE, MEMBER = range(1, 9)
+CERTIFICATE, CRL, LISTED, AGE = range(9, 13)
 NO_KIND = 255
 
 # the octets that the program has room for, label and bytes together
@@ -22,6 +23,8 @@ class Case:
         self.answer = answer
         self.item = item
         self.numbers = numbers
+        # every rule of a profile that the item breaks
+        self.broken = ()
 
     def record(self):
         label = self.label.encode('ascii')

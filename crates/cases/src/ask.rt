@@ -1,6 +1,8 @@
 // Each kind of question by its number.
+use crate::certificates;
 use crate::days;
 use crate::items;
+use crate::lists;
 use crate::record::Question;
 use crate::say;
 
@@ -17,6 +19,10 @@ pub(crate) fn answer(question: Question, bytes: &[u8]) {
         6 => days::any_moment(first),
         7 => days::difference(first, second),
         8 => items::member(bytes, first, second),
+        9 => certificates::judge(bytes, first),
+        10 => lists::judge(bytes),
+        11 => lists::listed(bytes, first),
+        12 => lists::age(bytes, first),
         _ => say::text(b"no such question"),
     }
 }

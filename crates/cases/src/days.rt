@@ -19,7 +19,11 @@ pub(crate) fn any_moment(moment: u64) {
 }
 
 pub(crate) fn difference(first: u64, second: u64) {
-    match calendar::day_difference(first, second) {
+    tell(calendar::day_difference(first, second));
+}
+
+pub(crate) fn tell(answer: Difference) {
+    match answer {
         Difference::Days(days) => {
             say::signed(days);
             say::text(b" days");

@@ -1,7 +1,9 @@
 // Answers the questions on standard input, a line of text for each.
 mod ask;
+mod certificates;
 mod days;
 mod items;
+mod lists;
 mod record;
 mod say;
 

@@ -28,6 +28,27 @@ fn magnitude(value: i64) -> u64
     }
 }
 
+// How the answer begins for a certificate or a CRL that passes.
+pub(crate) fn times(start: u64, end: u64) {
+    text(b"passed, ");
+    number(start);
+    text(b" to ");
+    number(end);
+}
+
+pub(crate) fn letters(first: u8, second: u8) {
+    text(b", ");
+    text(&[first, second]);
+}
+
+// An offset and a length.
+pub(crate) fn part(name: &[u8], at: usize, size: usize) {
+    text(name);
+    number(at as u64);
+    text(b"+");
+    number(size as u64);
+}
+
 // A refusal's number; the detail as an offset or a rule, where the refusal has one.
 pub(crate) fn refused(refusal: Refusal) {
     let class = refusal::number(refusal);
