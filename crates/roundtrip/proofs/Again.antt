@@ -10,7 +10,7 @@ use lib.Seq.{drop-drop, length-take-le}
 use Rattle.der.specs.Octets.{Octets}
 use Rattle.tree.proofs.Cases.{by-test}
 use Rattle.tree.proofs.Numbers.{octets-take, octets-drop}
-use Rattle.image.specs.declared.Entry.{Entry}
+use Rattle.image.specs.declared.IndexEntry.{IndexEntry}
 use Rattle.image.specs.declared.Total.the-variants.{Sum, Unfit}
 use Rattle.image.specs.Items.{Item, packed, entryBytes, indexBytes, trailerBytes, imageBytes}
 use Rattle.image.specs.Index.{entryAt, itemAt, itemsFrom, itemsIn, indexStart, entryCount, dayIn}
@@ -29,7 +29,7 @@ pub record Passed (s : List ℕ) (at left sum total : ℕ) : Type 0 where
 pub passed : (s : List ℕ) (at left sum total : ℕ) → sumOf s at (suc left) sum ≡ Sum total → Passed s at left sum total
 unfolding sumOf entryGood
 passed s at left sum total e =
-    let one : Entry = entryAt s at in
+    let one : IndexEntry = entryAt s at in
     by-test (entryGood one sum)
     (λ t. let both = and-eq-true-iff (fieldsGood (one .kind) (one .flags) (one .length)) _ .0 t in
     record { fields = both .0; offset = eqb-true _ _ (both .1); others = rw t at e })
@@ -61,7 +61,7 @@ items-again s o zero at sum total room limit e =
     let here : at + 8 * 0 ≡ at = omega arith in
     record { many = refl; good = no-item; octets = ap (λ (n : ℕ). drop n s) (sym same); index = ap (λ (n : ℕ). drop n s) here }
 items-again s o (suc left) at sum total room limit e =
-    let one : Entry = entryAt s at in
+    let one : IndexEntry = entryAt s at in
     let size : ℕ = one .length in
     let p = passed s at left sum total e in
     let next = items-again s o left (at + 8) (sum + size) total (omega arith) limit (p .others) in

@@ -9,7 +9,7 @@ use lib.Dec.{leb, eqb}
 use lib.ListN.{length, take, drop, length-append}
 use lib.Seq.{take-at, drop-at}
 use Rattle.calendar.specs.Days.{realDay}
-use Rattle.image.specs.declared.Entry.{Entry}
+use Rattle.image.specs.declared.IndexEntry.{IndexEntry}
 use Rattle.image.specs.declared.Opened.the-variants.{Image}
 use Rattle.image.specs.declared.Total.the-variants.{Sum}
 use Rattle.image.specs.Items.{Item, packed, entryBytes, indexBytes, trailerBytes, imageBytes}
@@ -31,7 +31,7 @@ fields-small kind flags size e =
     let sizes = and-eq-true-iff (cond (eqb kind 1) (leb flags 1) (eqb flags 0)) _ .0 rest .1 in
     leb-true size 16384 (and-eq-true-iff (leb 1 size) _ .0 sizes .1)
 
-entry-good : (e : Entry) (sum : ℕ) → fieldsGood (e .kind) (e .flags) (e .length) ≡ true → e .offset ≡ sum → entryGood e sum ≡ true
+entry-good : (e : IndexEntry) (sum : ℕ) → fieldsGood (e .kind) (e .flags) (e .length) ≡ true → e .offset ≡ sum → entryGood e sum ≡ true
 unfolding entryGood
 entry-good e sum fields offset = rw (fields, eq-eqb _ _ offset)
 
@@ -55,7 +55,7 @@ unfolding itemsFrom sumOf packed indexBytes
 items-back s no-item at offset behind after index octets limit = record { same = refl; sums = ap Sum (omega arith) }
 items-back s (good-item {item} {rest} fields o good) at offset behind after index octets limit =
     let size : ℕ = length (item .bytes) in
-    let e : Entry = record { kind = item .kind; flags = item .flags; length = size; offset = offset } in
+    let e : IndexEntry = record { kind = item .kind; flags = item .flags; length = size; offset = offset } in
     let front : List ℕ = entryBytes (item .kind) (item .flags) size offset in
     let others : List ℕ = indexBytes (offset + size) rest in
     let joined : drop at s ≡ front ++ (others ++ behind) = index ∙ append-assoc front others behind in

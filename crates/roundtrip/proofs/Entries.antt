@@ -8,7 +8,7 @@ use lib.ListN.{length, take, drop, length-drop}
 use lib.Seq.{take-add}
 use Rattle.der.specs.Octets.{Octets, no-octet, octet, number, big}
 use Rattle.tree.proofs.Numbers.{number-big, octets-drop}
-use Rattle.image.specs.declared.Entry.{Entry}
+use Rattle.image.specs.declared.IndexEntry.{IndexEntry}
 use Rattle.image.specs.Items.{entryBytes}
 use Rattle.image.specs.Index.{field, entryAt}
 use Rattle.roundtrip.proofs.Fields.{field-drop, big-field}
@@ -39,7 +39,7 @@ unfolding entryBytes big
 length-entry kind flags size offset = refl
 
 -- the octets that write an entry
-unfoldable pub entryOctets : Entry → List ℕ
+unfoldable pub entryOctets : IndexEntry → List ℕ
 entryOctets e = entryBytes (e .kind) (e .flags) (e .length) (e .offset)
 
 first-again : {t : List ℕ} → Octets t → 8 ≤ length t → entryOctets (entryAt t 0) ≡ take 8 t

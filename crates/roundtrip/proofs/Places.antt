@@ -6,7 +6,7 @@ use native.Mathlib.Omega.{arith}
 use borrow.Author.Tests.{lt-ltb}
 use lib.ListN.{length, getD, take, drop, length-drop}
 use lib.Seq.{length-take-le}
-use Rattle.image.specs.declared.Entry.{Entry}
+use Rattle.image.specs.declared.IndexEntry.{IndexEntry}
 use Rattle.image.specs.declared.Opened.the-variants.{Image}
 use Rattle.image.specs.declared.Place.the-variants.{Is}
 use Rattle.image.specs.declared.Total.the-variants.{Sum}
@@ -49,7 +49,7 @@ pub place-told :
 unfolding placeOf onPlace itemOf bytesIn itemsIn itemAt entryIn totalOf
 place-told s n day place default e h =
     let (holds, entries, same) = opened-holds s n day e in
-    let one : Entry = entryIn s place in
+    let one : IndexEntry = entryIn s place in
     let room : one .offset + one .length ≤ indexStart s =
     entry-within s (entryCount s) (indexStart s) 0 (indexStart s) place (omega arith) (holds .sums) in
     let item : getD (itemsIn s) place default ≡ itemAt s one = item-from s (entryCount s) (indexStart s) place default (omega arith) in
