@@ -1,5 +1,4 @@
 pub mod Inside
 pub mod Chains
-pub mod Order
-pub mod Faults
+pub mod Runs
 pub mod Theorems

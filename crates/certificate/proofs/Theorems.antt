@@ -14,7 +14,7 @@ use Rattle.der.specs.declared.walking.Walked.the-variants as walked
 use Rattle.der.specs.Forms.{paper}
 use Rattle.der.specs.Walk.{walkOf}
 use Rattle.der.proofs.Bounds.{cond-by}
-use Rattle.refusal.specs.Rules.{firstBroken}
+use Rattle.refusal.specs.Rules.{firstBroken, Smallest}
 use Rattle.certificate.specs.declared.shapes.Layout.{Layout}
 use Rattle.certificate.specs.declared.shapes.Shape.{Shape}
 use Rattle.certificate.specs.declared.shapes.Shape.the-variants.{Parts, Broken}
@@ -24,10 +24,10 @@ use Rattle.certificate.specs.declared.Judged.the-variants.{Passed, Refus
 use Rattle.certificate.specs.Rules.{readingsOf, rules2to8, rules9to14}
 use Rattle.certificate.specs.Shape.{layoutOf}
 use Rattle.certificate.specs.Answer.{fieldsOf, graded, onShape, onWalk, rulesOf, profileOf, judgedOf}
-use Rattle.certificate.specs.Meets.{Meets, Passes, rulesIn, rules1to14, Smallest}
+use Rattle.certificate.specs.Meets.{Meets, Passes, rulesIn, rules1to14}
 use Rattle.certificate.proofs.Chains.{shape-good, graded-whole}
-use Rattle.certificate.proofs.Faults.{no-profile}
-use Rattle.certificate.proofs.Order.{broken-later, none-broken, all-hold, told-smallest}
+use Rattle.der.proofs.Faults.{no-profile}
+use Rattle.refusal.proofs.Order.{broken-later, none-broken, all-hold, told-smallest}
 
 -- a conjunction's parts
 both : (p q : Bool) → (p && q) ≡ true → (p ≡ true) × (q ≡ true)
@@ -67,7 +67,7 @@ module _ (s : List ℕ) (role : ℕ) where
     unfolding rulesOf rules2to8 rules9to14
     meets-none m =
         broken-later 2 _ (m .version) ∙ broken-later 3 _ (m .serial) ∙ broken-later 4 _ (m .algorithms)
-        ∙ broken-later 5 _ (m .countries) ∙ broken-later 6 _ (m .ununique) ∙ broken-later 7 _ (m .times)
+        ∙ broken-later 5 _ (m .countries) ∙ broken-later 6 _ (m .bare) ∙ broken-later 7 _ (m .times)
         ∙ broken-later 8 _ (m .once) ∙ broken-later 9 _ (m .usage) ∙ broken-later 10 _ (m .constraints)
         ∙ broken-later 11 _ (m .keys) ∙ broken-later 12 _ (m .plain) ∙ broken-later 13 _ (m .documents)
         ∙ broken-later 14 _ (m .uncritical) ∙ none-broken 15
@@ -77,7 +77,7 @@ module _ (s : List ℕ) (role : ℕ) where
     none-meets h =
         let holds = all-hold 2 (rulesOf s l (readingsOf s l) role) (omega arith) h in
         record {
-            version = holds 0; serial = holds 1; algorithms = holds 2; countries = holds 3; ununique = holds 4; times = holds 5;
+            version = holds 0; serial = holds 1; algorithms = holds 2; countries = holds 3; bare = holds 4; times = holds 5;
             once = holds 6; usage = holds 7; constraints = holds 8; keys = holds 9; plain = holds 10; documents = holds 11;
             uncritical = holds 12 }
 

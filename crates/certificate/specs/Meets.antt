@@ -21,7 +21,7 @@ pub record Meets (s : List ℕ) (role : ℕ) (l : Layout) : Type 0 where
   pub serial : rule3 s l ≡ true -- 3
   pub algorithms : rule4 s l ≡ true -- 4
   pub countries : rule5 (readingsOf s l) ≡ true -- 5
-  pub ununique : rule6 l ≡ true -- 6
+  pub bare : rule6 l ≡ true -- 6
   pub times : rule7 (readingsOf s l) ≡ true -- 7
   pub once : rule8 s l ≡ true -- 8
   pub usage : rule9 s (l .extensions) role ≡ true -- 9
@@ -49,9 +49,3 @@ rulesIn s role (Parts l) = true ∷ rulesOf s l (readingsOf s l) role
 
 unfoldable pub rules1to14 : List ℕ → ℕ → List Bool
 rules1to14 s role = rulesIn s role (layoutOf s)
-
--- of rules numbered from `first` on, rule k is broken, and each smaller one holds
-pub record Smallest (first : ℕ) (rules : List Bool) (k : ℕ) : Type 0 where
-  pub numbered : first ≤ k
-  pub broken : getD rules (k - first) true ≡ false
-  pub smaller : (j : ℕ) → first ≤ j → j < k → getD rules (j - first) false ≡ true

@@ -1,6 +1,6 @@
 -- Rules 2 to 14 of the certificate profile, each over the parts that rule 1 found. Role 1 is an anchor, 2 a link, 3 a DS.
 use Prim.Native.Nat.{ℕ}
-use mathlib.Core.Bool.{Bool, true, false, cond, _&&_, _||_, not}
+use mathlib.Core.Bool.{Bool, true, false, cond, _&&_, not}
 use mathlib.Core.List.{List, [], _∷_}
 use lib.Dec.{leb, ltb, eqb}
 use lib.ListN.{length, getD}

@@ -2,7 +2,7 @@
 use Prim.Native.Nat.{ℕ, suc}
 use mathlib.Core.Bool.{Bool, true, false}
 use mathlib.Core.List.{List, [], _∷_}
-use mathlib.Core.Path.{_≡_, refl}
+use mathlib.Core.Path.{_≡_, sym, _∙_}
 use Rattle.refusal.specs.declared.Refusal.the-variants.{Profile}
 use Rattle.elements.specs.declared.elements.Element.{Element}
 use Rattle.elements.specs.declared.envelopes.Envelope.{Envelope}
@@ -11,6 +11,7 @@ use Rattle.names.specs.declared.Name.{Name}
 use Rattle.names.specs.declared.Name.the-variants.{Holds, Shapeless}
 use Rattle.names.specs.declared.Seen.{Seen}
 use Rattle.refusal.specs.Rules.{firstBroken}
+use Rattle.refusal.proofs.Order as order
 use Rattle.crl.specs.declared.entries.Survey.{Survey}
 use Rattle.crl.specs.declared.entries.Survey.the-variants as survey
 use Rattle.crl.specs.declared.shapes.Front.{Front}
@@ -70,13 +71,10 @@ module _ {f : Shape} (next : Layout → Judged) where
 
 module _ (rule : ℕ) {holds : Bool} (rest : List Bool) where
   pub broken-here : holds ≡ false → rule ≡ firstBroken rule (holds ∷ rest)
-  unfolding firstBroken
-  broken-here h = rw h
+  broken-here h = sym (order.broken-here rule rest h)
 
   pub broken-later : {r : ℕ} → holds ≡ true → r ≡ firstBroken (suc rule) rest → r ≡ firstBroken rule (holds ∷ rest)
-  unfolding firstBroken
-  broken-later h g = rw h g
+  broken-later h g = g ∙ sym (order.broken-later rule rest h)
 
 pub broken-none : (rule : ℕ) → 0 ≡ firstBroken rule []
-unfolding firstBroken
-broken-none rule = refl
+broken-none rule = sym (order.none-broken rule)

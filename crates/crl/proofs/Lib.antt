@@ -1,4 +1,5 @@
 pub mod Chains
-pub mod Faults
 pub mod Surveys
+pub mod Firsts
+pub mod Serials
 pub mod Theorems

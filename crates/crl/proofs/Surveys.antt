@@ -2,7 +2,7 @@
 use Prim.Native.Nat.{ℕ, zero, suc, _+_, _≤_}
 use mathlib.Core.Bool.{Bool, true, false, cond, _&&_, not, and-true, and-assoc}
 use mathlib.Core.List.{List, [], _∷_}
-use mathlib.Core.Path.{_≡_, refl, ap, sym, _∙_}
+use mathlib.Core.Path.{_≡_, sym, _∙_}
 use native.Mathlib.Omega.{arith}
 use lib.ListN.{length}
 use Rattle.elements.specs.declared.elements.Element.{Element}
@@ -12,7 +12,6 @@ use Rattle.elements.specs.Elements.{foundAt, onFound, membersIn, membersOf}
 use Rattle.extensions.specs.Extensions.{criticalOf}
 use Rattle.times.specs.Times.{timeOf}
 use Rattle.elements.proofs.Members.{members-none, members-more}
-use Rattle.crl.specs.declared.entries.Entry.{Entry}
 use Rattle.crl.specs.declared.entries.Entry.the-variants.{Bare, Extended, Misshapen}
 use Rattle.crl.specs.declared.entries.Survey.{Survey}
 use Rattle.crl.specs.declared.entries.Survey.the-variants.{Entries, Shapeless}

@@ -5,7 +5,7 @@ use mathlib.Core.Bool.{cond}
 use mathlib.Core.List.{List}
 use Rattle.refusal.specs.declared.Refusal.the-variants.{Argument}
 use Rattle.calendar.specs.declared.Difference.{Difference}
-use Rattle.calendar.specs.declared.Difference.the-variants.{Days, Refused}
+use Rattle.calendar.specs.declared.Difference.the-variants.{Refused}
 use Rattle.calendar.specs.Days.{realDay}
 use Rattle.calendar.specs.Difference.{differenceOf}
 use Rattle.crl.specs.declared.Judged.{Judged}

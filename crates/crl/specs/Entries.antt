@@ -5,8 +5,6 @@ use mathlib.Core.List.{List, [], _∷_}
 use lib.Dec.{eqb}
 use lib.ListN.{length}
 use Rattle.elements.specs.declared.elements.Element.{Element}
-use Rattle.elements.specs.declared.elements.Found.{Found}
-use Rattle.elements.specs.declared.elements.Found.the-variants.{One, Missing}
 use Rattle.times.specs.declared.Time.{Time}
 use Rattle.times.specs.declared.Time.the-variants.{Moment, Untimely}
 use Rattle.elements.specs.Elements.{foundTagged, onFound, membersOf}

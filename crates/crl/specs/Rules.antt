@@ -1,12 +1,10 @@
 -- Rules 2 to 8 of the CRL profile, each over the parts that rule 1 found.
 use Prim.Native.Nat.{ℕ}
-use mathlib.Core.Bool.{Bool, true, false, cond, _&&_, not}
+use mathlib.Core.Bool.{Bool, true, false, _&&_, not}
 use mathlib.Core.List.{List, [], _∷_}
-use lib.Dec.{leb, eqb}
+use lib.Dec.{eqb}
 use Rattle.names.specs.declared.Letters.{Letters}
 use Rattle.names.specs.declared.Letters.the-variants.{Two, Unfit}
-use Rattle.times.specs.declared.Time.{Time}
-use Rattle.times.specs.declared.Time.the-variants.{Moment, Untimely}
 use Rattle.elements.specs.Octets.{alike}
 use Rattle.elements.specs.Elements.{wholeOf, contentsOf}
 use Rattle.extensions.specs.Extensions.{lookupOf, present, doubledOf, criticalOf}

@@ -22,7 +22,6 @@ use Rattle.crl.specs.declared.entries.Survey.{Survey}
 use Rattle.crl.specs.declared.entries.Survey.the-variants as survey
 use Rattle.crl.specs.declared.shapes.Front.{Front}
 use Rattle.crl.specs.declared.shapes.Front.the-variants.{Opens, Frontless}
-use Rattle.crl.specs.declared.shapes.Layout.{Layout}
 use Rattle.crl.specs.declared.shapes.Listing.{Listing}
 use Rattle.crl.specs.declared.shapes.Shape.{Shape}
 use Rattle.crl.specs.declared.shapes.Shape.the-variants.{Parts, Broken}

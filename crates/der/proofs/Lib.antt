@@ -2,3 +2,4 @@ pub mod Laws
 pub mod Bounds
 pub mod Enough
 pub mod Weights
+pub mod Faults

@@ -3,7 +3,7 @@ use mathlib.Core.Path.{sym, _∙_}
 use borrow.Author.Needs.{needs}
 use Rattle.certificate.specs.Answer.{profileOf}
 use Rattle.certificate.proofs.Chains.{shape-bad, shape-good, graded-broken, graded-whole}
-use Rattle.certificate.proofs.Order.{rules-early, rules-late}
+use Rattle.certificate.proofs.Runs.{rules-early, rules-late}
 use Rattle.certificate.proofs.profile.Statement.{statement}
 use Rattle.certificate.proofs.profile.Tie as tie
 

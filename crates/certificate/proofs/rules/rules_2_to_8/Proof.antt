@@ -4,7 +4,7 @@ use mathlib.Core.Bool.{not}
 use borrow.Author.Needs.{needs}
 use borrow.Author.Tests.{not-true, not-false}
 use Rattle.certificate.specs.Rules.{rule5, rule6, rule7, rules2to8}
-use Rattle.certificate.proofs.Order.{broken-here, broken-later, none-broken}
+use Rattle.refusal.proofs.Order.{broken-here, broken-later, none-broken}
 use Rattle.certificate.proofs.rules.rules_2_to_8.Statement.{statement}
 use Rattle.certificate.proofs.rules.rules_2_to_8.Tie as tie
 

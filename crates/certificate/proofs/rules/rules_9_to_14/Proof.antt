@@ -4,7 +4,7 @@ use mathlib.Core.Bool.{not}
 use borrow.Author.Needs.{needs}
 use borrow.Author.Tests.{not-true, not-false}
 use Rattle.certificate.specs.Rules.{rule11, rule14, rules9to14}
-use Rattle.certificate.proofs.Order.{broken-here, broken-later, none-broken}
+use Rattle.refusal.proofs.Order.{broken-here, broken-later, none-broken}
 use Rattle.certificate.proofs.rules.rules_9_to_14.Statement.{statement}
 use Rattle.certificate.proofs.rules.rules_9_to_14.Tie as tie
 

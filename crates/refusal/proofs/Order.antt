@@ -3,16 +3,11 @@ use Prim.Native.Nat.{ℕ, zero, suc, _+_, _-_, _≤_, _<_}
 use mathlib.Core.Bool.{Bool, true, false}
 use mathlib.Core.List.{List, [], _∷_, _++_}
 use mathlib.Core.Logic.{⊎-elim}
-use mathlib.Core.Path.{_≡_, refl, sym, _∙_}
+use mathlib.Core.Path.{_≡_, refl, sym}
 use native.Mathlib.Nat.{eq-or-lt-of-le}
 use native.Mathlib.Omega.{arith}
 use lib.ListN.{length, getD}
-use Rattle.refusal.specs.Rules.{firstBroken}
-use Rattle.certificate.specs.declared.rules.Readings.{Readings}
-use Rattle.certificate.specs.declared.shapes.Layout.{Layout}
-use Rattle.certificate.specs.Rules.{rules2to8, rules9to14}
-use Rattle.certificate.specs.Answer.{rulesOf}
-use Rattle.certificate.specs.Meets.{Smallest}
+use Rattle.refusal.specs.Rules.{firstBroken, Smallest}
 
 module _ (rule : ℕ) (rest : List Bool) {holds : Bool} where
   pub broken-here : holds ≡ false → firstBroken rule (holds ∷ rest) ≡ rule
@@ -28,27 +23,18 @@ unfolding firstBroken
 none-broken rule = refl
 
 -- one of the first rules is broken
-broken-first : (rule : ℕ) (xs ys : List Bool) → (firstBroken rule xs ≡ 0 → ⊥) → firstBroken rule (xs ++ ys) ≡ firstBroken rule xs
+pub broken-first : (rule : ℕ) (xs ys : List Bool) → (firstBroken rule xs ≡ 0 → ⊥) → firstBroken rule (xs ++ ys) ≡ firstBroken rule xs
 unfolding firstBroken
 broken-first rule [] ys h = absurd (h refl)
 broken-first rule (true ∷ xs) ys h = broken-first (suc rule) xs ys h
 broken-first rule (false ∷ xs) ys h = refl
 
 -- none of them is
-broken-second : (rule : ℕ) (xs ys : List Bool) → 0 < rule → firstBroken rule xs ≡ 0 → firstBroken rule (xs ++ ys) ≡ firstBroken (rule + length xs) ys
+pub broken-second : (rule : ℕ) (xs ys : List Bool) → 0 < rule → firstBroken rule xs ≡ 0 → firstBroken rule (xs ++ ys) ≡ firstBroken (rule + length xs) ys
 unfolding firstBroken
 broken-second rule [] ys g h = let same : rule + 0 ≡ rule = omega arith in rw same
 broken-second rule (true ∷ xs) ys g h = let same : rule + suc (length xs) ≡ suc rule + length xs = omega arith in rw same (broken-second (suc rule) xs ys (omega arith) h)
 broken-second rule (false ∷ xs) ys g h = absurd (omega arith)
-
-module _ (s : List ℕ) (l : Layout) (r : Readings) (role : ℕ) {early : ℕ} (h : early ≡ firstBroken 2 (rules2to8 s l r)) where
-  pub rules-early : (early ≡ 0 → ⊥) → firstBroken 2 (rulesOf s l r role) ≡ early
-  unfolding rulesOf
-  rules-early g = broken-first 2 (rules2to8 s l r) (rules9to14 s (l .extensions) r role) (λ e. g (h ∙ e)) ∙ sym h
-
-  pub rules-late : early ≡ 0 → {late : ℕ} → late ≡ firstBroken 9 (rules9to14 s (l .extensions) r role) → firstBroken 2 (rulesOf s l r role) ≡ late
-  unfolding rulesOf rules2to8
-  rules-late g e = broken-second 2 (rules2to8 s l r) (rules9to14 s (l .extensions) r role) (omega arith) (sym h ∙ g) ∙ sym e
 
 -- where none is broken, each holds
 pub all-hold : (rule : ℕ) (xs : List Bool) → 0 < rule → firstBroken rule xs ≡ 0 → (i : ℕ) → getD xs i true ≡ true
@@ -59,7 +45,7 @@ all-hold rule (true ∷ xs) g h (suc i) = all-hold (suc rule) xs (omega arith) h
 all-hold rule (false ∷ xs) g h i = absurd (omega arith)
 
 -- the rules after the first, and the first
-earlier : (first : ℕ) (xs : List Bool) {k : ℕ} → ((j : ℕ) → suc first ≤ j → j < k → getD xs (j - suc first) false ≡ true) → (j : ℕ) → first ≤ j → j < k → getD (true ∷ xs) (j - first) false ≡ true
+earlier : (first : ℕ) (xs : List Bool) {k : ℕ} → ((j : ℕ) → suc first ≤ j → j < k → getD xs (j - suc first) true ≡ true) → (j : ℕ) → first ≤ j → j < k → getD (true ∷ xs) (j - first) true ≡ true
 earlier first xs rest j low high =
     ⊎-elim
     (λ (e : first ≡ j). let here : j - first ≡ 0 = omega arith in rw here)
@@ -72,8 +58,8 @@ unfolding firstBroken
 told-smallest first [] h g = absurd (g (sym h))
 told-smallest first (false ∷ xs) {k} h g =
     let here : k - first ≡ 0 = omega arith in
-    record { numbered = omega arith; broken = rw here; smaller = λ j low high. absurd (omega arith) }
+    record { numbered = omega arith; listed = omega arith; broken = rw here; smaller = λ j low high. absurd (omega arith) }
 told-smallest first (true ∷ xs) {k} h g =
     let rest : Smallest (suc first) xs k = told-smallest (suc first) xs h g in
     let there : k - first ≡ suc (k - suc first) = omega (arith, rest .numbered) in
-    record { numbered = omega (arith, rest .numbered); broken = rw there (rest .broken); smaller = earlier first xs (rest .smaller) }
+    record { numbered = omega (arith, rest .numbered); listed = omega (arith, rest .listed); broken = rw there (rest .broken); smaller = earlier first xs (rest .smaller) }
