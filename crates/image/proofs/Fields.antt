@@ -1,14 +1,13 @@
 -- A field octet by octet: each octet that is there adds itself to 256 times those before it, and beyond the end there is none.
-use Prim.Native.Nat.{ℕ, zero, suc, _+_, _*_, _-_, _^_, _<_, _≤_}
-use mathlib.Core.Path.{_≡_, refl, ap, sym, _∙_}
-use mathlib.Core.List.{List, []}
+use Prim.Native.Nat.{ℕ, suc, _+_, _*_, _-_, _<_, _≤_}
+use mathlib.Core.Path.{_≡_, refl, ap, _∙_}
+use mathlib.Core.List.{List}
 use native.Mathlib.Nat.{add-assoc}
 use native.Mathlib.Omega.{arith}
-use lib.ListN.{length, getD, take, drop, length-drop, drop-of-length-le}
+use lib.ListN.{length, getD, drop, length-drop, drop-of-length-le}
 use lib.Seq.{getD-drop, take-nil}
 use Rattle.der.specs.Octets.{number}
 use Rattle.der.proofs.Weights.{number-next}
-use Rattle.image.specs.declared.IndexEntry.{IndexEntry}
 use Rattle.image.specs.Index.{field, entryAt}
 
 pub field-next :

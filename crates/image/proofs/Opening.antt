@@ -1,14 +1,14 @@
 -- One law for each answer about an image: what opening and the sum of the lengths come to under the tests that lead there.
 use Prim.Native.Nat.{ℕ, suc, _+_}
-use mathlib.Core.Path.{_≡_, refl}
+use mathlib.Core.Path.{_≡_}
 use mathlib.Core.Bool.{true, false}
 use mathlib.Core.List.{List}
 use Rattle.refusal.specs.declared.Refusal.the-variants as refusal
 use Rattle.refusal.specs.Rules.{firstBroken}
 use Rattle.image.specs.declared.Opened.the-variants.{Image, Refused}
-use Rattle.image.specs.declared.Total.the-variants.{Sum, Unfit}
-use Rattle.image.specs.Index.{indexStart, entryCount, dayIn, entryAt}
-use Rattle.image.specs.Rules.{rule1, rule2, rule3, rule4, rule5, rule6, rule7, rules, entryGood, sumOf, totalOf, fit, summed}
+use Rattle.image.specs.declared.Total.the-variants.{Unfit}
+use Rattle.image.specs.Index.{entryCount, dayIn, entryAt}
+use Rattle.image.specs.Rules.{rule1, rule2, rule3, rule4, rule5, rule6, rule7, rules, entryGood, sumOf}
 use Rattle.image.specs.Answer.{graded, openedOf}
 
 module _ (s : List ℕ) where

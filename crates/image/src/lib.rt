@@ -122,7 +122,12 @@ pub fn entry_in(image: &[u8], place: usize) -> IndexEntry
 {
     let n = image.len();
     if n / 8 < place {
-        return IndexEntry { kind: 0, flags: 0, length: 0, offset: 0 };
+        return IndexEntry {
+            kind: 0,
+            flags: 0,
+            length: 0,
+            offset: 0,
+        };
     }
     let at = index_start(image) + 8 * place;
     if n < at + 8 {
@@ -172,7 +177,9 @@ fn two(image: &[u8], at: usize) -> usize
     requires { ⌜ at + 2 ≤ length (now image) ⌝ }
     ensures { λ r. ⌜ (r ≡ field (now (image .entry)) at 2) × (r < 65536) ⌝ }
 {
-    image[at] as usize * 256 + image[at + 1] as usize
+    let high = image[at] as usize;
+    let low = image[at + 1] as usize;
+    high * 256 + low
 }
 
 fn four(image: &[u8], at: usize) -> usize

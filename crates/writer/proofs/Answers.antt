@@ -1,6 +1,6 @@
 -- One law for each answer of the writer, and what the output is then.
 use Prim.Native.Nat.{ℕ, _≤_, _<_}
-use mathlib.Core.Path.{_≡_, sym, _∙_}
+use mathlib.Core.Path.{_≡_}
 use mathlib.Core.Bool.{true, false}
 use mathlib.Core.List.{List, _++_, append-assoc}
 use borrow.Author.Tests.{le-leb, lt-leb}

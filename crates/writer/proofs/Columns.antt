@@ -1,7 +1,7 @@
 -- The columns item by item, and the image that they make: each entry has 8 octets, and lengths that sum to the packed octets
 -- cut those into items that are all of them.
 use Prim.Native.Nat.{ℕ, suc, _+_, _*_, _≤_, _<_}
-use mathlib.Core.Path.{_≡_, refl, ap, sym, _∙_}
+use mathlib.Core.Path.{_≡_, refl, ap, _∙_}
 use mathlib.Core.Bool.{Bool, true, false, _&&_}
 use mathlib.Core.List.{List, [], _∷_, _++_}
 use native.Mathlib.Nat.{add-zero}
@@ -12,7 +12,7 @@ use lib.ListN.{length, getD, take, drop, length-append, length-drop, take-append
 use lib.Seq.{drop-cons, drop-drop, getD-drop, length-take-le}
 use Rattle.der.specs.Octets.{big}
 use Rattle.calendar.specs.Days.{realDay}
-use Rattle.image.specs.Items.{Item, packed, entryBytes, indexBytes, trailerBytes, imageBytes}
+use Rattle.image.specs.Items.{packed, entryBytes, indexBytes, trailerBytes, imageBytes}
 use Rattle.image.specs.Rules.{fieldsGood}
 use Rattle.writer.specs.Rows.{rowsBytes}
 use Rattle.writer.specs.Writing.{rowsGood, sumAll, argumentsGood, itemsOf}

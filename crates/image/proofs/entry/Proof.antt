@@ -1,5 +1,5 @@
 -- Opening decides, and then the place.
-use mathlib.Core.Path.{_≡_, refl, ap, sym, _∙_}
+use mathlib.Core.Path.{sym, _∙_}
 use borrow.Author.Tests.{lt-ltb, le-ltb}
 use Rattle.image.specs.Answer.{onPlace, placeOf}
 use borrow.Author.Needs.{needs}

@@ -1,6 +1,5 @@
 -- The octets are there, so each field is what they write.
 use Prim.Native.Nat.{_+_}
-use mathlib.Core.Path.{_≡_, sym}
 use native.Mathlib.Omega.{arith}
 use Rattle.image.specs.Index.{entryAt}
 use Rattle.image.proofs.Fields.{field-one}
@@ -37,7 +36,7 @@ four-requires c κs = search needs
 
 returns : tie.Need-returns
 unfolding entryAt
-returns c = 
+returns c =
     let s = c .before .before .before .before .before .args .image .now in
     let at = c .before .before .before .before .before .args .at in
     (rw (field-one s at (omega arith), field-one s (at + 1) (omega arith), c .before .two .ensures .0, c .four .ensures .0), c .before .two .ensures .1)

@@ -1,5 +1,4 @@
 -- Each field is read by the definition's own number.
-use mathlib.Core.Path.{_≡_, refl, ap, sym, _∙_}
 use Rattle.image.specs.Index.{entryAt}
 use borrow.Author.Needs.{needs}
 use Rattle.image.proofs.entry_cut.Statement.{statement}

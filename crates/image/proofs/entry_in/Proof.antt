@@ -1,5 +1,5 @@
 -- A place past an eighth of the octets has its entry beyond the end, and any other lies where no sum wraps.
-use mathlib.Core.Path.{_≡_, refl, ap, sym, _∙_}
+use mathlib.Core.Path.{ap, _∙_}
 use native.Mathlib.Omega.{arith}
 use Prim.Native.Nat.{ℕ, _+_, _*_}
 use Rattle.image.specs.Index.{indexStart, entryAt, entryIn}
@@ -10,7 +10,9 @@ use Rattle.image.proofs.entry_in.Tie as tie
 
 returns : tie.Need-returns
 unfolding entryIn
-returns c = entry-past (c .before .before .args .image .now) (indexStart (c .before .before .args .image .now) + 8 * c .before .before .args .place) (omega arith)
+returns c =
+    let a = c .before .before .args in
+    entry-past (a .image .now) (indexStart (a .image .now) + 8 * a .place) (omega arith)
 
 index-start-requires : tie.Need-index-start-requires
 index-start-requires c κs = search needs

@@ -1,5 +1,4 @@
 -- Four octets are two and two, the first two weighing most.
-use Prim.Native.Nat.{_+_}
 use native.Mathlib.Omega.{arith}
 use Rattle.image.proofs.Fields.{field-four}
 use borrow.Author.Needs.{needs}

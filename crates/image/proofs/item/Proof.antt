@@ -1,5 +1,5 @@
 -- The bytes are those that the entry of the place tells.
-use mathlib.Core.Path.{_≡_, refl, ap, sym, _∙_}
+use mathlib.Core.Path.{sym, _∙_}
 use Rattle.image.specs.Answer.{bytesIn, itemOf}
 use borrow.Author.Needs.{needs}
 use Rattle.image.proofs.item.Statement.{statement}

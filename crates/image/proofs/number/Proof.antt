@@ -1,5 +1,5 @@
 -- The part has as many octets as are there, four at most.
-use mathlib.Core.Path.{_≡_, refl, ap, sym, _∙_}
+use mathlib.Core.Path.{ap, _∙_}
 use native.Mathlib.Omega.{arith}
 use lib.ListN.{length-take}
 use Rattle.der.specs.Octets.{number}

@@ -1,10 +1,9 @@
 -- The code asks the rules in their order, and the first that is broken decides.
-use mathlib.Core.Path.{_≡_, refl, ap, sym, _∙_}
+use mathlib.Core.Path.{_≡_, sym, _∙_}
 use native.Mathlib.Omega.{arith}
 use Prim.Native.Nat.{_+_, _*_}
-use mathlib.Core.Bool.{true, false}
+use mathlib.Core.Bool.{true}
 use borrow.Author.Tests.{le-leb, lt-leb, eq-eqb, ne-eqb, not-true, not-false}
-use lib.ListN.{length}
 use Rattle.image.specs.declared.Total.the-variants.{Sum}
 use Rattle.image.specs.Index.{indexStart, entryCount, versionIn, dayIn}
 use Rattle.image.specs.Rules.{rule1, rule2, rule3, rule4, rule5, rule6, rule7, totalOf, fit, summed}
@@ -122,6 +121,18 @@ five : (c : tie.Else6) → rule5 (c .before .before .before .before .before .bef
 unfolding rule5
 five c = eq-eqb _ _ (sym (ending (c .before)) ∙ c .if6 .left)
 
+-- all five that ask nothing of the entries
+kept : (c : tie.Else6) →
+    let s = c .before .before .before .before .before .before .before .before .before .before .before .before .args .image .now in
+    (rule1 s ≡ true) × (rule2 s ≡ true) × (rule3 s ≡ true) × (rule4 s ≡ true) × (rule5 s ≡ true)
+kept c = (
+  one (c .before .before .before .before .before .before .before .before .before),
+  two (c .before .before .before .before .before .before .before),
+  three (c .before .before .before .before .before),
+  four (c .before .before),
+  five c,
+)
+
 sum-entries-requires : tie.Need-sum-entries-requires
 sum-entries-requires c κs = search needs
 
@@ -137,8 +148,9 @@ broken-requires-7 c κs = search needs
 returns-7 : tie.Need-returns-7
 unfolding rule6 totalOf fit indexStart entryCount
 returns-7 c =
+    let k = kept (c .before .before .before .before) in
     c .broken7 .ensures
-    ∙ sym (breaks-6 (c .before .before .before .before .before .before .before .before .before .before .before .before .before .before .before .before .args .image .now) (one (c .before .before .before .before .before .before .before .before .before .before .before .before .before)) (two (c .before .before .before .before .before .before .before .before .before .before .before)) (three (c .before .before .before .before .before .before .before .before .before)) (four (c .before .before .before .before .before .before)) (five (c .before .before .before .before)) (simp (sym (c .before .before .before .before .before .before .before .before .before .before .two2 .ensures .0), sym (c .before .before .before .before .before .four2 .ensures .0), sym (c .before .before .before .sum-entries .ensures) ∙ c .before .enum-told .given .1)))
+    ∙ sym (breaks-6 (c .before .before .before .before .before .before .before .before .before .before .before .before .before .before .before .before .args .image .now) (k .0) (k .1) (k .2) (k .3) (k .4) (simp (sym (c .before .before .before .before .before .before .before .before .before .before .two2 .ensures .0), sym (c .before .before .before .before .before .four2 .ensures .0), sym (c .before .before .before .sum-entries .ensures) ∙ c .before .enum-told .given .1)))
 
 total : (c : tie.After-known-told) →
     totalOf (c .before .before .before .before .before .before .before .before .before .before .before .before .before .before .before .before .args .image .now) ≡ Sum (c .before .sum .given .0 .0)
@@ -153,13 +165,15 @@ broken-requires-8 c κs = search needs
 returns-8 : tie.Need-returns-8
 unfolding rule6 rule7 fit summed
 returns-8 c =
+    let k = kept (c .before .before .before .before .before .before) in
     c .broken8 .ensures
-    ∙ sym (breaks-7 (c .before .before .before .before .before .before .before .before .before .before .before .before .before .before .before .before .before .before .args .image .now) (one (c .before .before .before .before .before .before .before .before .before .before .before .before .before .before .before)) (two (c .before .before .before .before .before .before .before .before .before .before .before .before .before)) (three (c .before .before .before .before .before .before .before .before .before .before .before)) (four (c .before .before .before .before .before .before .before .before)) (five (c .before .before .before .before .before .before)) (simp (total (c .before .before))) (simp (total (c .before .before), ne-eqb _ _ λ e. c .before .if7 .taken (e ∙ sym (start (c .before .before .before .before .before .before .before))))))
+    ∙ sym (breaks-7 (c .before .before .before .before .before .before .before .before .before .before .before .before .before .before .before .before .before .before .args .image .now) (k .0) (k .1) (k .2) (k .3) (k .4) (simp (total (c .before .before))) (simp (total (c .before .before), ne-eqb _ _ λ e. c .before .if7 .taken (e ∙ sym (start (c .before .before .before .before .before .before .before))))))
 
 returns-9 : tie.Need-returns-9
 unfolding rule6 rule7 fit summed entryCount dayIn
 returns-9 c =
-    let all = keeps-all (c .before .before .before .before .before .before .before .before .before .before .before .before .before .before .before .before .before .args .image .now) (one (c .before .before .before .before .before .before .before .before .before .before .before .before .before .before)) (two (c .before .before .before .before .before .before .before .before .before .before .before .before)) (three (c .before .before .before .before .before .before .before .before .before .before)) (four (c .before .before .before .before .before .before .before)) (five (c .before .before .before .before .before)) (simp (total (c .before))) (simp (total (c .before), eq-eqb _ _ (c .if7 .left ∙ start (c .before .before .before .before .before .before)))) in
+    let k = kept (c .before .before .before .before .before) in
+    let all = keeps-all (c .before .before .before .before .before .before .before .before .before .before .before .before .before .before .before .before .before .args .image .now) (k .0) (k .1) (k .2) (k .3) (k .4) (simp (total (c .before))) (simp (total (c .before), eq-eqb _ _ (c .if7 .left ∙ start (c .before .before .before .before .before .before)))) in
     rw (c .before .before .before .before .before .before .before .before .before .before .before .two2 .ensures .0, c .before .before .before .before .before .before .before .before .before .four .ensures .0) (sym all)
 
 pub open-spec : {M : Type 1} → statement M

@@ -1,5 +1,5 @@
 -- The day is asked for first, then the image, then whether it is the image's.
-use mathlib.Core.Path.{_≡_, refl, ap, sym, _∙_}
+use mathlib.Core.Path.{sym, _∙_}
 use borrow.Author.Tests.{eq-eqb, ne-eqb, not-true, not-false}
 use Rattle.image.specs.Answer.{onDay, openedFor}
 use borrow.Author.Needs.{needs}

@@ -19,9 +19,10 @@ part-result-end : tie.Need-part-result-end
 part-result-end c = search needs
 
 returns : tie.Need-returns
-returns c = 
-    let beyond : length (c .before .before .args .image .now) ≤ c .before .before .args .from = omega arith in
-    rw (drop-of-length-le (c .before .before .args .image .now) beyond, take-nil (c .before .before .args .size))
+returns c =
+    let a = c .before .before .args in
+    let beyond : length (a .image .now) ≤ a .from = omega arith in
+    rw (drop-of-length-le (a .image .now) beyond, take-nil (a .size))
 
 sub-result-2 : tie.Need-sub-result-2
 sub-result-2 c = search needs
@@ -33,9 +34,10 @@ part-result-end-2 : tie.Need-part-result-end-2
 part-result-end-2 c = search needs
 
 returns-2 : tie.Need-returns-2
-returns-2 c = 
-    part-to-end (c .before .before .before .args .image .now) (c .before .before .before .args .from)
-    ∙ sym (take-all (c .before .before .before .args .size) (drop (c .before .before .before .args .from) (c .before .before .before .args .image .now)) (rw length-drop (omega arith)))
+returns-2 c =
+    let a = c .before .before .before .args in
+    part-to-end (a .image .now) (a .from)
+    ∙ sym (take-all (a .size) (drop (a .from) (a .image .now)) (rw length-drop (omega arith)))
 
 add-end : tie.Need-add-end
 add-end c = search needs
@@ -50,8 +52,9 @@ part-result-end-3 : tie.Need-part-result-end-3
 part-result-end-3 c = search needs
 
 returns-3 : tie.Need-returns-3
-returns-3 c = 
-    let size : c .before .before .before .args .from + c .before .before .before .args .size - c .before .before .before .args .from ≡ c .before .before .before .args .size = omega arith in
+returns-3 c =
+    let a = c .before .before .before .args in
+    let size : a .from + a .size - a .from ≡ a .size = omega arith in
     rw size
 
 pub part-spec : {M : Type 1} → statement M

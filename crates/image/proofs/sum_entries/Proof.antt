@@ -1,5 +1,5 @@
 -- With what is left of the entries the sum comes to the same as at the start, and no length passes 65,535.
-use Prim.Native.Nat.{suc, _+_, _*_, _-_, _≤_, _<_}
+use Prim.Native.Nat.{suc, _+_, _*_, _-_, _≤_}
 use mathlib.Core.Path.{_≡_, refl, ap, sym, _∙_}
 use borrow.Author.Needs.{needs}
 use borrow.Author.Tests.{not-true, not-false}

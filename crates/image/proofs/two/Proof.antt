@@ -1,47 +1,50 @@
 -- Two octets that are there are below 256, so nothing wraps.
 use Prim.Native.Nat.{_+_}
 use native.Mathlib.Omega.{arith}
-use Rattle.image.proofs.Fields.{field-two}
 use borrow.Author.Needs.{needs}
+use Rattle.image.proofs.Fields.{field-two}
 use Rattle.image.proofs.two.Statement.{statement}
 use Rattle.image.proofs.two.Tie as tie
 
-shared-slice-read-result : tie.Need-shared-slice-read-result
-shared-slice-read-result c = search needs
+shared-slice-read-high : tie.Need-shared-slice-read-high
+shared-slice-read-high c = search needs
 
-cast-result : tie.Need-cast-result
-cast-result c = omega (arith, c .shared-slice-known .given (c .before .args .at))
+cast-high : tie.Need-cast-high
+cast-high c = omega (arith, c .shared-slice-known .given (c .before .args .at))
+
+add-low : tie.Need-add-low
+add-low c = search needs
+
+shared-slice-read-low : tie.Need-shared-slice-read-low
+shared-slice-read-low c = search needs
+
+cast-low : tie.Need-cast-low
+cast-low c = omega (arith, c .shared-slice-known2 .given (c .before .before .args .at + 1))
 
 mul-result : tie.Need-mul-result
-mul-result c = omega (arith, c .shared-slice-known .given (c .before .args .at))
+mul-result c = omega (arith, c .shared-slice-known2 .given (c .before .before .args .at))
 
 add-result : tie.Need-add-result
-add-result c = search needs
-
-shared-slice-read-result-2 : tie.Need-shared-slice-read-result-2
-shared-slice-read-result-2 c = search needs
-
-cast-result-2 : tie.Need-cast-result-2
-cast-result-2 c = omega (arith, c .before .shared-slice-known .given (c .before .before .args .at + 1))
-
-add-result-2 : tie.Need-add-result-2
-add-result-2 c = omega (arith, c .before .shared-slice-known .given (c .before .before .args .at), c .before .shared-slice-known .given (c .before .before .args .at + 1))
+add-result c =
+    let at = c .before .before .args .at in
+    let known = c .shared-slice-known2 .given in
+    omega (arith, known at, known (at + 1))
 
 returns : tie.Need-returns
-returns c = 
+returns c =
     let at = c .before .before .args .at in
-    let known = c .before .shared-slice-known .given in
+    let known = c .shared-slice-known2 .given in
     omega (arith, known at, known (at + 1), field-two (c .before .before .args .image .now) at (c .before .before .pre))
 
 pub two-spec : {M : Type 1} → statement M
 two-spec =
     tie.close
     (tie.spec
-    shared-slice-read-result
-    cast-result
+    shared-slice-read-high
+    cast-high
+    add-low
+    shared-slice-read-low
+    cast-low
     mul-result
     add-result
-    shared-slice-read-result-2
-    cast-result-2
-    add-result-2
     returns)

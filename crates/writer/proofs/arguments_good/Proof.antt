@@ -1,6 +1,5 @@
 -- The definition asks the same tests in the same order.
-use mathlib.Core.Path.{_≡_, refl, ap, sym, _∙_}
-use native.Mathlib.Omega.{arith}
+use mathlib.Core.Path.{sym, _∙_}
 use borrow.Author.Tests.{le-leb, lt-leb, eq-eqb, ne-eqb, not-true, not-false}
 use Rattle.writer.specs.Writing.{argumentsGood}
 use borrow.Author.Needs.{needs}

@@ -1,5 +1,5 @@
 -- Kind and flags are stored, each number follows, and the output beyond the last is as it was.
-use mathlib.Core.Path.{_≡_, refl, ap, sym, _∙_}
+use mathlib.Core.Path.{refl}
 use native.Mathlib.Omega.{arith}
 use Prim.Native.Nat.{_≤_}
 use mathlib.Core.List.{[], _∷_, _++_}
@@ -30,28 +30,37 @@ put-two-requires : tie.Need-put-two-requires
 put-two-requires c κs = simp (length-take, length-drop, length-set) (omega arith)
 
 sub-put-four : tie.Need-sub-put-four
-sub-put-four c = omega (arith, c .before .out .given .1, length-set (c .before .before .before .before .before .args .out .now) 0 (c .before .before .before .before .before .args .kind), length-set (set (c .before .before .before .before .before .args .out .now) 0 (c .before .before .before .before .before .args .kind)) 1 (c .before .before .before .before .before .args .flags))
+sub-put-four c =
+    let a = c .before .before .before .before .before .args in
+    omega (arith, c .before .out .given .1, length-set (a .out .now) 0 (a .kind), length-set (set (a .out .now) 0 (a .kind)) 1 (a .flags))
 
 part-put-four-start : tie.Need-part-put-four-start
-part-put-four-start c = omega (arith, c .before .out .given .1, length-set (c .before .before .before .before .before .args .out .now) 0 (c .before .before .before .before .before .args .kind), length-set (set (c .before .before .before .before .before .args .out .now) 0 (c .before .before .before .before .before .args .kind)) 1 (c .before .before .before .before .before .args .flags))
+part-put-four-start c =
+    let a = c .before .before .before .before .before .args in
+    omega (arith, c .before .out .given .1, length-set (a .out .now) 0 (a .kind), length-set (set (a .out .now) 0 (a .kind)) 1 (a .flags))
 
 part-put-four-end : tie.Need-part-put-four-end
 part-put-four-end c = search needs
 
 put-four-requires : tie.Need-put-four-requires
-put-four-requires c κs = simp (length-take, length-drop) (omega (arith, c .before .before .out .given .1, length-set (c .before .before .before .before .before .before .args .out .now) 0 (c .before .before .before .before .before .before .args .kind), length-set (set (c .before .before .before .before .before .before .args .out .now) 0 (c .before .before .before .before .before .before .args .kind)) 1 (c .before .before .before .before .before .before .args .flags)))
+put-four-requires c κs =
+    let a = c .before .before .before .before .before .before .args in
+    simp (length-take, length-drop) (omega (arith, c .before .before .out .given .1, length-set (a .out .now) 0 (a .kind), length-set (set (a .out .now) 0 (a .kind)) 1 (a .flags)))
 
 same-length : tie.Need-same-length
-same-length c = omega (arith, c .before .before .before .before .before .out .given .1, c .before .out2 .given .1, length-set (c .before .before .before .before .before .before .before .before .before .args .out .now) 0 (c .before .before .before .before .before .before .before .before .before .args .kind), length-set (set (c .before .before .before .before .before .before .before .before .before .args .out .now) 0 (c .before .before .before .before .before .before .before .before .before .args .kind)) 1 (c .before .before .before .before .before .before .before .before .before .args .flags))
+same-length c =
+    let a = c .before .before .before .before .before .before .before .before .before .args in
+    omega (arith, c .before .before .before .before .before .out .given .1, c .before .out2 .given .1, length-set (a .out .now) 0 (a .kind), length-set (set (a .out .now) 0 (a .kind)) 1 (a .flags))
 
 returns : tie.Need-returns
 unfolding entryBytes big
 returns c =
-    let old = c .before .before .before .before .before .before .before .before .before .args .out .now in
+    let a = c .before .before .before .before .before .before .before .before .before .args in
+    let old = a .out .now in
     let room : 2 ≤ length old = omega (arith, c .before .before .before .before .before .before .before .before .before .pre) in
-    let two = c .before .before .before .before .before .before .before .before .before .args .kind ∷ c .before .before .before .before .before .before .before .before .before .args .flags ∷ [] in
-    let first = put-next old two (big 2 (c .before .before .before .before .before .before .before .before .before .args .size)) _ _ 2 2 refl (set-two old (c .before .before .before .before .before .before .before .before .before .args .kind) (c .before .before .before .before .before .before .before .before .before .args .flags) room) (c .before .before .before .before .before .before .put-two .ensures) in
-    put-next old (two ++ big 2 (c .before .before .before .before .before .before .before .before .before .args .size)) (big 4 (c .before .before .before .before .before .before .before .before .before .args .offset)) _ _ 4 4 refl first (c .before .before .put-four .ensures)
+    let two = a .kind ∷ a .flags ∷ [] in
+    let first = put-next old two (big 2 (a .size)) _ _ 2 2 refl (set-two old (a .kind) (a .flags) room) (c .before .before .before .before .before .before .put-two .ensures) in
+    put-next old (two ++ big 2 (a .size)) (big 4 (a .offset)) _ _ 4 4 refl first (c .before .before .put-four .ensures)
 
 pub put-entry-spec : {M : Type 1} → statement M
 put-entry-spec =

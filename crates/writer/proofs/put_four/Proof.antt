@@ -1,5 +1,4 @@
 -- The four octets are stored one after the other.
-use mathlib.Core.Path.{_≡_, refl, ap, sym, _∙_}
 use native.Mathlib.Omega.{arith}
 use lib.ListN.{length-set}
 use Rattle.der.specs.Octets.{big}

@@ -70,8 +70,7 @@ loop-again c =
     let entry = entryBytes (getD (a .kinds .now) (now .i) 0) (getD (a .flags .now) (now .i) 0) (getD (a .lengths .now) (now .i) 0) (now .offset) in
     let row = rows-next (a .kinds .now) (a .flags .now) (a .lengths .now) (now .i) (c .before .before .before .before .before .before .before .loop-test .taken) (now .offset) in
     let rest = rowsBytes (now .offset + getD (a .lengths .now) (now .i) 0) (drop (now .i + 1) (a .kinds .now)) (drop (now .i + 1) (a .flags .now)) (drop (now .i + 1) (a .lengths .now)) in
-    let size : length (done ++ entry) ≡ now .at + 8 = length-append done entry ∙ rw (now .inv .4 .1, entry-length) in
-    (
+    let size : length (done ++ entry) ≡ now .at + 8 = length-append done entry ∙ rw (now .inv .4 .1, entry-length) in (
       omega arith,
       omega arith,
       omega (arith, c .before .before .before .before .before .before .shared-slice-known4 .given (now .i)),
@@ -90,11 +89,12 @@ same-length c = omega (arith, c .before .before .before .before .before .before 
 returns : tie.Need-returns Inv-loop μ-loop
 unfolding rowsBytes
 returns c =
-    let kinds = c .before .before .before .before .before .before .args .kinds .now in
+    let a = c .before .before .before .before .before .before .args in
+    let kinds = a .kinds .now in
     let now = c .before .loop in
     let all : now .at ≡ 8 * length kinds = omega arith in
     let none = drop-of-length-le kinds (c .loop-test .left) in
-    let done : now .inv .4 .0 ≡ rowsBytes 0 kinds (c .before .before .before .before .before .before .args .flags .now) (c .before .before .before .before .before .before .args .lengths .now) = rw (none, append-nil) at (now .inv .4 .3) in
+    let done : now .inv .4 .0 ≡ rowsBytes 0 kinds (a .flags .now) (a .lengths .now) = rw (none, append-nil) at (now .inv .4 .3) in
     rw (all, done) at (now .inv .4 .2)
 
 pub put-index-spec : {M : Type 1} → statement M

@@ -1,5 +1,5 @@
 -- Each number follows the one before it, and the output beyond the last is as it was.
-use mathlib.Core.Path.{_≡_, refl, ap, sym, _∙_}
+use mathlib.Core.Path.{refl}
 use mathlib.Core.List.{[], _++_}
 use Rattle.der.specs.Octets.{big}
 use Rattle.image.specs.Items.{trailerBytes}
@@ -62,13 +62,14 @@ same-length c = search needs
 returns : tie.Need-returns
 unfolding trailerBytes big
 returns c =
-    let old = c .before .before .before .before .before .before .before .before .before .before .before .before .before .before .before .before .before .args .out .now in
-    let start = big 4 (c .before .before .before .before .before .before .before .before .before .before .before .before .before .before .before .before .before .args .start) in
-    let entries = big 2 (c .before .before .before .before .before .before .before .before .before .before .before .before .before .before .before .before .before .args .entries) in
+    let a = c .before .before .before .before .before .before .before .before .before .before .before .before .before .before .before .before .before .args in
+    let old = a .out .now in
+    let start = big 4 (a .start) in
+    let entries = big 2 (a .entries) in
     let first = put-next old [] start old _ 0 4 refl refl (c .before .before .before .before .before .before .before .before .before .before .before .before .before .before .put-four .ensures) in
     let second = put-next old start entries _ _ 4 2 refl first (c .before .before .before .before .before .before .before .before .before .before .put-two .ensures) in
     let third = put-next old (start ++ entries) (big 2 1) _ _ 6 2 refl second (c .before .before .before .before .before .before .put-two2 .ensures) in
-    put-next old ((start ++ entries) ++ big 2 1) (big 4 (c .before .before .before .before .before .before .before .before .before .before .before .before .before .before .before .before .before .args .day)) _ _ 8 4 refl third (c .before .before .put-four2 .ensures)
+    put-next old ((start ++ entries) ++ big 2 1) (big 4 (a .day)) _ _ 8 4 refl third (c .before .before .put-four2 .ensures)
 
 pub put-trailer-spec : {M : Type 1} → statement M
 put-trailer-spec =

@@ -1,7 +1,4 @@
 -- The two octets are stored one after the other.
-use mathlib.Core.Path.{_≡_, refl, ap, sym, _∙_}
-use native.Mathlib.Omega.{arith}
-use lib.ListN.{length-set}
 use Rattle.der.specs.Octets.{big}
 use Rattle.writer.proofs.Stores.{set-two, last-octet}
 use borrow.Author.Needs.{needs}

@@ -45,7 +45,8 @@ fields-good-requires c κs = tt
 
 returns : tie.Need-returns Inv-loop μ-loop
 returns c =
-    let next = good-next (c .before .before .before .before .before .before .before .before .before .before .args .kinds .now) (c .before .before .before .before .before .before .before .before .before .before .args .flags .now) (c .before .before .before .before .before .before .before .before .before .before .args .lengths .now) (c .before .before .before .before .before .before .loop .i) (c .before .before .before .before .before .loop-test .taken) in
+    let a = c .before .before .before .before .before .before .before .before .before .before .args in
+    let next = good-next (a .kinds .now) (a .flags .now) (a .lengths .now) (c .before .before .before .before .before .before .loop .i) (c .before .before .before .before .before .loop-test .taken) in
     sym (c .before .before .before .before .before .before .loop .inv .1 ∙ (next ∙ simp (sym (c .before .fields-good .ensures) ∙ not-true _ (c .if1 .taken))))
 
 add-i : tie.Need-add-i Inv-loop μ-loop
@@ -56,7 +57,8 @@ loop-less c = omega (arith, c .before .before .before .before .before .before .b
 
 loop-again : tie.Need-loop-again Inv-loop μ-loop
 loop-again c =
-    let next = good-next (c .before .before .before .before .before .before .before .before .before .before .args .kinds .now) (c .before .before .before .before .before .before .before .before .before .before .args .flags .now) (c .before .before .before .before .before .before .before .before .before .before .args .lengths .now) (c .before .before .before .before .before .before .loop .i) (c .before .before .before .before .before .loop-test .taken) in
+    let a = c .before .before .before .before .before .before .before .before .before .before .args in
+    let next = good-next (a .kinds .now) (a .flags .now) (a .lengths .now) (c .before .before .before .before .before .before .loop .i) (c .before .before .before .before .before .loop-test .taken) in
     (omega arith, c .before .before .before .before .before .before .loop .inv .1 ∙ (next ∙ simp (sym (c .before .fields-good .ensures) ∙ not-false _ (c .if1 .left))))
 
 returns-2 : tie.Need-returns-2 Inv-loop μ-loop

@@ -1,7 +1,7 @@
 -- The tests come in the order of the refusals; then the octets, the index and the trailer follow one another.
-use mathlib.Core.Path.{_≡_, refl, ap, sym, _∙_}
+use mathlib.Core.Path.{_≡_, refl, sym, _∙_}
 use native.Mathlib.Omega.{arith}
-use Prim.Native.Nat.{ℕ, _+_, _*_, _≤_}
+use Prim.Native.Nat.{_+_, _*_, _≤_}
 use mathlib.Core.Bool.{true}
 use mathlib.Core.List.{_++_}
 use borrow.Author.Tests.{not-true, not-false}
@@ -21,8 +21,9 @@ arguments-good-requires c κs = search needs
 
 returns : tie.Need-returns
 returns c =
-    let told = refused-argument (c .before .before .before .before .before .before .before .args .packed .now) (c .before .before .before .before .before .before .before .args .kinds .now) (c .before .before .before .before .before .before .before .args .flags .now) (c .before .before .before .before .before .before .before .args .lengths .now) (c .before .before .before .before .before .before .before .args .day) (c .before .before .before .before .before .before .before .args .out .now) (sym (c .before .arguments-good .ensures) ∙ not-true _ (c .if1 .taken)) in
-    (sym told, output-refused (c .before .before .before .before .before .before .before .args .packed .now) (c .before .before .before .before .before .before .before .args .kinds .now) (c .before .before .before .before .before .before .before .args .flags .now) (c .before .before .before .before .before .before .before .args .lengths .now) (c .before .before .before .before .before .before .before .args .day) (c .before .before .before .before .before .before .before .args .out .now) told)
+    let a = c .before .before .before .before .before .before .before .args in
+    let told = refused-argument (a .packed .now) (a .kinds .now) (a .flags .now) (a .lengths .now) (a .day) (a .out .now) (sym (c .before .arguments-good .ensures) ∙ not-true _ (c .if1 .taken)) in
+    (sym told, output-refused (a .packed .now) (a .kinds .now) (a .flags .now) (a .lengths .now) (a .day) (a .out .now) told)
 
 good : (c : tie.Else1) →
     let a = c .before .before .before .before .before .before .before .args in
@@ -46,14 +47,16 @@ add-size c = omega (arith, few c, c .before .before .before .before .before .bef
 returns-2 : tie.Need-returns-2
 unfolding sizeOf
 returns-2 c =
-    let told = refused-limit (c .before .before .before .before .before .before .before .before .args .packed .now) (c .before .before .before .before .before .before .before .before .args .kinds .now) (c .before .before .before .before .before .before .before .before .args .flags .now) (c .before .before .before .before .before .before .before .before .args .lengths .now) (c .before .before .before .before .before .before .before .before .args .day) (c .before .before .before .before .before .before .before .before .args .out .now) (good (c .before)) (c .if2 .taken) in
-    (sym told, output-refused (c .before .before .before .before .before .before .before .before .args .packed .now) (c .before .before .before .before .before .before .before .before .args .kinds .now) (c .before .before .before .before .before .before .before .before .args .flags .now) (c .before .before .before .before .before .before .before .before .args .lengths .now) (c .before .before .before .before .before .before .before .before .args .day) (c .before .before .before .before .before .before .before .before .args .out .now) told)
+    let a = c .before .before .before .before .before .before .before .before .args in
+    let told = refused-limit (a .packed .now) (a .kinds .now) (a .flags .now) (a .lengths .now) (a .day) (a .out .now) (good (c .before)) (c .if2 .taken) in
+    (sym told, output-refused (a .packed .now) (a .kinds .now) (a .flags .now) (a .lengths .now) (a .day) (a .out .now) told)
 
 returns-3 : tie.Need-returns-3
 unfolding sizeOf
 returns-3 c =
-    let told = refused-short (c .before .before .before .before .before .before .before .before .before .args .packed .now) (c .before .before .before .before .before .before .before .before .before .args .kinds .now) (c .before .before .before .before .before .before .before .before .before .args .flags .now) (c .before .before .before .before .before .before .before .before .before .args .lengths .now) (c .before .before .before .before .before .before .before .before .before .args .day) (c .before .before .before .before .before .before .before .before .before .args .out .now) (good (c .before .before)) (c .before .if2 .left) (c .if3 .taken) in
-    (sym told, output-refused (c .before .before .before .before .before .before .before .before .before .args .packed .now) (c .before .before .before .before .before .before .before .before .before .args .kinds .now) (c .before .before .before .before .before .before .before .before .before .args .flags .now) (c .before .before .before .before .before .before .before .before .before .args .lengths .now) (c .before .before .before .before .before .before .before .before .before .args .day) (c .before .before .before .before .before .before .before .before .before .args .out .now) told)
+    let a = c .before .before .before .before .before .before .before .before .before .args in
+    let told = refused-short (a .packed .now) (a .kinds .now) (a .flags .now) (a .lengths .now) (a .day) (a .out .now) (good (c .before .before)) (c .before .if2 .left) (c .if3 .taken) in
+    (sym told, output-refused (a .packed .now) (a .kinds .now) (a .flags .now) (a .lengths .now) (a .day) (a .out .now) told)
 
 copy-requires : tie.Need-copy-requires
 copy-requires c κs = search needs
@@ -69,7 +72,8 @@ part-put-index-end c = search needs
 
 put-index-requires : tie.Need-put-index-requires
 put-index-requires c κs =
-    let tell = arguments-tell (c .before .before .before .before .before .before .before .before .before .before .before .before .before .before .args .packed .now) (c .before .before .before .before .before .before .before .before .before .before .before .before .before .before .args .kinds .now) (c .before .before .before .before .before .before .before .before .before .before .before .before .before .before .args .flags .now) (c .before .before .before .before .before .before .before .before .before .before .before .before .before .before .args .lengths .now) (c .before .before .before .before .before .before .before .before .before .before .before .before .before .before .args .day) (good (c .before .before .before .before .before .before .before)) in
+    let a = c .before .before .before .before .before .before .before .before .before .before .before .before .before .before .args in
+    let tell = arguments-tell (a .packed .now) (a .kinds .now) (a .flags .now) (a .lengths .now) (a .day) (good (c .before .before .before .before .before .before .before)) in
     (tell .1, tell .2, tell .0, simp (length-take, length-drop) (omega (arith, c .before .before .out .given, c .before .before .before .copy .kept)))
 
 sub-put-trailer : tie.Need-sub-put-trailer
@@ -90,16 +94,17 @@ same-length c = search needs
 returns-4 : tie.Need-returns-4
 unfolding sizeOf
 returns-4 c =
-    let octets = c .before .before .before .before .before .before .before .before .before .before .before .before .before .before .before .before .before .before .before .before .before .args .packed .now in
-    let kinds = c .before .before .before .before .before .before .before .before .before .before .before .before .before .before .before .before .before .before .before .before .before .args .kinds .now in
-    let rows = rowsBytes 0 kinds (c .before .before .before .before .before .before .before .before .before .before .before .before .before .before .before .before .before .before .before .before .before .args .flags .now) (c .before .before .before .before .before .before .before .before .before .before .before .before .before .before .before .before .before .before .before .before .before .args .lengths .now) in
-    let old = c .before .before .before .before .before .before .before .before .before .before .before .before .before .before .before .before .before .before .before .before .before .args .out .now in
+    let a = c .before .before .before .before .before .before .before .before .before .before .before .before .before .before .before .before .before .before .before .before .before .args in
+    let octets = a .packed .now in
+    let kinds = a .kinds .now in
+    let rows = rowsBytes 0 kinds (a .flags .now) (a .lengths .now) in
+    let old = a .out .now in
     let sum : length (octets ++ rows) ≡ length octets + 8 * length kinds =
-    length-append octets rows ∙ rw (rows-length kinds (c .before .before .before .before .before .before .before .before .before .before .before .before .before .before .before .before .before .before .before .before .before .args .flags .now) (c .before .before .before .before .before .before .before .before .before .before .before .before .before .before .before .before .before .before .before .before .before .args .lengths .now) 0) in
+    length-append octets rows ∙ rw (rows-length kinds (a .flags .now) (a .lengths .now) 0) in
     let index = put-next old octets rows _ _ (length octets) (8 * length kinds) refl (c .before .before .before .before .before .before .before .before .before .before .copy .ensures) (c .before .before .before .before .before .before .put-index .ensures) in
-    let trailer = put-next old (octets ++ rows) (trailerBytes (length octets) (length kinds) (c .before .before .before .before .before .before .before .before .before .before .before .before .before .before .before .before .before .before .before .before .before .args .day)) _ _ (length octets + 8 * length kinds) 12 sum index (c .before .before .put-trailer .ensures) in
-    let told = output-written (c .before .before .before .before .before .before .before .before .before .before .before .before .before .before .before .before .before .before .before .before .before .args .packed .now) (c .before .before .before .before .before .before .before .before .before .before .before .before .before .before .before .before .before .before .before .before .before .args .kinds .now) (c .before .before .before .before .before .before .before .before .before .before .before .before .before .before .before .before .before .before .before .before .before .args .flags .now) (c .before .before .before .before .before .before .before .before .before .before .before .before .before .before .before .before .before .before .before .before .before .args .lengths .now) (c .before .before .before .before .before .before .before .before .before .before .before .before .before .before .before .before .before .before .before .before .before .args .day) old (good (c .before .before .before .before .before .before .before .before .before .before .before .before .before .before)) (c .before .before .before .before .before .before .before .before .before .before .before .before .before .if2 .left) (c .before .before .before .before .before .before .before .before .before .before .before .before .if3 .left) in
-    (sym (all-written (c .before .before .before .before .before .before .before .before .before .before .before .before .before .before .before .before .before .before .before .before .before .args .packed .now) (c .before .before .before .before .before .before .before .before .before .before .before .before .before .before .before .before .before .before .before .before .before .args .kinds .now) (c .before .before .before .before .before .before .before .before .before .before .before .before .before .before .before .before .before .before .before .before .before .args .flags .now) (c .before .before .before .before .before .before .before .before .before .before .before .before .before .before .before .before .before .before .before .before .before .args .lengths .now) (c .before .before .before .before .before .before .before .before .before .before .before .before .before .before .before .before .before .before .before .before .before .args .day) old (good (c .before .before .before .before .before .before .before .before .before .before .before .before .before .before)) (c .before .before .before .before .before .before .before .before .before .before .before .before .before .if2 .left) (c .before .before .before .before .before .before .before .before .before .before .before .before .if3 .left)), trailer ∙ sym told)
+    let trailer = put-next old (octets ++ rows) (trailerBytes (length octets) (length kinds) (a .day)) _ _ (length octets + 8 * length kinds) 12 sum index (c .before .before .put-trailer .ensures) in
+    let told = output-written (a .packed .now) (a .kinds .now) (a .flags .now) (a .lengths .now) (a .day) old (good (c .before .before .before .before .before .before .before .before .before .before .before .before .before .before)) (c .before .before .before .before .before .before .before .before .before .before .before .before .before .if2 .left) (c .before .before .before .before .before .before .before .before .before .before .before .before .if3 .left) in
+    (sym (all-written (a .packed .now) (a .kinds .now) (a .flags .now) (a .lengths .now) (a .day) old (good (c .before .before .before .before .before .before .before .before .before .before .before .before .before .before)) (c .before .before .before .before .before .before .before .before .before .before .before .before .before .if2 .left) (c .before .before .before .before .before .before .before .before .before .before .before .before .if3 .left)), trailer ∙ sym told)
 
 pub write-spec : {M : Type 1} → statement M
 write-spec =
