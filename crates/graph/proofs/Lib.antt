@@ -5,3 +5,4 @@ pub mod Turns
 pub mod Steps
 pub mod BestFound
 pub mod Theorems
+pub mod Traces

@@ -60,3 +60,21 @@ module _ (n : ℕ) (g : Graph) where
         go false true c d e = (refl, e, inl refl)
         go false false true d e = (refl, e, inr refl)
         go false false false d e = untrue e
+
+    module _ (s : g .signer u ≡ false) where
+      pub no-step : g .step u v ≡ false → followed n g u v ≡ false
+      unfolding followed
+      no-step e = rw (ne-eqb u n (omega arith), s, e) (go (g .link v) (g .signer v))
+        where
+          go : (b c : Bool) → cond b false (cond c false false) ≡ false
+          go true c = refl
+          go false true = refl
+          go false false = refl
+
+      pub by-signer : g .step u v ≡ true → g .link v ≡ false → followed n g u v ≡ g .signer v
+      unfolding followed
+      by-signer e l = rw (ne-eqb u n (omega arith), s, l, e) (go (g .signer v))
+        where
+          go : (b : Bool) → cond b true false ≡ b
+          go true = refl
+          go false = refl

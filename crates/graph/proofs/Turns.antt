@@ -19,7 +19,7 @@ use Rattle.graph.proofs.Ranks.{rank-snoc}
 clash : {b : Bool} → b ≡ true → b ≡ false → ⊥
 clash p q = let z : _≡_ {A = ℕ} 0 1 = cc in omega arith
 
-seen-le : {n : ℕ} {parent : List ℕ} {v : ℕ} → Seen n parent v → v ≤ n
+pub seen-le : {n : ℕ} {parent : List ℕ} {v : ℕ} → Seen n parent v → v ≤ n
 seen-le (outside e) = omega arith
 seen-le (place h r) = omega arith
 
@@ -132,6 +132,11 @@ module _ {n : ℕ} {step : ℕ → ℕ → Bool} {queue parent : List ℕ} {tail
       go : (u v : ℕ) → v < n → step u v ≡ true → Seen n parent u → Reached parent v × (rank (a .path v) ≤ rank (a .path u) * 97 + v + 1)
       go u v l s (outside e) = at u v 0 l s (omega (arith, a .within)) (a .root ∙ sym e)
       go u v l s (place o r) = let q = a .queued u o r in at u v (q .0) l s (q .1) (q .2)
+
+  -- the queue has room for what it holds
+  pub row-room : {column : ℕ} → At n step queue parent tail head column → (head < 97) × (tail ≤ 97) × (getD queue head 0 ≤ n)
+  row-room a =
+      (omega (arith, a .within, a .count, a .slots, filled-le parent), omega (arith, a .count, a .slots, filled-le parent), seen-le (a .seen head (a .within)))
 
   -- a place that is new
   module _ {column : ℕ} (a : At n step queue parent tail head column) (h : column < n) (new : getD parent column 0 ≡ 255) (good : step (getD queue head 0) column ≡ true) where
@@ -262,6 +267,14 @@ module _ {n : ℕ} {step : ℕ → ℕ → Bool} {queue parent : List ℕ} {tail
           rw (ev, ej) (reached-new, rw (path-new, rank-snoc (a .path (getD queue head 0)) column) (omega arith)))
           (less? (j * 97 + v) (head * 97 + column)));
         }
+
+    -- the head of the queue stays
+    pub head-kept : getD (set queue tail column) head 0 ≡ getD queue head 0
+    unfolding queue′
+    head-kept = queue-kept head (a .within)
+
+    pub room-left : tail < 97
+    room-left = tail-small
 
 -- the start: outside alone is in the queue
 pub begin : (n : ℕ) (step : ℕ → ℕ → Bool) → n ≤ 96 → At n step (set (replicate 97 0) 0 n) (replicate 96 255) 1 0 0

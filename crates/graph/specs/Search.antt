@@ -70,3 +70,11 @@ pub record At (n : ℕ) (step : ℕ → ℕ → Bool) (queue parent : List ℕ) 
   pub closed :
     (j v : ℕ) → j < tail → v < n → j * 97 + v < head * 97 + column → step (getD queue j 0) v ≡ true
     → Reached parent v × (rank (path v) ≤ rank (path (getD queue j 0)) * 97 + v + 1)
+
+-- what a trace back along the parents needs of the table
+pub record Paths (n : ℕ) (parent : List ℕ) : Type 0 where
+  pub path : ℕ → List ℕ
+  pub start : path n ≡ []
+  pub from : (v : ℕ) → v < n → Reached parent v → Seen n parent (getD parent v 0)
+  pub longer : (v : ℕ) → v < n → Reached parent v → path v ≡ path (getD parent v 0) ++ (v ∷ [])
+  pub short : (v : ℕ) → v < n → Reached parent v → length (path v) ≤ 96
