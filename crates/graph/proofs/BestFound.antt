@@ -71,5 +71,5 @@ module _ {g : Graph} {n t : ℕ} (size : g .places ≡ n) (small : n ≤ 96) whe
           least = λ d c. rank-first (s .path t) (small-chain c) (chain-reached c .1);
         }
 
-    pub none : getD parent t 0 ≡ 255 → (c : List ℕ) → Chain g t c → ⊥
-    none e c d = chain-reached d .0 e
+    pub no-chain-found : getD parent t 0 ≡ 255 → (c : List ℕ) → Chain g t c → ⊥
+    no-chain-found e c d = chain-reached d .0 e

@@ -6,3 +6,4 @@ pub mod Steps
 pub mod BestFound
 pub mod Theorems
 pub mod Traces
+pub mod Targets

@@ -10,7 +10,7 @@ use lib.Seq.{append-snoc, set-at}
 use Rattle.graph.specs.Search.{Reached, Seen, outside, place, Searched, Paths}
 use Rattle.graph.proofs.Turns.{seen-le}
 
-pub paths : {n : ℕ} {step : ℕ → ℕ → Bool} {parent : List ℕ} → Searched n step parent → Paths n parent
+abbrev pub paths : {n : ℕ} {step : ℕ → ℕ → Bool} {parent : List ℕ} → Searched n step parent → Paths n parent
 paths s =
     record {
       path = s .path;

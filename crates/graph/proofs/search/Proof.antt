@@ -1,46 +1,42 @@
+-- The search stands before the row of the head, and with no row left its table is that of the paths.
+use Prim.Native.Nat.{_-_}
+use native.Mathlib.Omega.{arith}
+use borrow.Author.Needs.{needs}
+use Rattle.graph.specs.Chains.{graphOf}
+use Rattle.graph.specs.Search.{followed, At}
+use Rattle.graph.proofs.Turns.{begin, next, finish, row-room}
 use Rattle.graph.proofs.search.Statement.{statement}
 use Rattle.graph.proofs.search.Tie as tie
-use Rattle.graph.proofs.search.Reads as reads
-use Rattle.graph.proofs.search.Lts as lts
-use Rattle.graph.proofs.row.Reads as row-reads
 
 abbrev Inv-loop : tie.InvT-loop
-Inv-loop places roles steps queue₀ parent₀ head₀ tail₀ queue parent head tail = ?
+Inv-loop places roles steps queue₀ parent₀ head₀ tail₀ queue parent head tail = At places (followed places (graphOf places roles steps)) queue parent tail head 0
 
 abbrev μ-loop : tie.MeasureT-loop
-μ-loop places roles steps queue₀ parent₀ head₀ tail₀ queue parent head tail = ?
+μ-loop places roles steps queue₀ parent₀ head₀ tail₀ queue parent head tail = 97 - head
 
--- src/lib.rt:92:16
 cast-queue : tie.Need-cast-queue Inv-loop μ-loop
-cast-queue c = ?
+cast-queue c = omega (arith, c .before .before .pre)
 
--- src/lib.rt:92:5
 array-write-queue : tie.Need-array-write-queue Inv-loop μ-loop
-array-write-queue c = ?
+array-write-queue c = search needs
 
--- src/lib.rt:95:5
 loop-holds : tie.Need-loop-holds Inv-loop μ-loop
-loop-holds c = ?
+loop-holds c = begin (c .before .before .args .places) _ (c .before .before .pre)
 
--- src/lib.rt:96:9
 row-requires : tie.Need-row-requires Inv-loop μ-loop
-row-requires c κs = ?
+row-requires c κs = (c .before .before .before .before .before .pre, c .before .before .loop .inv)
 
--- src/lib.rt:97:9
 add-head : tie.Need-add-head Inv-loop μ-loop
-add-head c = ?
+add-head c = omega (arith, row-room (c .before .before .before .before .before .before .pre) (c .row .ensures))
 
--- src/lib.rt:99:13
 returns : tie.Need-returns Inv-loop μ-loop
-returns c = ?
+returns c = finish (c .before .before .before .before .before .before .before .pre) (c .before .row .ensures) (c .if1 .taken)
 
--- src/lib.rt:95:5
 loop-less : tie.Need-loop-less Inv-loop μ-loop
-loop-less c = ?
+loop-less c = omega (arith, row-room (c .before .before .before .before .before .before .before .pre) (c .before .row .ensures))
 
--- src/lib.rt:95:5
 loop-again : tie.Need-loop-again Inv-loop μ-loop
-loop-again c = ?
+loop-again c = let r = c .before .row .ensures in next (c .before .before .before .before .before .before .before .pre) r (let w = r .within in let d = c .if1 .left in omega arith)
 
 pub search-spec : {M : Type 1} → statement M
 search-spec =
