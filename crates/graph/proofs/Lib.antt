@@ -7,3 +7,4 @@ pub mod BestFound
 pub mod Theorems
 pub mod Traces
 pub mod Targets
+pub mod Tables

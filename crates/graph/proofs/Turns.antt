@@ -43,7 +43,7 @@ module _ {n : ℕ} {step : ℕ → ℕ → Bool} {queue parent : List ℕ} {tail
       subst (λ v. rank (a .path v) < rank (a .path (getD queue head 0)) * 97 + column + 1) (q .2) (a .front (q .0) (q .1))
 
   -- a column that gives nothing new
-  pub skip : {column : ℕ} (a : At n step queue parent tail head column) → column < n → Reached parent column ⊎ (step (getD queue head 0) column ≡ false) → At n step queue parent tail head (column + 1)
+  skip : {column : ℕ} (a : At n step queue parent tail head column) → column < n → Reached parent column ⊎ (step (getD queue head 0) column ≡ false) → At n step queue parent tail head (column + 1)
   skip {column} a h w =
       record {
         path = a .path;
@@ -228,7 +228,7 @@ module _ {n : ℕ} {step : ℕ → ℕ → Bool} {queue parent : List ℕ} {tail
           longer = rw (parent-kept d) (path-kept (place l r) ∙ g .longer ∙ rw (path-kept (g .from)));
         }
 
-    pub take : At n step (set queue tail column) (set parent column (getD queue head 0)) (tail + 1) head (column + 1)
+    take : At n step (set queue tail column) (set parent column (getD queue head 0)) (tail + 1) head (column + 1)
     unfolding u parent′ queue′
     take =
         record {
@@ -268,13 +268,21 @@ module _ {n : ℕ} {step : ℕ → ℕ → Bool} {queue parent : List ℕ} {tail
           (less? (j * 97 + v) (head * 97 + column)));
         }
 
-    -- the head of the queue stays
-    pub head-kept : getD (set queue tail column) head 0 ≡ getD queue head 0
-    unfolding queue′
-    head-kept = queue-kept head (a .within)
+  -- the column's place and the row's by other names, as code has them
+  module _ {u v column : ℕ} (a : At n step queue parent tail head column) (eu : getD queue head 0 ≡ u) (ev : v ≡ column) (h : column < n) where
+    pub passed : Reached parent v ⊎ (step u v ≡ false) → At n step queue parent tail head (column + 1)
+    passed w = skip a h (rw (eu, ← ev) w)
 
-    pub room-left : tail < 97
-    room-left = tail-small
+    module _ (new : getD parent v 0 ≡ 255) (good : step u v ≡ true) where
+      pub taken : At n step (set queue tail v) (set parent v u) (tail + 1) head (column + 1)
+      taken = rw (← eu, ev) (take a h (rw (← ev) new) (rw (eu, ← ev) good))
+
+      pub head-kept : getD (set queue tail v) head 0 ≡ u
+      unfolding queue′
+      head-kept = rw ev (queue-kept a h (rw (← ev) new) (rw (eu, ← ev) good) head (a .within) ∙ eu)
+
+      pub room-left : tail < 97
+      room-left = tail-small a h (rw (← ev) new) (rw (eu, ← ev) good)
 
 -- the start: outside alone is in the queue
 pub begin : (n : ℕ) (step : ℕ → ℕ → Bool) → n ≤ 96 → At n step (set (replicate 97 0) 0 n) (replicate 96 255) 1 0 0

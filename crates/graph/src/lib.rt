@@ -46,7 +46,7 @@ fn follows(places: usize, roles: &[u8], steps: &[u8], u: usize, v: usize) -> boo
     role == 3
 }
 
-// From the head of the queue to each place that is new, in ascending order; how many the queue then has.
+// From the head of the queue to each place that is new, in ascending order; where the last of the queue then stands.
 fn row(
     places: usize,
     roles: &[u8],
@@ -54,28 +54,28 @@ fn row(
     head: usize,
     queue: &mut [u8; 97],
     parent: &mut [u8; 96],
-    tail: usize,
+    last: usize,
 ) -> usize
     requires { ⌜ places ≤ 96 ⌝ }
-    requires { ⌜ At places (followed places (graphOf places (now roles) (now steps))) (now queue) (now parent) tail head 0 ⌝ }
-    ensures { λ r. ⌜ At places (followed places (graphOf places (now (roles .entry)) (now (steps .entry)))) (now (queue .exit)) (now (parent .exit)) r head places ⌝ }
+    requires { ⌜ At places (followed places (graphOf places (now roles) (now steps))) (now queue) (now parent) (last + 1) head 0 ⌝ }
+    ensures { λ r. ⌜ At places (followed places (graphOf places (now (roles .entry)) (now (steps .entry)))) (now (queue .exit)) (now (parent .exit)) (r + 1) head places ⌝ }
 {
     let u = wide(queue[head]);
     if u < places {
         if octet(roles, u) == 3 {
-            return tail;
+            return last;
         }
     }
-    let mut end = tail;
+    let mut end = last;
     let mut column = 0;
     while column < places {
-        let v = column;
         column += 1;
+        let v = column - 1;
         if parent[v] == 255 {
             if follows(places, roles, steps, u, v) {
                 parent[v] = u as u8;
-                queue[end] = v as u8;
                 end += 1;
+                queue[end] = v as u8;
             }
         }
     }
@@ -91,13 +91,13 @@ fn search(places: usize, roles: &[u8], steps: &[u8]) -> [u8; 96]
     let mut parent = [255u8; 96];
     queue[0] = places as u8;
     let mut head = 0;
-    let mut tail = 1;
+    let mut last = 0;
     loop {
-        tail = row(places, roles, steps, head, &mut queue, &mut parent, tail);
-        head += 1;
-        if head == tail {
+        last = row(places, roles, steps, head, &mut queue, &mut parent, last);
+        if head == last {
             return parent;
         }
+        head += 1;
     }
 }
 

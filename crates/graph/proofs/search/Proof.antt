@@ -1,5 +1,5 @@
 -- The search stands before the row of the head, and with no row left its table is that of the paths.
-use Prim.Native.Nat.{_-_}
+use Prim.Native.Nat.{_+_, _-_}
 use native.Mathlib.Omega.{arith}
 use borrow.Author.Needs.{needs}
 use Rattle.graph.specs.Chains.{graphOf}
@@ -9,10 +9,10 @@ use Rattle.graph.proofs.search.Statement.{statement}
 use Rattle.graph.proofs.search.Tie as tie
 
 abbrev Inv-loop : tie.InvT-loop
-Inv-loop places roles steps queue₀ parent₀ head₀ tail₀ queue parent head tail = At places (followed places (graphOf places roles steps)) queue parent tail head 0
+Inv-loop places roles steps queue₀ parent₀ head₀ last₀ queue parent head last = At places (followed places (graphOf places roles steps)) queue parent (last + 1) head 0
 
 abbrev μ-loop : tie.MeasureT-loop
-μ-loop places roles steps queue₀ parent₀ head₀ tail₀ queue parent head tail = 97 - head
+μ-loop places roles steps queue₀ parent₀ head₀ last₀ queue parent head last = 97 - head
 
 cast-queue : tie.Need-cast-queue Inv-loop μ-loop
 cast-queue c = omega (arith, c .before .before .pre)
@@ -26,11 +26,11 @@ loop-holds c = begin (c .before .before .args .places) _ (c .before .before .pre
 row-requires : tie.Need-row-requires Inv-loop μ-loop
 row-requires c κs = (c .before .before .before .before .before .pre, c .before .before .loop .inv)
 
-add-head : tie.Need-add-head Inv-loop μ-loop
-add-head c = omega (arith, row-room (c .before .before .before .before .before .before .pre) (c .row .ensures))
-
 returns : tie.Need-returns Inv-loop μ-loop
-returns c = finish (c .before .before .before .before .before .before .before .pre) (c .before .row .ensures) (c .if1 .taken)
+returns c = finish (c .before .before .before .before .before .before .before .pre) (c .before .row .ensures) (let e = c .if1 .taken in omega arith)
+
+add-head : tie.Need-add-head Inv-loop μ-loop
+add-head c = omega (arith, row-room (c .before .before .before .before .before .before .before .pre) (c .before .row .ensures))
 
 loop-less : tie.Need-loop-less Inv-loop μ-loop
 loop-less c = omega (arith, row-room (c .before .before .before .before .before .before .before .pre) (c .before .row .ensures))
@@ -48,7 +48,7 @@ search-spec =
     array-write-queue
     loop-holds
     row-requires
-    add-head
     returns
+    add-head
     loop-less
     loop-again)
