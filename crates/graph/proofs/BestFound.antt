@@ -1,21 +1,19 @@
 -- What the table of any search tells is the best chain: its path is a chain step by step, and along any other chain each
 -- place has a path that is no larger a number than the chain up to there.
-use Prim.Native.Nat.{ℕ, zero, suc, _+_, _*_, _<_, _≤_}
-use mathlib.Core.Path.{_≡_, refl, sym, ap, subst, _∙_}
-use mathlib.Core.Bool.{Bool, true, false}
-use mathlib.Core.List.{List, [], _∷_, _++_, append-nil}
-use mathlib.Core.Logic.{_⊎_, inl, inr, ⊎-elim}
+use Prim.Native.Nat.{ℕ, zero, suc, _+_, _<_, _≤_}
+use mathlib.Core.Path.{_≡_, refl, ap, _∙_}
+use mathlib.Core.Bool.{true, false}
+use mathlib.Core.List.{List, _++_}
+use mathlib.Core.Logic.{⊎-elim}
 use native.Mathlib.Omega.{arith}
 use native.Mathlib.Nat.{le-refl}
 use lib.ListN.{length, getD, length-append}
 use lib.Seq.{append-snoc}
 use Rattle.graph.specs.Chains.{Graph, Onward, ends, goes, Chain, chain, Best}
-use Rattle.graph.specs.Search.{followed, rank, rankFrom, Reached, Seen, outside, place, Grown, Searched}
+use Rattle.graph.specs.Search.{followed, rank, rankFrom, Reached, Seen, outside, place, Searched}
+use Rattle.graph.proofs.Cases.{clash}
 use Rattle.graph.proofs.Ranks.{Small, no-place, one-more, rank-first}
 use Rattle.graph.proofs.Steps.{Apart, opens, opened, to-link, to-signer, stepped}
-
-clash : {b : Bool} → b ≡ true → b ≡ false → ⊥
-clash p q = let z : _≡_ {A = ℕ} 0 1 = cc in omega arith
 
 seen-by : {A : Type 0} {n : ℕ} {parent : List ℕ} {v : ℕ} → Seen n parent v → (v ≡ n → A) → (v < n → Reached parent v → A) → A
 seen-by (outside e) f h = f e

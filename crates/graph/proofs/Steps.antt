@@ -9,6 +9,7 @@ use borrow.Author.Tests.{eqb-true, eq-eqb, ne-eqb}
 use lib.ListN.{getD}
 use Rattle.graph.specs.Chains.{Graph, graphOf}
 use Rattle.graph.specs.Search.{followed}
+use Rattle.graph.proofs.Cases.{clash}
 
 -- a signer is neither an anchor nor a link
 pub record Apart (g : Graph) : Type 0 where
@@ -21,9 +22,6 @@ roles-apart places roles steps =
       anchors = λ {v} h. ne-eqb (getD roles v 0) 3 (λ e. omega (arith, eqb-true (getD roles v 0) 1 h));
       links = λ {v} h. ne-eqb (getD roles v 0) 3 (λ e. omega (arith, eqb-true (getD roles v 0) 2 h));
     }
-
-untrue : {A : Type 0} → false ≡ true → A
-untrue e = let z : _≡_ {A = ℕ} 0 1 = cc in absurd (omega arith)
 
 module _ (n : ℕ) (g : Graph) where
   pub opens : {v : ℕ} → g .anchor v ≡ true → followed n g n v ≡ true
@@ -56,10 +54,10 @@ module _ (n : ℕ) (g : Graph) where
     stepped f = go (g .signer u) (g .link v) (g .signer v) (g .step u v) (rw (ne-eqb u n (omega arith)) at f)
       where
         go : (a b c d : Bool) → cond a false (cond b d (cond c d false)) ≡ true → (a ≡ false) × (d ≡ true) × ((b ≡ true) ⊎ (c ≡ true))
-        go true b c d e = untrue e
+        go true b c d e = absurd (clash e refl)
         go false true c d e = (refl, e, inl refl)
         go false false true d e = (refl, e, inr refl)
-        go false false false d e = untrue e
+        go false false false d e = absurd (clash e refl)
 
     module _ (s : g .signer u ≡ false) where
       pub no-step : g .step u v ≡ false → followed n g u v ≡ false

@@ -2,13 +2,13 @@
 -- there for any steps over at most 96 places, with no code run.
 use Prim.Native.Nat.{ℕ, zero, suc, _+_, _<_, _≤_}
 use mathlib.Core.Path.{_≡_, refl}
-use mathlib.Core.Bool.{Bool, true, false}
+use mathlib.Core.Bool.{Bool}
 use mathlib.Core.List.{List}
 use mathlib.Core.Logic.{inl, inr, ⊎-elim}
 use native.Mathlib.Omega.{arith}
 use lib.ListN.{getD}
 use Rattle.graph.specs.Search.{Searched, At}
-use Rattle.graph.proofs.Cases.{same?, less?}
+use Rattle.graph.proofs.Cases.{same?, less?, either}
 use Rattle.graph.proofs.Turns.{begin, next, finish, row-room, passed, taken}
 
 pub data Table (n : ℕ) (step : ℕ → ℕ → Bool) : Type 0 where
@@ -16,10 +16,6 @@ pub data Table (n : ℕ) (step : ℕ → ℕ → Bool) : Type 0 where
 
 data Row (n : ℕ) (step : ℕ → ℕ → Bool) (head : ℕ) : Type 0 where
   row : {queue parent : List ℕ} {tail : ℕ} → At n step queue parent tail head n → Row n step head
-
-either : {A : Type 0} (b : Bool) → (b ≡ true → A) → (b ≡ false → A) → A
-either true f h = f refl
-either false f h = h refl
 
 module _ {n : ℕ} {step : ℕ → ℕ → Bool} (small : n ≤ 96) where
   whole-row : (k : ℕ) {queue parent : List ℕ} {tail head column : ℕ} → n ≡ column + k → At n step queue parent tail head column → Row n step head

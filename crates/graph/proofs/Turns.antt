@@ -1,23 +1,20 @@
 -- One turn of the search keeps what it knows: a step that is tried next gives a path behind all that are in the queue, so a
 -- place that is new goes to the end of the queue, and one that is there already was found by a path before it.
-use Prim.Native.Nat.{ℕ, suc, _+_, _*_, _<_, _≤_}
-use mathlib.Core.Path.{_≡_, refl, sym, ap, subst, _∙_}
+use Prim.Native.Nat.{ℕ, _+_, _*_, _<_, _≤_}
+use mathlib.Core.Path.{_≡_, refl, sym, subst, _∙_}
 use mathlib.Core.Bool.{Bool, true, false, cond}
 use mathlib.Core.List.{List, [], _∷_, _++_}
-use mathlib.Core.Logic.{_⊎_, inl, inr, ⊎-elim}
+use mathlib.Core.Logic.{_⊎_, ⊎-elim}
 use native.Mathlib.Omega.{arith}
 use borrow.Author.Count.{below-more}
 use borrow.Author.Tests.{eq-eqb, ne-eqb}
 use lib.Dec.{eqb}
 use lib.ListN.{length, getD, set, replicate, length-set, length-append, length-replicate, getD-replicate}
 use lib.Seq.{getD-set-same, getD-set-other}
-use Rattle.graph.specs.Search.{rank, rankFrom, filled, Reached, Seen, outside, place, Grown, Searched, At}
-use Rattle.graph.proofs.Cases.{same?, less?}
+use Rattle.graph.specs.Search.{rank, rankFrom, Reached, Seen, outside, place, Grown, Searched, At}
+use Rattle.graph.proofs.Cases.{same?, less?, clash}
 use Rattle.graph.proofs.Slots.{filled-le, filled-set, filled-none}
 use Rattle.graph.proofs.Ranks.{rank-snoc}
-
-clash : {b : Bool} → b ≡ true → b ≡ false → ⊥
-clash p q = let z : _≡_ {A = ℕ} 0 1 = cc in omega arith
 
 pub seen-le : {n : ℕ} {parent : List ℕ} {v : ℕ} → Seen n parent v → v ≤ n
 seen-le (outside e) = omega arith

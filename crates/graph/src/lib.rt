@@ -1,8 +1,7 @@
 // The best chain over places: the shortest from an anchor to a signer, and among those the first by place number.
 ghost use mathlib.Core.Path.{_≡_};
-ghost use mathlib.Core.List.{_++_};
-ghost use mathlib.Core.Bool.{false};
-ghost use Prim.Native.Nat.{_+_, _-_, _<_, _≤_};
+ghost use mathlib.Core.List.{List, _++_};
+ghost use Prim.Native.Nat.{ℕ, _+_, _-_, _<_, _≤_};
 ghost use lib.ListN.{length, getD, replicate};
 ghost use Rattle.graph.specs.Chains.{graphOf};
 ghost use Rattle.graph.specs.Answer.{Answered};
@@ -144,6 +143,26 @@ fn no_chain() -> Found
     Found { length: 0, places: [255; 96] }
 }
 
+// The chain to the target by a table of parents, whatever search filled it.
+fn chain_in(places: usize, roles: &[u8], parent: [u8; 96], target: usize) -> Found
+    requires { ⌜ places ≤ 96 ⌝ }
+    requires { ⌜ Paths places parent ⌝ }
+    ensures { λ r. ⌜ ((steps : List ℕ) → Searched places (followed places (graphOf places (now (roles .entry)) steps)) parent → Answered (graphOf places (now (roles .entry)) steps) target r) ⌝ }
+{
+    if places <= target {
+        return no_chain();
+    }
+    if octet(roles, target) != 3 {
+        return no_chain();
+    }
+    if parent[target] == 255 {
+        return no_chain();
+    }
+    let length = path_length(places, parent, target);
+    let slots = path_places(places, parent, target, length);
+    Found { length: length, places: slots }
+}
+
 // Roles: 1 a usable anchor, 2 a usable link, 3 a usable signer. Steps: row the signer, column the signed, 1 for a good step.
 pub fn chain_to(places: usize, roles: &[u8], steps: &[u8], target: usize) -> Found
     ensures { λ r. ⌜ Answered (graphOf places (now (roles .entry)) (now (steps .entry))) target r ⌝ }
@@ -151,17 +170,6 @@ pub fn chain_to(places: usize, roles: &[u8], steps: &[u8], target: usize) -> Fou
     if 96 < places {
         return no_chain();
     }
-    if places <= target {
-        return no_chain();
-    }
-    if octet(roles, target) != 3 {
-        return no_chain();
-    }
     let parent = search(places, roles, steps);
-    if parent[target] == 255 {
-        return no_chain();
-    }
-    let length = path_length(places, parent, target);
-    let slots = path_places(places, parent, target, length);
-    Found { length: length, places: slots }
+    chain_in(places, roles, parent, target)
 }

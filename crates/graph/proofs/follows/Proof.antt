@@ -1,13 +1,10 @@
 -- Each test answers one law of the steps that are followed.
 use borrow.Author.Needs.{needs}
 use borrow.Author.Tests.{eq-eqb, ne-eqb}
-use mathlib.Core.Path.{_≡_, sym, _∙_, ap}
-use mathlib.Core.Bool.{false}
+use mathlib.Core.Path.{sym, _∙_}
 use native.Mathlib.Omega.{arith}
 use native.Mathlib.Nat.{mul-le-mul}
 use Prim.Native.Nat.{_*_, _≤_, _<_}
-use lib.Dec.{eqb}
-use lib.ListN.{getD}
 use Rattle.graph.specs.Chains.{graphOf}
 use Rattle.graph.specs.Search.{followed}
 use Rattle.graph.proofs.Steps.{no-step, to-link, by-signer}

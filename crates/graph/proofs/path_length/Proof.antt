@@ -1,6 +1,5 @@
 -- The places counted, and the path to the place that is reached, are together as many as the path to the target has.
 use Prim.Native.Nat.{_-_}
-use mathlib.Core.Path.{refl}
 use native.Mathlib.Omega.{arith}
 use Rattle.graph.specs.Search.{Paths}
 use Rattle.graph.proofs.Traces.{Counted, count-start, count-room, count-more, count-end}

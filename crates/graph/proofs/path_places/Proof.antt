@@ -1,6 +1,4 @@
 -- The slots from `left` on hold what stands on the path behind the place that is reached.
-use Prim.Native.Nat.{_≤_}
-use mathlib.Core.Path.{refl}
 use native.Mathlib.Omega.{arith}
 use Rattle.graph.specs.Search.{Paths}
 use Rattle.graph.proofs.Traces.{Filling, fill-start, fill-room, fill-more, fill-end}
