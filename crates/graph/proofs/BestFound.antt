@@ -63,9 +63,9 @@ module _ {g : Graph} {n t : ℕ} (size : g .places ≡ n) (small : n ≤ 96) whe
         let x = s .grows t h r in
         record {
           good =
-          seen-by (x .from)
-          (λ e. absurd (clash f (apart .anchors (opened n g (rw e at (x .good))))))
-          (λ m q. let y = stepped n g m (x .good) in rw (x .longer) (path-chain _ (le-refl _) m q (y .0) (ends (omega arith) f (y .1))));
+              seen-by (x .from)
+              (λ e. absurd (clash f (apart .anchors (opened n g (rw e at (x .good))))))
+              (λ m q. let y = stepped n g m (x .good) in rw (x .longer) (path-chain _ (le-refl _) m q (y .0) (ends (omega arith) f (y .1))));
           least = λ d c. rank-first (s .path t) (small-chain c) (chain-reached c .1);
         }
 

@@ -32,6 +32,26 @@ upd-other : (path : ℕ → List ℕ) (v : ℕ) (p : List ℕ) {w : ℕ} → (w 
 unfolding upd
 upd-other path v p {w} d = rw (ne-eqb w v d)
 
+-- the tables unchanged, at another row or column
+moved : {n : ℕ} {step : ℕ → ℕ → Bool} {queue parent : List ℕ} {tail head column : ℕ} (a : At n step queue parent tail head column) (row next : ℕ) → row < tail → ((j : ℕ) → j < tail → rank (a .path (getD queue j 0)) < rank (a .path (getD queue row 0)) * 97 + next + 1) → ((j v : ℕ) → j < tail → v < n → j * 97 + v < row * 97 + next → step (getD queue j 0) v ≡ true → Reached parent v × (rank (a .path v) ≤ rank (a .path (getD queue j 0)) * 97 + v + 1)) → At n step queue parent tail row next
+moved a row next within front closed =
+    record {
+      path = a .path;
+      start = a .start;
+      root = a .root;
+      slots = a .slots;
+      room = a .room;
+      count = a .count;
+      within = within;
+      seen = a .seen;
+      short = a .short;
+      queued = a .queued;
+      grows = a .grows;
+      sorted = a .sorted;
+      front = front;
+      closed = closed;
+    }
+
 module _ {n : ℕ} {step : ℕ → ℕ → Bool} {queue parent : List ℕ} {tail head : ℕ} (small : n ≤ 96) where
   -- a place that was reached has a path before the one that is tried
   before : {column : ℕ} (a : At n step queue parent tail head column) → column < n → Reached parent column → rank (a .path column) < rank (a .path (getD queue head 0)) * 97 + column + 1
@@ -42,72 +62,29 @@ module _ {n : ℕ} {step : ℕ → ℕ → Bool} {queue parent : List ℕ} {tail
   -- a column that gives nothing new
   skip : {column : ℕ} (a : At n step queue parent tail head column) → column < n → Reached parent column ⊎ (step (getD queue head 0) column ≡ false) → At n step queue parent tail head (column + 1)
   skip {column} a h w =
-      record {
-        path = a .path;
-        start = a .start;
-        root = a .root;
-        slots = a .slots;
-        room = a .room;
-        count = a .count;
-        within = a .within;
-        seen = a .seen;
-        short = a .short;
-        queued = a .queued;
-        grows = a .grows;
-        sorted = a .sorted;
-        front = λ j k. omega (arith, a .front j k);
-        closed = λ j v k l m s.
-        ⊎-elim (λ o. a .closed j v k l o s)
-        (λ o.
-        let ej : j ≡ head = omega arith in
-        let ev : v ≡ column = omega arith in
-        rw (ej, ev)
-        (⊎-elim (λ r. (r, omega (arith, before a h r))) (λ f. absurd (clash (rw (ej, ev) at s) f)) w))
-        (less? (j * 97 + v) (head * 97 + column));
-      }
+      moved a head (column + 1) (a .within) (λ j k. omega (arith, a .front j k))
+      (λ j v k l m s.
+      ⊎-elim (λ o. a .closed j v k l o s)
+      (λ o.
+      let ej : j ≡ head = omega arith in
+      let ev : v ≡ column = omega arith in
+      rw (ej, ev) (⊎-elim (λ r. (r, omega (arith, before a h r))) (λ f. absurd (clash (rw (ej, ev) at s) f)) w))
+      (less? (j * 97 + v) (head * 97 + column)))
 
   -- a whole row that gives nothing
   pub skip-row : (a : At n step queue parent tail head 0) → ((v : ℕ) → v < n → step (getD queue head 0) v ≡ false) → At n step queue parent tail head n
   skip-row a w =
-      record {
-        path = a .path;
-        start = a .start;
-        root = a .root;
-        slots = a .slots;
-        room = a .room;
-        count = a .count;
-        within = a .within;
-        seen = a .seen;
-        short = a .short;
-        queued = a .queued;
-        grows = a .grows;
-        sorted = a .sorted;
-        front = λ j k. omega (arith, a .front j k);
-        closed = λ j v k l m s.
-        ⊎-elim (λ o. a .closed j v k l o s)
-        (λ o. let ej : j ≡ head = omega arith in absurd (clash (rw ej at s) (w v l)))
-        (less? (j * 97 + v) (head * 97 + 0));
-      }
+      moved a head n (a .within) (λ j k. omega (arith, a .front j k))
+      (λ j v k l m s.
+      ⊎-elim (λ o. a .closed j v k l o s)
+      (λ o. let ej : j ≡ head = omega arith in absurd (clash (rw ej at s) (w v l)))
+      (less? (j * 97 + v) (head * 97 + 0)))
 
   -- the next row
   pub next : (a : At n step queue parent tail head n) → head + 1 < tail → At n step queue parent tail (head + 1) 0
   next a h =
-      record {
-        path = a .path;
-        start = a .start;
-        root = a .root;
-        slots = a .slots;
-        room = a .room;
-        count = a .count;
-        within = h;
-        seen = a .seen;
-        short = a .short;
-        queued = a .queued;
-        grows = a .grows;
-        sorted = a .sorted;
-        front = λ j k. omega (arith, a .front j k, a .sorted head (head + 1) (omega arith) h);
-        closed = λ j v k l m s. a .closed j v k l (omega arith) s;
-      }
+      moved a (head + 1) 0 h (λ j k. omega (arith, a .front j k, a .sorted head (head + 1) (omega arith) h))
+      (λ j v k l m s. a .closed j v k l (omega arith) s)
 
   -- no row is left
   pub finish : (a : At n step queue parent tail head n) → head + 1 ≡ tail → Searched n step parent
@@ -117,9 +94,9 @@ module _ {n : ℕ} {step : ℕ → ℕ → Bool} {queue parent : List ℕ} {tail
         start = a .start;
         grows = a .grows;
         short = λ v l r.
-        let q = a .queued v l r in
-        let t : length (a .path (getD queue (q .0) 0)) ≤ 96 = omega (arith, a .short (q .0) (q .1), q .1, a .count, filled-le parent, a .slots) in
-        rw (q .2) at t;
+            let q = a .queued v l r in
+            let t : length (a .path (getD queue (q .0) 0)) ≤ 96 = omega (arith, a .short (q .0) (q .1), q .1, a .count, filled-le parent, a .slots) in
+            rw (q .2) at t;
         closed = λ u v w l s. go u v l s w;
       }
     where
@@ -238,31 +215,31 @@ module _ {n : ℕ} {step : ℕ → ℕ → Bool} {queue parent : List ℕ} {tail
           within = omega (arith, a .within);
           seen = below-more (λ j. Seen n parent′ (getD queue′ j 0)) tail (λ j k. rw (queue-kept j k) (seen-more (a .seen j k))) (rw queue-new (place h reached-new));
           short = below-more (λ j. length (path′ (getD queue′ j 0)) ≤ j) tail (λ j k. rw (node-kept j k) (a .short j k))
-          (rw (node-new, length-append) (omega (arith, a .short head (a .within), a .within)));
+              (rw (node-new, length-append) (omega (arith, a .short head (a .within), a .within)));
           queued = λ v l r.
-          ⊎-elim (λ e. (tail, omega arith, queue-new ∙ sym e))
-          (λ d. let q = a .queued v l (reached-kept d r) in (q .0, omega (arith, q .1), queue-kept (q .0) (q .1) ∙ q .2))
-          (same? v column);
+              ⊎-elim (λ e. (tail, omega arith, queue-new ∙ sym e))
+              (λ d. let q = a .queued v l (reached-kept d r) in (q .0, omega (arith, q .1), queue-kept (q .0) (q .1) ∙ q .2))
+              (same? v column);
           grows = λ v l r. ⊎-elim (λ e. rw e grown-new) (λ d. grown-kept d l (reached-kept d r)) (same? v column);
           sorted = λ i j o k.
-          ⊎-elim (λ m. rw (node-kept i (omega arith), node-kept j m) (a .sorted i j o m))
-          (λ m. let e : j ≡ tail = omega arith in rw (e, rank-new, node-kept i (omega arith)) (a .front i (omega arith)))
-          (less? j tail);
+              ⊎-elim (λ m. rw (node-kept i (omega arith), node-kept j m) (a .sorted i j o m))
+              (λ m. let e : j ≡ tail = omega arith in rw (e, rank-new, node-kept i (omega arith)) (a .front i (omega arith)))
+              (less? j tail);
           front = λ j k. rw (node-kept head (a .within))
-          (⊎-elim (λ m. rw (node-kept j m) (omega (arith, a .front j m)))
-          (λ m. let e : j ≡ tail = omega arith in rw (e, rank-new) (omega arith))
-          (less? j tail));
+              (⊎-elim (λ m. rw (node-kept j m) (omega (arith, a .front j m)))
+              (λ m. let e : j ≡ tail = omega arith in rw (e, rank-new) (omega arith))
+              (less? j tail));
           closed = λ j v k l m s.
-          let i : j < tail = omega (arith, a .within) in
-          let kept = rw (queue-kept j i) at s in
-          rw (node-kept j i)
-          (⊎-elim
-          (λ o. let c = a .closed j v i l o kept in (reached-more v (c .0), rw (path-kept (place l (c .0))) (c .1)))
-          (λ o.
-          let ej : j ≡ head = omega arith in
-          let ev : v ≡ column = omega arith in
-          rw (ev, ej) (reached-new, rw (path-new, rank-snoc (a .path (getD queue head 0)) column) (omega arith)))
-          (less? (j * 97 + v) (head * 97 + column)));
+              let i : j < tail = omega (arith, a .within) in
+              let kept = rw (queue-kept j i) at s in
+              rw (node-kept j i)
+              (⊎-elim
+              (λ o. let c = a .closed j v i l o kept in (reached-more v (c .0), rw (path-kept (place l (c .0))) (c .1)))
+              (λ o.
+              let ej : j ≡ head = omega arith in
+              let ev : v ≡ column = omega arith in
+              rw (ev, ej) (reached-new, rw (path-new, rank-snoc (a .path (getD queue head 0)) column) (omega arith)))
+              (less? (j * 97 + v) (head * 97 + column)));
         }
 
   -- the column's place and the row's by other names, as code has them

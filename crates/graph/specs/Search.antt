@@ -11,8 +11,8 @@ use Rattle.graph.specs.Chains.{Graph}
 -- the steps that a search follows: from outside, which is n, to each anchor; from no signer; to links and to signers
 unfoldable pub followed : ℕ → Graph → ℕ → ℕ → Bool
 followed n g u v =
-  cond (eqb u n) (g .anchor v)
-  (cond (g .signer u) false (cond (g .link v) (g .step u v) (cond (g .signer v) (g .step u v) false)))
+    cond (eqb u n) (g .anchor v)
+    (cond (g .signer u) false (cond (g .link v) (g .step u v) (cond (g .signer v) (g .step u v) false)))
 
 -- chains of places below 97 as numbers, in which the shorter is the smaller, and of two as long the one that comes first
 unfoldable pub rankFrom : ℕ → List ℕ → ℕ
@@ -48,8 +48,8 @@ pub record Searched (n : ℕ) (step : ℕ → ℕ → Bool) (parent : List ℕ) 
   pub grows : (v : ℕ) → v < n → Reached parent v → Grown n step parent path v
   pub short : (v : ℕ) → v < n → Reached parent v → length (path v) ≤ 96
   pub closed :
-    (u v : ℕ) → Seen n parent u → v < n → step u v ≡ true
-    → Reached parent v × (rank (path v) ≤ rank (path u) * 97 + v + 1)
+      (u v : ℕ) → Seen n parent u → v < n → step u v ≡ true
+      → Reached parent v × (rank (path v) ≤ rank (path u) * 97 + v + 1)
 
 -- the search at a column of the row of the queue's head: all steps before are followed, and the queue is in the order of
 -- its paths, each before the path to be tried next
@@ -68,8 +68,8 @@ pub record At (n : ℕ) (step : ℕ → ℕ → Bool) (queue parent : List ℕ) 
   pub sorted : (i j : ℕ) → i < j → j < tail → rank (path (getD queue i 0)) < rank (path (getD queue j 0))
   pub front : (j : ℕ) → j < tail → rank (path (getD queue j 0)) < rank (path (getD queue head 0)) * 97 + column + 1
   pub closed :
-    (j v : ℕ) → j < tail → v < n → j * 97 + v < head * 97 + column → step (getD queue j 0) v ≡ true
-    → Reached parent v × (rank (path v) ≤ rank (path (getD queue j 0)) * 97 + v + 1)
+      (j v : ℕ) → j < tail → v < n → j * 97 + v < head * 97 + column → step (getD queue j 0) v ≡ true
+      → Reached parent v × (rank (path v) ≤ rank (path (getD queue j 0)) * 97 + v + 1)
 
 -- what a trace back along the parents needs of the table
 pub record Paths (n : ℕ) (parent : List ℕ) : Type 0 where

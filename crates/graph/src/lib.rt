@@ -140,7 +140,10 @@ fn path_places(places: usize, parent: [u8; 96], target: usize, count: usize) -> 
 fn no_chain() -> Found
     ensures { λ r. ⌜ (r .length ≡ 0) × (r .places ≡ replicate 96 255) ⌝ }
 {
-    Found { length: 0, places: [255; 96] }
+    Found {
+        length: 0,
+        places: [255; 96],
+    }
 }
 
 // The chain to the target by a table of parents, whatever search filled it.
@@ -160,7 +163,10 @@ fn chain_in(places: usize, roles: &[u8], parent: [u8; 96], target: usize) -> Fou
     }
     let length = path_length(places, parent, target);
     let slots = path_places(places, parent, target, length);
-    Found { length: length, places: slots }
+    Found {
+        length: length,
+        places: slots,
+    }
 }
 
 // Roles: 1 a usable anchor, 2 a usable link, 3 a usable signer. Steps: row the signer, column the signed, 1 for a good step.

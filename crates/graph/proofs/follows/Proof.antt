@@ -28,7 +28,7 @@ octet-requires-2 : tie.Need-octet-requires-2
 octet-requires-2 c κs = search needs
 
 returns-2 : tie.Need-returns-2
-returns-2 c = let p = c .before .before .before .before .before .pre in let a = c .before .before .before .before .before .args in let d = c .before .before .if1 .left in let h : a .u < a .places = omega arith in sym (no-step (a .places) (graphOf (a .places) (a .roles .now) (a .steps .now)) h (ne-eqb _ _ (p .1 h)) (ne-eqb _ _ (λ e. c .if2 .taken (c .before .octet2 .ensures ∙ e))))
+returns-2 c = let p = c .before .before .before .before .before .pre in let a = c .before .before .before .before .before .args in let d = c .before .before .if1 .left in let h : a .u < a .places = omega arith in sym (no-step (a .places) (graphOf (a .places) (a .roles .now) (a .steps .now)) h (ne-eqb _ _ (p .1 h)) (ne-eqb _ _ (λ e. let x = c .before .octet2 .ensures ∙ e in omega (arith, c .if2 .taken))))
 
 octet-requires-3 : tie.Need-octet-requires-3
 octet-requires-3 c κs = search needs
