@@ -9,7 +9,7 @@ use Rattle.graph.specs.Chains.{Graph, Chain, Best}
 pub data Answered (g : Graph) (target : ℕ) (r : Found) : Type 0 where
   -- its length and its places, unused slots 255
   found :
-    (c : List ℕ) → Best g target c → r .length ≡ length c → r .places ≡ c ++ replicate (96 - length c) 255
-    → Answered g target r
+      (c : List ℕ) → Best g target c → r .length ≡ length c → r .places ≡ c ++ replicate (96 - length c) 255
+      → Answered g target r
   -- no good chain exists: length 0, all slots 255
   none : ((c : List ℕ) → Chain g target c → ⊥) → r .length ≡ 0 → r .places ≡ replicate 96 255 → Answered g target r

@@ -19,13 +19,13 @@ pub record Graph : Type 0 where
 pub data Onward (g : Graph) (target : ℕ) : ℕ → List ℕ → Type 0 where
   ends : {u : ℕ} → target < g .places → g .signer target ≡ true → g .step u target ≡ true → Onward g target u (target ∷ [])
   goes :
-    {u v : ℕ} {rest : List ℕ} → v < g .places → g .link v ≡ true → g .step u v ≡ true → Onward g target v rest
-    → Onward g target u (v ∷ rest)
+      {u v : ℕ} {rest : List ℕ} → v < g .places → g .link v ≡ true → g .step u v ≡ true → Onward g target v rest
+      → Onward g target u (v ∷ rest)
 
 -- a good chain: an anchor, then on to the signer
 pub data Chain (g : Graph) (target : ℕ) : List ℕ → Type 0 where
   chain :
-    {u : ℕ} {rest : List ℕ} → u < g .places → g .anchor u ≡ true → Onward g target u rest → Chain g target (u ∷ rest)
+      {u : ℕ} {rest : List ℕ} → u < g .places → g .anchor u ≡ true → Onward g target u rest → Chain g target (u ∷ rest)
 
 -- two chains of equal length, read from the anchor: at the first place where they differ the smaller number comes first
 pub data NotLater : List ℕ → List ℕ → Type 0 where
@@ -42,9 +42,10 @@ pub record Best (g : Graph) (target : ℕ) (c : List ℕ) : Type 0 where
 -- signed, 1 for a good step; at most 96 places
 abbrev pub graphOf : ℕ → List ℕ → List ℕ → Graph
 graphOf places roles steps =
-  record {
-    places = cond (leb places 96) places 0;
-    anchor = λ u. eqb (getD roles u 0) 1;
-    link = λ u. eqb (getD roles u 0) 2;
-    signer = λ u. eqb (getD roles u 0) 3;
-    step = λ u v. eqb (getD steps (u * places + v) 0) 1 }
+    record {
+      places = cond (leb places 96) places 0;
+      anchor = λ u. eqb (getD roles u 0) 1;
+      link = λ u. eqb (getD roles u 0) 2;
+      signer = λ u. eqb (getD roles u 0) 3;
+      step = λ u v. eqb (getD steps (u * places + v) 0) 1;
+    }

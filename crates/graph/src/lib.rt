@@ -1,6 +1,11 @@
 // The best chain over places: the shortest from an anchor to a signer, and among those the first by place number.
+ghost use mathlib.Core.Path.{_≡_};
+ghost use mathlib.Core.List.{List, _++_};
+ghost use Prim.Native.Nat.{ℕ, _+_, _-_, _<_, _≤_};
+ghost use lib.ListN.{length, getD, replicate};
 ghost use Rattle.graph.specs.Chains.{graphOf};
 ghost use Rattle.graph.specs.Answer.{Answered};
+ghost use Rattle.graph.specs.Search.{followed, Reached, Searched, At, Paths};
 
 // The length of a chain and its places, unused slots 255; length 0 where there is none.
 pub struct Found {
@@ -8,9 +13,169 @@ pub struct Found {
     pub places: [u8; 96],
 }
 
+fn wide(x: u8) -> usize
+    ensures { λ r. ⌜ r ≡ x ⌝ }
+{
+    x as usize
+}
+
+// An octet of a table, 0 beyond its end.
+fn octet(table: &[u8], i: usize) -> u8
+    ensures { λ r. ⌜ r ≡ getD (now (table .entry)) i 0 ⌝ }
+{
+    if i < table.len() { table[i] } else { 0 }
+}
+
+// Whether a step goes to an anchor from outside, or from a place that is no signer to a link or a signer.
+fn follows(places: usize, roles: &[u8], steps: &[u8], u: usize, v: usize) -> bool
+    requires { ⌜ (places ≤ 96) × (u ≤ places) × (v < places) ⌝ }
+    requires { ⌜ (u < places → (getD (now roles) u 0 ≡ 3 → ⊥)) ⌝ }
+    ensures { λ r. ⌜ r ≡ followed places (graphOf places (now (roles .entry)) (now (steps .entry))) u v ⌝ }
+{
+    if u == places {
+        return octet(roles, v) == 1;
+    }
+    if octet(steps, u * places + v) != 1 {
+        return false;
+    }
+    let role = octet(roles, v);
+    if role == 2 {
+        return true;
+    }
+    role == 3
+}
+
+// From the head of the queue to each place that is new, in ascending order; where the last of the queue then stands.
+fn row(
+    places: usize,
+    roles: &[u8],
+    steps: &[u8],
+    head: usize,
+    queue: &mut [u8; 97],
+    parent: &mut [u8; 96],
+    last: usize,
+) -> usize
+    requires { ⌜ places ≤ 96 ⌝ }
+    requires { ⌜ At places (followed places (graphOf places (now roles) (now steps))) (now queue) (now parent) (last + 1) head 0 ⌝ }
+    ensures { λ r. ⌜ At places (followed places (graphOf places (now (roles .entry)) (now (steps .entry)))) (now (queue .exit)) (now (parent .exit)) (r + 1) head places ⌝ }
+{
+    let u = wide(queue[head]);
+    if u < places {
+        if octet(roles, u) == 3 {
+            return last;
+        }
+    }
+    let mut end = last;
+    let mut column = 0;
+    while column < places {
+        column += 1;
+        let v = column - 1;
+        if parent[v] == 255 {
+            if follows(places, roles, steps, u, v) {
+                parent[v] = u as u8;
+                end += 1;
+                queue[end] = v as u8;
+            }
+        }
+    }
+    end
+}
+
+// The parent of each place that a path from outside reaches, by the first of its paths; 255 where there is none.
+fn search(places: usize, roles: &[u8], steps: &[u8]) -> [u8; 96]
+    requires { ⌜ places ≤ 96 ⌝ }
+    ensures { λ r. ⌜ Searched places (followed places (graphOf places (now (roles .entry)) (now (steps .entry)))) r ⌝ }
+{
+    let mut queue = [0u8; 97];
+    let mut parent = [255u8; 96];
+    queue[0] = places as u8;
+    let mut head = 0;
+    let mut last = 0;
+    loop {
+        last = row(places, roles, steps, head, &mut queue, &mut parent, last);
+        if head == last {
+            return parent;
+        }
+        head += 1;
+    }
+}
+
+// How many places the path to the target has.
+fn path_length(places: usize, parent: [u8; 96], target: usize) -> usize
+    requires { ⌜ places ≤ 96 ⌝ }
+    requires { ⌜ target < places ⌝ }
+    requires { ⌜ Reached parent target ⌝ }
+    requires { ⌜ Paths places parent ⌝ }
+    ensures { λ r. ⌜ ((s : Paths places parent) → r ≡ length (s .path target)) ⌝ }
+{
+    let mut place = target;
+    let mut count = 0;
+    while place != places {
+        count += 1;
+        place = parent[place] as usize;
+    }
+    count
+}
+
+// The path to the target, of so many places, and 255 in the slots behind it.
+fn path_places(places: usize, parent: [u8; 96], target: usize, count: usize) -> [u8; 96]
+    requires { ⌜ places ≤ 96 ⌝ }
+    requires { ⌜ target < places ⌝ }
+    requires { ⌜ Reached parent target ⌝ }
+    requires { ⌜ Paths places parent ⌝ }
+    requires { ⌜ ((s : Paths places parent) → count ≡ length (s .path target)) ⌝ }
+    ensures { λ r. ⌜ ((s : Paths places parent) → r ≡ s .path target ++ replicate (96 - length (s .path target)) 255) ⌝ }
+{
+    let mut slots = [255u8; 96];
+    let mut place = target;
+    let mut left = count;
+    while place != places {
+        left -= 1;
+        slots[left] = place as u8;
+        place = parent[place] as usize;
+    }
+    slots
+}
+
+fn no_chain() -> Found
+    ensures { λ r. ⌜ (r .length ≡ 0) × (r .places ≡ replicate 96 255) ⌝ }
+{
+    Found {
+        length: 0,
+        places: [255; 96],
+    }
+}
+
+// The chain to the target by a table of parents, whatever search filled it.
+fn chain_in(places: usize, roles: &[u8], parent: [u8; 96], target: usize) -> Found
+    requires { ⌜ places ≤ 96 ⌝ }
+    requires { ⌜ Paths places parent ⌝ }
+    ensures { λ r. ⌜ ((steps : List ℕ) → Searched places (followed places (graphOf places (now (roles .entry)) steps)) parent → Answered (graphOf places (now (roles .entry)) steps) target r) ⌝ }
+{
+    if places <= target {
+        return no_chain();
+    }
+    if octet(roles, target) != 3 {
+        return no_chain();
+    }
+    if parent[target] == 255 {
+        return no_chain();
+    }
+    let length = path_length(places, parent, target);
+    let slots = path_places(places, parent, target, length);
+    Found {
+        length: length,
+        places: slots,
+    }
+}
+
 // Roles: 1 a usable anchor, 2 a usable link, 3 a usable signer. Steps: row the signer, column the signed, 1 for a good step.
 pub fn chain_to(places: usize, roles: &[u8], steps: &[u8], target: usize) -> Found
     ensures { λ r. ⌜ Answered (graphOf places (now (roles .entry)) (now (steps .entry))) target r ⌝ }
 {
-    Found { length: 0, places: [255; 96] }
+    if 96 < places {
+        return no_chain();
+    }
+    let parent = search(places, roles, steps);
+    chain_in(places, roles, parent, target)
 }

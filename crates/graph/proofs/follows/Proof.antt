@@ -1,0 +1,54 @@
+-- Each test answers one law of the steps that are followed.
+use borrow.Author.Needs.{needs}
+use borrow.Author.Tests.{eq-eqb, ne-eqb}
+use mathlib.Core.Path.{sym, _∙_}
+use native.Mathlib.Omega.{arith}
+use native.Mathlib.Nat.{mul-le-mul}
+use Prim.Native.Nat.{_*_, _≤_, _<_}
+use Rattle.graph.specs.Chains.{graphOf}
+use Rattle.graph.specs.Search.{followed}
+use Rattle.graph.proofs.Steps.{no-step, to-link, by-signer}
+use Rattle.graph.proofs.follows.Statement.{statement}
+use Rattle.graph.proofs.follows.Tie as tie
+
+octet-requires : tie.Need-octet-requires
+octet-requires c κs = search needs
+
+returns : tie.Need-returns
+unfolding followed
+returns c = rw (eq-eqb _ _ (c .before .if1 .taken), c .octet .ensures)
+
+mul-octet : tie.Need-mul-octet
+mul-octet c = let a = c .before .before .before .args in let m : a .u * a .places ≤ 96 * 96 = mul-le-mul {n₂ = 96} {m₂ = 96} (omega (arith, c .before .before .before .pre)) (omega (arith, c .before .before .before .pre)) in omega arith
+
+add-octet : tie.Need-add-octet
+add-octet c = let a = c .before .before .before .args in let m : a .u * a .places ≤ 96 * 96 = mul-le-mul {n₂ = 96} {m₂ = 96} (omega (arith, c .before .before .before .pre)) (omega (arith, c .before .before .before .pre)) in omega arith
+
+octet-requires-2 : tie.Need-octet-requires-2
+octet-requires-2 c κs = search needs
+
+returns-2 : tie.Need-returns-2
+returns-2 c = let p = c .before .before .before .before .before .pre in let a = c .before .before .before .before .before .args in let d = c .before .before .if1 .left in let h : a .u < a .places = omega arith in sym (no-step (a .places) (graphOf (a .places) (a .roles .now) (a .steps .now)) h (ne-eqb _ _ (p .1 h)) (ne-eqb _ _ (λ e. let x = c .before .octet2 .ensures ∙ e in omega (arith, c .if2 .taken))))
+
+octet-requires-3 : tie.Need-octet-requires-3
+octet-requires-3 c κs = search needs
+
+returns-3 : tie.Need-returns-3
+returns-3 c = let p = c .before .before .before .before .before .before .before .pre in let a = c .before .before .before .before .before .before .before .args in let d = c .before .before .before .before .if1 .left in let h : a .u < a .places = omega arith in sym (to-link (a .places) (graphOf (a .places) (a .roles .now) (a .steps .now)) h (ne-eqb _ _ (p .1 h)) (eq-eqb _ _ (sym (c .before .octet3 .ensures) ∙ c .if3 .taken)) (eq-eqb _ _ (sym (c .before .before .before .octet2 .ensures) ∙ c .before .before .if2 .left)))
+
+returns-4 : tie.Need-returns-4
+returns-4 c = let p = c .before .before .before .before .before .before .before .pre in let a = c .before .before .before .before .before .before .before .args in let d = c .before .before .before .before .if1 .left in let h : a .u < a .places = omega arith in rw (c .before .octet3 .ensures) (sym (by-signer (a .places) (graphOf (a .places) (a .roles .now) (a .steps .now)) h (ne-eqb _ _ (p .1 h)) (eq-eqb _ _ (sym (c .before .before .before .octet2 .ensures) ∙ c .before .before .if2 .left)) (ne-eqb _ _ (λ e. c .if3 .left (c .before .octet3 .ensures ∙ e)))))
+
+pub follows-spec : {M : Type 1} → statement M
+follows-spec =
+    tie.close
+    (tie.spec
+    octet-requires
+    returns
+    mul-octet
+    add-octet
+    octet-requires-2
+    returns-2
+    octet-requires-3
+    returns-3
+    returns-4)

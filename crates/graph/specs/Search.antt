@@ -1,0 +1,80 @@
+-- What a search for chains knows between two of its steps, and what its table tells at the end. The contract of
+-- `chain_to` cites nothing of this.
+use Prim.Native.Nat.{ℕ, suc, _+_, _*_, _<_, _≤_}
+use mathlib.Core.Path.{_≡_}
+use mathlib.Core.Bool.{Bool, true, false, cond}
+use mathlib.Core.List.{List, [], _∷_, _++_}
+use lib.Dec.{eqb}
+use lib.ListN.{length, getD}
+use Rattle.graph.specs.Chains.{Graph}
+
+-- the steps that a search follows: from outside, which is n, to each anchor; from no signer; to links and to signers
+unfoldable pub followed : ℕ → Graph → ℕ → ℕ → Bool
+followed n g u v =
+    cond (eqb u n) (g .anchor v)
+    (cond (g .signer u) false (cond (g .link v) (g .step u v) (cond (g .signer v) (g .step u v) false)))
+
+-- chains of places below 97 as numbers, in which the shorter is the smaller, and of two as long the one that comes first
+unfoldable pub rankFrom : ℕ → List ℕ → ℕ
+rankFrom a [] = a
+rankFrom a (v ∷ p) = rankFrom (a * 97 + v + 1) p
+
+abbrev pub rank : List ℕ → ℕ
+rank p = rankFrom 0 p
+
+-- how many slots of a table are filled
+unfoldable pub filled : List ℕ → ℕ
+filled [] = 0
+filled (x ∷ xs) = cond (eqb x 255) (filled xs) (suc (filled xs))
+
+abbrev pub Reached : List ℕ → ℕ → Type 0
+Reached parent v = getD parent v 0 ≡ 255 → ⊥
+
+pub data Seen (n : ℕ) (parent : List ℕ) (v : ℕ) : Type 0 where
+  outside : v ≡ n → Seen n parent v
+  place : v < n → Reached parent v → Seen n parent v
+
+-- the path to a place is that to its parent, and one good step more
+pub record Grown (n : ℕ) (step : ℕ → ℕ → Bool) (parent : List ℕ) (path : ℕ → List ℕ) (v : ℕ) : Type 0 where
+  pub from : Seen n parent (getD parent v 0)
+  pub good : step (getD parent v 0) v ≡ true
+  pub longer : path v ≡ path (getD parent v 0) ++ (v ∷ [])
+
+-- what the table of parents tells at the end of any search: a path to each place that it holds, and it holds the first of
+-- all paths to each place
+pub record Searched (n : ℕ) (step : ℕ → ℕ → Bool) (parent : List ℕ) : Type 0 where
+  pub path : ℕ → List ℕ
+  pub start : path n ≡ []
+  pub grows : (v : ℕ) → v < n → Reached parent v → Grown n step parent path v
+  pub short : (v : ℕ) → v < n → Reached parent v → length (path v) ≤ 96
+  pub closed :
+      (u v : ℕ) → Seen n parent u → v < n → step u v ≡ true
+      → Reached parent v × (rank (path v) ≤ rank (path u) * 97 + v + 1)
+
+-- the search at a column of the row of the queue's head: all steps before are followed, and the queue is in the order of
+-- its paths, each before the path to be tried next
+pub record At (n : ℕ) (step : ℕ → ℕ → Bool) (queue parent : List ℕ) (tail head column : ℕ) : Type 0 where
+  pub path : ℕ → List ℕ
+  pub start : path n ≡ []
+  pub root : getD queue 0 0 ≡ n
+  pub slots : length parent ≡ 96
+  pub room : length queue ≡ 97
+  pub count : tail ≡ filled parent + 1
+  pub within : head < tail
+  pub seen : (j : ℕ) → j < tail → Seen n parent (getD queue j 0)
+  pub short : (j : ℕ) → j < tail → length (path (getD queue j 0)) ≤ j
+  pub queued : (v : ℕ) → v < n → Reached parent v → (j : ℕ) × (j < tail) × (getD queue j 0 ≡ v)
+  pub grows : (v : ℕ) → v < n → Reached parent v → Grown n step parent path v
+  pub sorted : (i j : ℕ) → i < j → j < tail → rank (path (getD queue i 0)) < rank (path (getD queue j 0))
+  pub front : (j : ℕ) → j < tail → rank (path (getD queue j 0)) < rank (path (getD queue head 0)) * 97 + column + 1
+  pub closed :
+      (j v : ℕ) → j < tail → v < n → j * 97 + v < head * 97 + column → step (getD queue j 0) v ≡ true
+      → Reached parent v × (rank (path v) ≤ rank (path (getD queue j 0)) * 97 + v + 1)
+
+-- what a trace back along the parents needs of the table
+pub record Paths (n : ℕ) (parent : List ℕ) : Type 0 where
+  pub path : ℕ → List ℕ
+  pub start : path n ≡ []
+  pub from : (v : ℕ) → v < n → Reached parent v → Seen n parent (getD parent v 0)
+  pub longer : (v : ℕ) → v < n → Reached parent v → path v ≡ path (getD parent v 0) ++ (v ∷ [])
+  pub short : (v : ℕ) → v < n → Reached parent v → length (path v) ≤ 96
