@@ -1,6 +1,6 @@
 -- Rule 1, the shape of a certificate: its parts in order, or that they are not so.
 use Prim.Native.Nat.{ℕ}
-use mathlib.Core.Bool.{Bool, true, false, cond, not}
+use mathlib.Core.Bool.{Bool, cond, not}
 use mathlib.Core.List.{List}
 use lib.Dec.{eqb}
 use Rattle.elements.specs.declared.elements.Element.{Element}
@@ -15,7 +15,6 @@ use Rattle.extensions.specs.Extensions.{extensionsShaped}
 use Rattle.names.specs.Names.{nameOf}
 use Rattle.elements.specs.Steps.{onlyOf, pastOf}
 use Rattle.times.specs.Times.{timeAt}
-use Rattle.certificate.specs.declared.shapes.Layout.{Layout}
 use Rattle.certificate.specs.declared.shapes.Shape.{Shape}
 use Rattle.certificate.specs.declared.shapes.Shape.the-variants.{Parts, Broken}
 use Rattle.certificate.specs.declared.shapes.Front.{Front}
