@@ -77,9 +77,20 @@ module _ (s : List ℕ) (role : ℕ) where
     none-meets h =
         let holds = all-hold 2 (rulesOf s l (readingsOf s l) role) (omega arith) h in
         record {
-            version = holds 0; serial = holds 1; algorithms = holds 2; countries = holds 3; bare = holds 4; times = holds 5;
-            once = holds 6; usage = holds 7; constraints = holds 8; keys = holds 9; plain = holds 10; documents = holds 11;
-            uncritical = holds 12 }
+          version = holds 0;
+          serial = holds 1;
+          algorithms = holds 2;
+          countries = holds 3;
+          bare = holds 4;
+          times = holds 5;
+          once = holds 6;
+          usage = holds 7;
+          constraints = holds 8;
+          keys = holds 9;
+          plain = holds 10;
+          documents = holds 11;
+          uncritical = holds 12;
+        }
 
   -- An item passes in a role with some fields exactly when the role is 1, 2 or 3, the walk passes, the item has the shape, each
   -- of rules 2 to 14 holds, and the fields are those of its parts.
@@ -97,8 +108,15 @@ module _ (s : List ℕ) (role : ℕ) where
       walks low high count w = profile-by P (λ e. other) λ l shape.
           cond-by P (eqb (firstBroken 2 (rulesOf s l (readingsOf s l) role)) 0)
           (λ none e. record {
-              low = low; high = high; count = count; walks = w; layout = l; shape = shape;
-              meets = none-meets l (eqb-true _ _ none); fields = cc })
+            low = low;
+            high = high;
+            count = count;
+            walks = w;
+            layout = l;
+            shape = shape;
+            meets = none-meets l (eqb-true _ _ none);
+            fields = cc;
+          })
           (λ some. other)
 
       passes : Passes s role f → judgedOf s role ≡ Passed f
@@ -124,5 +142,5 @@ module _ (s : List ℕ) (role : ℕ) where
           cond-by P (eqb (firstBroken 2 (rulesOf s l (readingsOf s l) role)) 0)
           (λ none e. let z : _≡_ {A = ℕ} 0 1 = cc in absurd (omega arith))
           (λ some e.
-              let told : firstBroken 2 (rulesOf s l (readingsOf s l) role) ≡ k = cc in
-              rw shape (told-smallest 1 (true ∷ rulesOf s l (readingsOf s l) role) told λ (z : k ≡ 0). eqb-false _ _ some (told ∙ z)))
+          let told : firstBroken 2 (rulesOf s l (readingsOf s l) role) ≡ k = cc in
+          rw shape (told-smallest 1 (true ∷ rulesOf s l (readingsOf s l) role) told λ (z : k ≡ 0). eqb-false _ _ some (told ∙ z)))

@@ -38,22 +38,23 @@ keyLength (Key at end) = end - at
 unfoldable pub fieldsOf : Layout → Readings → Fields
 fieldsOf l r =
     record {
-        start = momentOf (r .start);
-        end = momentOf (r .finish);
-        first = firstLetter (r .issuer);
-        second = secondLetter (r .issuer);
-        «issuer_at» = l .issuer .at;
-        «issuer_len» = l .issuer .end - l .issuer .at;
-        «subject_at» = l .subject .at;
-        «subject_len» = l .subject .end - l .subject .at;
-        «key_at» = l .key .at;
-        «key_len» = l .key .end - l .key .at;
-        «serial_at» = l .serial .contents;
-        «serial_len» = l .serial .end - l .serial .contents;
-        «subject_key_at» = keyAt (r .own);
-        «subject_key_len» = keyLength (r .own);
-        «authority_key_at» = keyAt (r .authority);
-        «authority_key_len» = keyLength (r .authority) }
+      start = momentOf (r .start);
+      end = momentOf (r .finish);
+      first = firstLetter (r .issuer);
+      second = secondLetter (r .issuer);
+      «issuer_at» = l .issuer .at;
+      «issuer_len» = l .issuer .end - l .issuer .at;
+      «subject_at» = l .subject .at;
+      «subject_len» = l .subject .end - l .subject .at;
+      «key_at» = l .key .at;
+      «key_len» = l .key .end - l .key .at;
+      «serial_at» = l .serial .contents;
+      «serial_len» = l .serial .end - l .serial .contents;
+      «subject_key_at» = keyAt (r .own);
+      «subject_key_len» = keyLength (r .own);
+      «authority_key_at» = keyAt (r .authority);
+      «authority_key_len» = keyLength (r .authority);
+    }
 
 unfoldable pub graded : ℕ → Fields → Judged
 graded rule fields = cond (eqb rule 0) (Passed fields) (Refused (Profile rule))

@@ -17,19 +17,19 @@ use Rattle.certificate.specs.Answer.{fieldsOf, rulesOf}
 
 -- rules 2 to 14 of the parts that rule 1 found
 pub record Meets (s : List ℕ) (role : ℕ) (l : Layout) : Type 0 where
-  pub version : rule2 s l ≡ true -- 2
-  pub serial : rule3 s l ≡ true -- 3
-  pub algorithms : rule4 s l ≡ true -- 4
-  pub countries : rule5 (readingsOf s l) ≡ true -- 5
-  pub bare : rule6 l ≡ true -- 6
-  pub times : rule7 (readingsOf s l) ≡ true -- 7
-  pub once : rule8 s l ≡ true -- 8
-  pub usage : rule9 s (l .extensions) role ≡ true -- 9
-  pub constraints : rule10 s (l .extensions) role ≡ true -- 10
-  pub keys : rule11 (readingsOf s l) role ≡ true -- 11
-  pub plain : rule12 s (l .extensions) ≡ true -- 12
-  pub documents : rule13 s (l .extensions) role ≡ true -- 13
-  pub uncritical : rule14 s (l .extensions) ≡ true -- 14
+  pub version : rule2 s l ≡ true  -- 2
+  pub serial : rule3 s l ≡ true  -- 3
+  pub algorithms : rule4 s l ≡ true  -- 4
+  pub countries : rule5 (readingsOf s l) ≡ true  -- 5
+  pub bare : rule6 l ≡ true  -- 6
+  pub times : rule7 (readingsOf s l) ≡ true  -- 7
+  pub once : rule8 s l ≡ true  -- 8
+  pub usage : rule9 s (l .extensions) role ≡ true  -- 9
+  pub constraints : rule10 s (l .extensions) role ≡ true  -- 10
+  pub keys : rule11 (readingsOf s l) role ≡ true  -- 11
+  pub plain : rule12 s (l .extensions) ≡ true  -- 12
+  pub documents : rule13 s (l .extensions) role ≡ true  -- 13
+  pub uncritical : rule14 s (l .extensions) ≡ true  -- 14
 
 -- an item that passes in a role with these fields
 pub record Passes (s : List ℕ) (role : ℕ) (f : Fields) : Type 0 where
@@ -38,7 +38,7 @@ pub record Passes (s : List ℕ) (role : ℕ) (f : Fields) : Type 0 where
   pub count : ℕ
   pub walks : walkOf paper s ≡ walked.Passed count
   pub layout : Layout
-  pub shape : layoutOf s ≡ Parts layout -- 1
+  pub shape : layoutOf s ≡ Parts layout  -- 1
   pub meets : Meets s role layout
   pub fields : f ≡ fieldsOf layout (readingsOf s layout)
 

@@ -24,12 +24,13 @@ use Rattle.certificate.specs.Keys.{subjectKey, authorityKey, documentTyp
 unfoldable pub readingsOf : List ℕ → Layout → Readings
 readingsOf s l =
     record {
-        start = timeOf s (l .start);
-        finish = timeOf s (l .finish);
-        issuer = lettersOf s (l .«issuer_country»);
-        subject = lettersOf s (l .«subject_country»);
-        own = subjectKey s (l .extensions);
-        authority = authorityKey s (l .extensions) }
+      start = timeOf s (l .start);
+      finish = timeOf s (l .finish);
+      issuer = lettersOf s (l .«issuer_country»);
+      subject = lettersOf s (l .«subject_country»);
+      own = subjectKey s (l .extensions);
+      authority = authorityKey s (l .extensions);
+    }
 
 -- 2: version number 2 (v3)
 unfoldable pub rule2 : List ℕ → Layout → Bool

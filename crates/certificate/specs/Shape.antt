@@ -88,7 +88,18 @@ layoutOf s =
     onName (nameOf s subject) λ subjectCountry.
     cond (extensionsShaped s extensions)
     (Parts (record {
-        version = version; serial = serial; inner = inner; outer = outer; issuer = issuer; start = start; finish = finish;
-        subject = subject; key = key; unique = unique; extensions = extensions; «issuer_country» = issuerCountry;
-        «subject_country» = subjectCountry }))
+      version = version;
+      serial = serial;
+      inner = inner;
+      outer = outer;
+      issuer = issuer;
+      start = start;
+      finish = finish;
+      subject = subject;
+      key = key;
+      unique = unique;
+      extensions = extensions;
+      «issuer_country» = issuerCountry;
+      «subject_country» = subjectCountry;
+    }))
     Broken

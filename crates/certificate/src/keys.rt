@@ -2,13 +2,13 @@
 use der::Walked;
 use der::walk;
 use elements::Element;
-use extensions::Extension;
 use elements::Found;
 use elements::contents;
 use elements::element_at;
 use elements::element_tagged;
-use extensions::lookup;
 use elements::same;
+use extensions::Extension;
+use extensions::lookup;
 ghost use mathlib.Core.Path.{_≡_};
 ghost use Rattle.certificate.specs.Keys.{walks, octetString, firstOf, subjectKey, authorityKey, typesIn, listGood, documentTypes};
 

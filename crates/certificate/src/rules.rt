@@ -5,20 +5,20 @@ use crate::keys::document_types;
 use crate::keys::subject_key;
 use crate::shapes::Layout;
 use elements::Element;
-use extensions::Extension;
 use elements::Found;
-use names::Letters;
-use times::Time;
 use elements::contents;
-use extensions::doubled;
 use elements::element_at;
-use times::in_order;
-use names::letters_of;
-use extensions::lookup;
 use elements::same;
-use extensions::some_critical;
-use times::time_of;
 use elements::whole;
+use extensions::Extension;
+use extensions::doubled;
+use extensions::lookup;
+use extensions::some_critical;
+use names::Letters;
+use names::letters_of;
+use times::Time;
+use times::in_order;
+use times::time_of;
 ghost use mathlib.Core.Path.{_≡_};
 ghost use Rattle.refusal.specs.Rules.{firstBroken};
 ghost use Rattle.certificate.specs.Rules.{bothKeys, criticalWith, keyGood, plain, readingsOf, rule2, rule3, rule4, rule8, rule9, rule10, rule12, rule13, rules2to8, rules9to14, sameTwo};
@@ -155,10 +155,18 @@ fn algorithms_same(item: &[u8], l: Layout) -> bool
 fn same_two(one: Letters, other: Letters) -> bool
     ensures { λ r. ⌜ r ≡ sameTwo one other ⌝ }
 {
-    let Letters::Two { first: a, second: b } = one else {
+    let Letters::Two {
+        first: a,
+        second: b,
+    } = one
+    else {
         return false;
     };
-    let Letters::Two { first: c, second: d } = other else {
+    let Letters::Two {
+        first: c,
+        second: d,
+    } = other
+    else {
         return false;
     };
     if a != c {
@@ -195,7 +203,11 @@ fn constraints_good(item: &[u8], extensions: Element, role: u64) -> bool
 {
     let constraints = lookup(item, extensions, b"\x55\x1d\x13");
     if role == 3 {
-        if let Extension::Is { oid: _, critical: _, value: _ } = constraints {
+        if let Extension::Is {
+            oid: _,
+            critical: _,
+            value: _,
+        } = constraints {
             return false;
         }
         return true;
@@ -207,7 +219,12 @@ fn constraints_good(item: &[u8], extensions: Element, role: u64) -> bool
 fn critical_with(item: &[u8], octets: &[u8], extension: Extension) -> bool
     ensures { λ r. ⌜ r ≡ criticalWith (now (item .entry)) (now (octets .entry)) extension ⌝ }
 {
-    let Extension::Is { oid: _, critical, value } = extension else {
+    let Extension::Is {
+        oid: _,
+        critical,
+        value,
+    } = extension
+    else {
         return false;
     };
     if !critical {
@@ -255,7 +272,12 @@ fn four_plain(item: &[u8], extensions: Element) -> bool
 fn plain_there(extension: Extension) -> bool
     ensures { λ r. ⌜ r ≡ plain extension ⌝ }
 {
-    let Extension::Is { oid: _, critical, value: _ } = extension else {
+    let Extension::Is {
+        oid: _,
+        critical,
+        value: _,
+    } = extension
+    else {
         return false;
     };
     !critical

@@ -2,14 +2,14 @@
 use elements::Element;
 use elements::Envelope;
 use elements::Found;
-use names::Name;
-use names::Seen;
 use elements::element_tagged;
 use elements::envelope_of;
-use extensions::extensions_shaped;
-use names::name_of;
 use elements::only_member;
 use elements::past;
+use extensions::extensions_shaped;
+use names::Name;
+use names::Seen;
+use names::name_of;
 use times::time_at;
 ghost use mathlib.Core.Path.{_≡_};
 ghost use Rattle.certificate.specs.Shape.{frontOf, validityOf, uniqueEnd, backOf, layoutOf};
@@ -70,13 +70,26 @@ pub(crate) fn layout_of(item: &[u8]) -> Shape
     let Envelope::Parts { tbs, algorithm } = envelope_of(item) else {
         return Shape::Broken;
     };
-    let Front::Opens { version, serial, inner, issuer, validity } = front_of(item, tbs) else {
+    let Front::Opens {
+        version,
+        serial,
+        inner,
+        issuer,
+        validity,
+    } = front_of(item, tbs)
+    else {
         return Shape::Broken;
     };
     let Validity::Times { start, finish } = validity_of(item, validity) else {
         return Shape::Broken;
     };
-    let Back::Closes { subject, key, unique, extensions } = back_of(item, validity.end, tbs.end) else {
+    let Back::Closes {
+        subject,
+        key,
+        unique,
+        extensions,
+    } = back_of(item, validity.end, tbs.end)
+    else {
         return Shape::Broken;
     };
     let Name::Holds(issuer_country) = name_of(item, issuer) else {
@@ -128,7 +141,13 @@ fn front_of(item: &[u8], tbs: Element) -> Front
     let Found::One(validity) = element_tagged(item, issuer.end, end, 0x30) else {
         return Front::Frontless;
     };
-    Front::Opens { version, serial, inner, issuer, validity }
+    Front::Opens {
+        version,
+        serial,
+        inner,
+        issuer,
+        validity,
+    }
 }
 
 // Subject; key; optional 81; optional 82; A3 around one SEQUENCE.
@@ -151,7 +170,12 @@ fn back_of(item: &[u8], from: usize, end: usize) -> Back
     let Found::One(extensions) = only_member(item, last, 0x30) else {
         return Back::Backless;
     };
-    Back::Closes { subject, key, unique: after != key.end, extensions }
+    Back::Closes {
+        subject,
+        key,
+        unique: after != key.end,
+        extensions,
+    }
 }
 
 // A SEQUENCE of two times.

@@ -25,15 +25,16 @@ use Rattle.crl.specs.Shape.{layoutOf}
 unfoldable pub fieldsOf : Layout → Readings → Fields
 fieldsOf l r =
     record {
-        «this_update» = momentOf (r .current);
-        «next_update» = momentOf (r .coming);
-        first = firstLetter (r .country);
-        second = secondLetter (r .country);
-        entries = l .count;
-        «issuer_at» = l .issuer .at;
-        «issuer_len» = l .issuer .end - l .issuer .at;
-        «entries_from» = l .listing .from;
-        «entries_end» = l .listing .end }
+      «this_update» = momentOf (r .current);
+      «next_update» = momentOf (r .coming);
+      first = firstLetter (r .country);
+      second = secondLetter (r .country);
+      entries = l .count;
+      «issuer_at» = l .issuer .at;
+      «issuer_len» = l .issuer .end - l .issuer .at;
+      «entries_from» = l .listing .from;
+      «entries_end» = l .listing .end;
+    }
 
 unfoldable pub graded : ℕ → Fields → Judged
 graded rule fields = cond (eqb rule 0) (Passed fields) (Refused (Profile rule))

@@ -76,5 +76,16 @@ layoutOf s =
     onFound (lastOf s (listing .after) (tbs .end)) Broken λ extensions.
     onSurvey (surveyOf s (listing .from) (listing .end)) λ count timely calm.
     Parts (record {
-        version = version; inner = inner; outer = outer; issuer = issuer; country = country; current = current;
-        coming = coming; listing = listing; extensions = extensions; count = count; timely = timely; calm = calm })
+      version = version;
+      inner = inner;
+      outer = outer;
+      issuer = issuer;
+      country = country;
+      current = current;
+      coming = coming;
+      listing = listing;
+      extensions = extensions;
+      count = count;
+      timely = timely;
+      calm = calm;
+    })

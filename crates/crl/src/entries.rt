@@ -1,21 +1,38 @@
 // Entries of a CRL, and what the rules ask of all of them, found in one pass.
-use elements::{Element, Found, element_at, element_tagged};
-use extensions::{extensions_shaped, some_critical};
-use times::{Time, time_at, time_of};
+use elements::Element;
+use elements::Found;
+use elements::element_at;
+use elements::element_tagged;
+use extensions::extensions_shaped;
+use extensions::some_critical;
+use times::Time;
+use times::time_at;
+use times::time_of;
 ghost use mathlib.Core.Path.{_≡_};
 ghost use Rattle.crl.specs.Entries.{isTime, entryOf, surveyOf};
 ghost use Rattle.times.specs.Times.{timeOf};
 
 // An entry's serial, time and extensions.
 pub enum Entry {
-    Bare { serial: Element, time: Element },
-    Extended { serial: Element, time: Element, extensions: Element },
+    Bare {
+        serial: Element,
+        time: Element,
+    },
+    Extended {
+        serial: Element,
+        time: Element,
+        extensions: Element,
+    },
     Misshapen,
 }
 
 // The number of entries, whether each has a time that is one, and whether none has a critical extension.
 pub enum Survey {
-    Entries { count: usize, timely: bool, calm: bool },
+    Entries {
+        count: usize,
+        timely: bool,
+        calm: bool,
+    },
     Shapeless,
 }
 
@@ -28,7 +45,11 @@ pub(crate) fn survey_of(item: &[u8], from: usize, end: usize) -> Survey
     let mut at = from;
     loop {
         let Found::One(e) = element_at(item, at, end) else {
-            return Survey::Entries { count, timely, calm };
+            return Survey::Entries {
+                count,
+                timely,
+                calm,
+            };
         };
         match entry_of(item, e) {
             Entry::Misshapen => return Survey::Shapeless,
@@ -37,7 +58,11 @@ pub(crate) fn survey_of(item: &[u8], from: usize, end: usize) -> Survey
                     timely = false;
                 }
             }
-            Entry::Extended { serial: _, time, extensions } => {
+            Entry::Extended {
+                serial: _,
+                time,
+                extensions,
+            } => {
                 if !is_time(item, time) {
                     timely = false;
                 }
@@ -74,7 +99,11 @@ fn entry_of(item: &[u8], e: Element) -> Entry
         return Entry::Misshapen;
     }
     if extensions_shaped(item, extensions) {
-        return Entry::Extended { serial, time, extensions };
+        return Entry::Extended {
+            serial,
+            time,
+            extensions,
+        };
     }
     Entry::Misshapen
 }

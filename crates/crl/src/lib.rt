@@ -4,18 +4,25 @@ mod listing;
 mod rules;
 mod shapes;
 
-use calendar::{Difference, day_difference, real_day};
-use der::{Walked, walk};
+use calendar::Difference;
+use calendar::day_difference;
+use calendar::real_day;
+use der::Walked;
+use der::walk;
 use elements::between;
-use names::{first_letter, second_letter};
-use times::moment;
+use names::first_letter;
+use names::second_letter;
 use refusal::Refusal;
-use rules::{Readings, readings_of, rules_2_to_8};
-use shapes::{Layout, Shape, layout_of};
+use rules::Readings;
+use rules::readings_of;
+use rules::rules_2_to_8;
+use shapes::Layout;
+use shapes::Shape;
+use shapes::layout_of;
+use times::moment;
 ghost use mathlib.Core.Path.{_≡_};
 ghost use Rattle.crl.specs.Age.{ageOf};
 ghost use Rattle.crl.specs.Answer.{fieldsOf, profileOf, judgedOf};
-
 pub use listing::listed;
 
 // Both updates as YYYYMMDDHHMMSS, the issuer's letters, the number of entries, offset and length of the issuer with its

@@ -1,5 +1,10 @@
 // Whether a serial is listed.
-use elements::{Element, Found, contents, element_at, element_tagged, same};
+use elements::Element;
+use elements::Found;
+use elements::contents;
+use elements::element_at;
+use elements::element_tagged;
+use elements::same;
 ghost use mathlib.Core.Path.{_≡_};
 ghost use Rattle.crl.specs.Listed.{lists, listedOf};
 

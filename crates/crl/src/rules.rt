@@ -1,9 +1,17 @@
 // Rules 2 to 8 of the CRL profile, each told by its number where it is the first that is broken.
 use crate::shapes::Layout;
-use elements::{contents, same, whole};
-use extensions::{Extension, doubled, lookup, some_critical};
-use names::{Letters, letters_of};
-use times::{Time, in_order, time_of};
+use elements::contents;
+use elements::same;
+use elements::whole;
+use extensions::Extension;
+use extensions::doubled;
+use extensions::lookup;
+use extensions::some_critical;
+use names::Letters;
+use names::letters_of;
+use times::Time;
+use times::in_order;
+use times::time_of;
 ghost use mathlib.Core.Path.{_≡_};
 ghost use Rattle.extensions.specs.Extensions.{present};
 ghost use Rattle.refusal.specs.Rules.{firstBroken};
@@ -25,7 +33,11 @@ pub(crate) fn readings_of(item: &[u8], l: Layout) -> Readings
     let current = time_of(item, this);
     let coming = time_of(item, next);
     let country = letters_of(item, seen);
-    Readings { current, coming, country }
+    Readings {
+        current,
+        coming,
+        country,
+    }
 }
 
 // The first of rules 2 to 8 that is broken, else 0.
@@ -79,7 +91,10 @@ fn country_good(r: Readings) -> bool
 {
     let country = r.country;
     match country {
-        Letters::Two { first: _, second: _ } => true,
+        Letters::Two {
+            first: _,
+            second: _,
+        } => true,
         Letters::Unfit => false,
     }
 }
@@ -124,7 +139,11 @@ fn there(extension: Extension) -> bool
     ensures { λ r. ⌜ r ≡ present extension ⌝ }
 {
     match extension {
-        Extension::Is { oid: _, critical: _, value: _ } => true,
+        Extension::Is {
+            oid: _,
+            critical: _,
+            value: _,
+        } => true,
         Extension::Absent => false,
     }
 }

@@ -1,8 +1,16 @@
 // CRL rule 1: the shape.
-use crate::entries::{Survey, survey_of};
-use elements::{Element, Envelope, Found, element_tagged, envelope_of, only_member};
+use crate::entries::Survey;
+use crate::entries::survey_of;
+use elements::Element;
+use elements::Envelope;
+use elements::Found;
+use elements::element_tagged;
+use elements::envelope_of;
+use elements::only_member;
 use extensions::extensions_shaped;
-use names::{Name, Seen, name_of};
+use names::Name;
+use names::Seen;
+use names::name_of;
 use times::time_at;
 ghost use mathlib.Core.Path.{_≡_};
 ghost use Rattle.crl.specs.Shape.{frontOf, lastOf, listingOf, layoutOf};
@@ -55,7 +63,14 @@ pub(crate) fn layout_of(item: &[u8]) -> Shape
         return Shape::Broken;
     };
     let end = tbs.end;
-    let Front::Opens { version, inner, issuer, current, coming } = front_of(item, tbs) else {
+    let Front::Opens {
+        version,
+        inner,
+        issuer,
+        current,
+        coming,
+    } = front_of(item, tbs)
+    else {
         return Shape::Broken;
     };
     let Name::Holds(country) = name_of(item, issuer) else {
@@ -65,7 +80,12 @@ pub(crate) fn layout_of(item: &[u8]) -> Shape
     let Found::One(extensions) = last_of(item, listing.after, end) else {
         return Shape::Broken;
     };
-    let Survey::Entries { count, timely, calm } = survey_of(item, listing.from, listing.end) else {
+    let Survey::Entries {
+        count,
+        timely,
+        calm,
+    } = survey_of(item, listing.from, listing.end)
+    else {
         return Shape::Broken;
     };
     Shape::Parts(Layout {
@@ -104,7 +124,13 @@ fn front_of(item: &[u8], tbs: Element) -> Front
     let Found::One(coming) = time_at(item, current.end, end) else {
         return Front::Frontless;
     };
-    Front::Opens { version, inner, issuer, current, coming }
+    Front::Opens {
+        version,
+        inner,
+        issuer,
+        current,
+        coming,
+    }
 }
 
 // A0 around one SEQUENCE of extensions, which ends the tbs.
@@ -131,7 +157,17 @@ fn listing_of(from: usize, found: Found) -> Listing
     ensures { λ r. ⌜ r ≡ listingOf from found ⌝ }
 {
     match found {
-        Found::Missing => Listing { there: false, from: 0, end: 0, after: from },
-        Found::One(e) => Listing { there: true, from: e.contents, end: e.end, after: e.end },
+        Found::Missing => Listing {
+            there: false,
+            from: 0,
+            end: 0,
+            after: from,
+        },
+        Found::One(e) => Listing {
+            there: true,
+            from: e.contents,
+            end: e.end,
+            after: e.end,
+        },
     }
 }

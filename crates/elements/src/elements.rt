@@ -1,5 +1,6 @@
 // The elements that stand in a stretch of a walked item.
-use der::{Step, member};
+use der::Step;
+use der::member;
 ghost use mathlib.Core.Path.{_≡_};
 ghost use Rattle.elements.specs.Elements.{foundAt, foundTagged, wholeOf, contentsOf};
 ghost use Prim.Native.Nat.{_-_};
@@ -23,7 +24,12 @@ pub fn element_at(item: &[u8], from: usize, end: usize) -> Found
     ensures { λ r. ⌜ r ≡ foundAt (now (item .entry)) from end ⌝ }
 {
     match member(item, from, end) {
-        Step::At { tag, contents, end } => Found::One(Element { tag, at: from, contents, end }),
+        Step::At { tag, contents, end } => Found::One(Element {
+            tag,
+            at: from,
+            contents,
+            end,
+        }),
         Step::Nothing => Found::Missing,
     }
 }

@@ -4,7 +4,15 @@ mod envelopes;
 mod equality;
 mod steps;
 
-pub use elements::{Element, Found, contents, element_at, element_tagged, whole};
-pub use envelopes::{Envelope, envelope_of};
+pub use elements::Element;
+pub use elements::Found;
+pub use elements::contents;
+pub use elements::element_at;
+pub use elements::element_tagged;
+pub use elements::whole;
+pub use envelopes::Envelope;
+pub use envelopes::envelope_of;
 pub use equality::same;
-pub use steps::{between, only_member, past};
+pub use steps::between;
+pub use steps::only_member;
+pub use steps::past;

@@ -1,11 +1,20 @@
 // Extensions: their shape, the look-up by OID, and that none stands twice.
-use elements::{Element, Found, contents, element_at, element_tagged, same};
+use elements::Element;
+use elements::Found;
+use elements::contents;
+use elements::element_at;
+use elements::element_tagged;
+use elements::same;
 ghost use mathlib.Core.Path.{_≡_};
 ghost use Rattle.extensions.specs.Extensions.{holdingOf, extensionOf, extensionsShaped, lookupOf, doubledOf, hasOid, placeIn, sameOids, refusedCritical, criticalOf};
 ghost use Rattle.elements.specs.Elements.{membersOf};
 
 pub enum Extension {
-    Is { oid: Element, critical: bool, value: Element },
+    Is {
+        oid: Element,
+        critical: bool,
+        value: Element,
+    },
     Absent,
 }
 
@@ -46,7 +55,11 @@ fn holding(extension: Element, oid: Element, critical: bool, next: Found) -> Ext
         return Extension::Absent;
     }
     if value.end == extension.end {
-        return Extension::Is { oid, critical, value };
+        return Extension::Is {
+            oid,
+            critical,
+            value,
+        };
     }
     Extension::Absent
 }
@@ -63,7 +76,12 @@ pub fn extensions_shaped(item: &[u8], e: Element) -> bool
         let Found::One(one) = element_at(item, at, e.end) else {
             return true;
         };
-        let Extension::Is { oid: _, critical: _, value: _ } = extension_of(item, one) else {
+        let Extension::Is {
+            oid: _,
+            critical: _,
+            value: _,
+        } = extension_of(item, one)
+        else {
             return false;
         };
         at = one.end;
@@ -145,7 +163,12 @@ fn place_of(item: &[u8], from: usize, end: usize, oid: &[u8]) -> usize
 fn has_oid(item: &[u8], oid: &[u8], extension: Extension) -> bool
     ensures { λ r. ⌜ r ≡ hasOid (now (item .entry)) (now (oid .entry)) extension ⌝ }
 {
-    let Extension::Is { oid: own, critical: _, value: _ } = extension else {
+    let Extension::Is {
+        oid: own,
+        critical: _,
+        value: _,
+    } = extension
+    else {
         return false;
     };
     same(contents(item, own), oid)
@@ -155,7 +178,12 @@ fn has_oid(item: &[u8], oid: &[u8], extension: Extension) -> bool
 fn alike_oids(item: &[u8], one: Extension, other: Extension) -> bool
     ensures { λ r. ⌜ r ≡ sameOids (now (item .entry)) one other ⌝ }
 {
-    let Extension::Is { oid, critical: _, value: _ } = one else {
+    let Extension::Is {
+        oid,
+        critical: _,
+        value: _,
+    } = one
+    else {
         return false;
     };
     has_oid(item, contents(item, oid), other)
@@ -164,7 +192,12 @@ fn alike_oids(item: &[u8], one: Extension, other: Extension) -> bool
 fn refused_critical(item: &[u8], allow: bool, extension: Extension) -> bool
     ensures { λ r. ⌜ r ≡ refusedCritical (now (item .entry)) allow extension ⌝ }
 {
-    let Extension::Is { oid, critical, value: _ } = extension else {
+    let Extension::Is {
+        oid,
+        critical,
+        value: _,
+    } = extension
+    else {
         return false;
     };
     if !critical {

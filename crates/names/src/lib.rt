@@ -1,5 +1,10 @@
 // Names, and the countryName in one.
-use elements::{Element, Found, contents, element_at, element_tagged, same};
+use elements::Element;
+use elements::Found;
+use elements::contents;
+use elements::element_at;
+use elements::element_tagged;
+use elements::same;
 ghost use mathlib.Core.Path.{_≡_};
 ghost use Rattle.names.specs.Names.{attributeOf, oneMore, oneSet, nameOf, isCapital, lettersOf, firstLetter, secondLetter};
 
@@ -127,7 +132,10 @@ pub fn letters_of(item: &[u8], seen: Seen) -> Letters
     if !capital(c[1]) {
         return Letters::Unfit;
     }
-    Letters::Two { first: c[0], second: c[1] }
+    Letters::Two {
+        first: c[0],
+        second: c[1],
+    }
 }
 
 fn capital(o: u8) -> bool

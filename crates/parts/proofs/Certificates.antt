@@ -96,8 +96,16 @@ laid s l e =
     let h = kept (extensionsShaped s (d .3)) _ Broken (Parts l) broken (g .1) in
     subst (Laid s) (parts-same (h .1))
     (record {
-        tbs = a .0; outer = a .1; version = b .0; validity = b .4; unique = d .2; last = d .3; around = a .2; front = b .5;
-        back = d .4 })
+      tbs = a .0;
+      outer = a .1;
+      version = b .0;
+      validity = b .4;
+      unique = d .2;
+      last = d .3;
+      around = a .2;
+      front = b .5;
+      back = d .4;
+    })
 
 -- the first five members of the tbs
 pub record Fronted (s : List ℕ) (end : ℕ) (members : Trees) (b c d v : Element) : Type 0 where
@@ -143,20 +151,21 @@ fronted s tbs a b c d v members sp e =
     let t6 = tagged-first s _ (tbs .end) 0x30 (t5 .rest) (f6 .element) (t5 .member .next) (f6 .there) in
     let same = opens-same (f6 .then) in
     record {
-        version = t1 .tree;
-        serial = t3 .tree;
-        inner = t4 .tree;
-        issuer = t5 .tree;
-        validity = t6 .tree;
-        rest = t6 .rest;
-        split = split-five (t1 .split) (t3 .split) (t4 .split) (t5 .split) (t6 .split);
-        serial-member =
-            subst (λ (m : Trees). Member s (tbs .end) b (t3 .tree) m) (split-three (t4 .split) (t5 .split) (t6 .split))
-            (subst (λ (x : Element). Member s (tbs .end) x (t3 .tree) (t3 .rest)) (same .0) (t3 .member));
-        issuer-member =
-            subst (λ (m : Trees). Member s (tbs .end) d (t5 .tree) m) (t6 .split)
-            (subst (λ (x : Element). Member s (tbs .end) x (t5 .tree) (t5 .rest)) (same .1) (t5 .member));
-        next = subst (λ (x : Element). Spans s (x .end) (tbs .end) (t6 .rest)) (same .2) (t6 .member .next) }
+      version = t1 .tree;
+      serial = t3 .tree;
+      inner = t4 .tree;
+      issuer = t5 .tree;
+      validity = t6 .tree;
+      rest = t6 .rest;
+      split = split-five (t1 .split) (t3 .split) (t4 .split) (t5 .split) (t6 .split);
+      serial-member =
+          subst (λ (m : Trees). Member s (tbs .end) b (t3 .tree) m) (split-three (t4 .split) (t5 .split) (t6 .split))
+          (subst (λ (x : Element). Member s (tbs .end) x (t3 .tree) (t3 .rest)) (same .0) (t3 .member));
+      issuer-member =
+          subst (λ (m : Trees). Member s (tbs .end) d (t5 .tree) m) (t6 .split)
+          (subst (λ (x : Element). Member s (tbs .end) x (t5 .tree) (t5 .rest)) (same .1) (t5 .member));
+      next = subst (λ (x : Element). Spans s (x .end) (tbs .end) (t6 .rest)) (same .2) (t6 .member .next);
+    }
 
 -- the two members after them
 pub record Backed (s : List ℕ) (end : ℕ) (members : Trees) (a b : Element) : Type 0 where
@@ -189,11 +198,12 @@ backed s from end a b c d members sp e =
     let f4 = went (onlyOf s (f3 .element) 0x30) Backless _ r backless (k .1) in
     let same = closes-same (f4 .then) in
     record {
-        subject = t1 .tree;
-        key = t2 .tree;
-        rest = t2 .rest;
-        split = split-two (t1 .split) (t2 .split);
-        subject-member =
-            subst (λ (m : Trees). Member s end a (t1 .tree) m) (t2 .split)
-            (subst (λ (x : Element). Member s end x (t1 .tree) (t1 .rest)) (same .0) (t1 .member));
-        key-member = subst (λ (x : Element). Member s end x (t2 .tree) (t2 .rest)) (same .1) (t2 .member) }
+      subject = t1 .tree;
+      key = t2 .tree;
+      rest = t2 .rest;
+      split = split-two (t1 .split) (t2 .split);
+      subject-member =
+          subst (λ (m : Trees). Member s end a (t1 .tree) m) (t2 .split)
+          (subst (λ (x : Element). Member s end x (t1 .tree) (t1 .rest)) (same .0) (t1 .member));
+      key-member = subst (λ (x : Element). Member s end x (t2 .tree) (t2 .rest)) (same .1) (t2 .member);
+    }

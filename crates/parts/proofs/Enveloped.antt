@@ -94,11 +94,12 @@ enveloped s tree tbs outer root e =
     let k = kept (eqb (d .element .end) (a .element .end)) _ Formless (Parts tbs outer) formless (d .then) in
     let gone = span-none s (a .element .end) (v .rest) (subst (λ (n : ℕ). Spans s n (a .element .end) (v .rest)) (eqb-true _ _ (k .0)) (v .member .next)) in
     record {
-        members = j .0;
-        algorithm = u .tree;
-        signature = v .tree;
-        shape = shape-of (o .split) (i .1) (t .split) (j .1) (u .split) (v .split) gone;
-        span = subst (λ (x : Element). Spans s (x .contents) (x .end) (j .0)) (parts-same (k .1)) (j .2) }
+      members = j .0;
+      algorithm = u .tree;
+      signature = v .tree;
+      shape = shape-of (o .split) (i .1) (t .split) (j .1) (u .split) (v .split) gone;
+      span = subst (λ (x : Element). Spans s (x .contents) (x .end) (j .0)) (parts-same (k .1)) (j .2);
+    }
   where
     formless : _≡_ {A = Envelope} Formless (Parts tbs outer) → ⊥
     formless p = let z : _≡_ {A = ℕ} 0 1 = cc in omega arith

@@ -109,10 +109,11 @@ fronted s tbs a b c d e members sp p =
     let f4 = went (timeAt s (f3 .element .end) (tbs .end)) Frontless _ r frontless (f3 .then) in
     let f5 = went (timeAt s (f4 .element .end) (tbs .end)) Frontless _ r frontless (f4 .then) in
     record {
-        version = t1 .tree;
-        inner = t2 .tree;
-        issuer = t3 .tree;
-        rest = t3 .rest;
-        split = split-three (t1 .split) (t2 .split) (t3 .split);
-        issuer-member =
-            subst (λ (x : Element). Member s (tbs .end) x (t3 .tree) (t3 .rest)) (opens-same (f5 .then)) (t3 .member) }
+      version = t1 .tree;
+      inner = t2 .tree;
+      issuer = t3 .tree;
+      rest = t3 .rest;
+      split = split-three (t1 .split) (t2 .split) (t3 .split);
+      issuer-member =
+          subst (λ (x : Element). Member s (tbs .end) x (t3 .tree) (t3 .rest)) (opens-same (f5 .then)) (t3 .member);
+    }

@@ -52,10 +52,11 @@ module _ (before behind : List ℕ) (tree : Tree) (trees : Trees) (sound : Sound
   first : Element
   first =
       record {
-          tag = tagOf tree;
-          at = length before;
-          contents = length before + length (headerOf tree);
-          end = length before + length (encoded tree) }
+        tag = tagOf tree;
+        at = length before;
+        contents = length before + length (headerOf tree);
+        end = length before + length (encoded tree);
+      }
 
   first-found : foundAt item (length before) stop-at ≡ One first
   unfolding item stop-at first foundAt stepped
@@ -65,12 +66,13 @@ module _ (before behind : List ℕ) (tree : Tree) (trees : Trees) (sound : Sound
   unfolding item stop-at first wholeOf elements.contentsOf contentsOf
   first-member =
       record {
-          tag = refl;
-          octets = whole-part;
-          contents = step-contents before behind tree trees;
-          sound = sound;
-          next = next-span;
-          inside = inside-span }
+        tag = refl;
+        octets = whole-part;
+        contents = step-contents before behind tree trees;
+        sound = sound;
+        next = next-span;
+        inside = inside-span;
+      }
     where
       whole-part : take (length before + length (encoded tree) - length before) (drop (length before) (before ++ encodedAll (more tree trees) ++ behind)) ≡ encoded tree
       whole-part =
@@ -80,24 +82,26 @@ module _ (before behind : List ℕ) (tree : Tree) (trees : Trees) (sound : Sound
       next-span : Spans (before ++ encodedAll (more tree trees) ++ behind) (length before + length (encoded tree)) (length before + length (encodedAll (more tree trees))) trees
       next-span =
           record {
-              before = before ++ encoded tree;
-              behind = behind;
-              whole = sym (step-next before behind tree trees);
-              start = length-append before (encoded tree);
-              stop = omega (arith, length-append before (encoded tree), length-more tree trees);
-              sound = rest }
+            before = before ++ encoded tree;
+            behind = behind;
+            whole = sym (step-next before behind tree trees);
+            start = length-append before (encoded tree);
+            stop = omega (arith, length-append before (encoded tree), length-more tree trees);
+            sound = rest;
+          }
 
       inside-span : (tag : ℕ) (members : Trees) → tree ≡ node tag members → Spans (before ++ encodedAll (more tree trees) ++ behind) (length before + length (headerOf tree)) (length before + length (encoded tree)) members
       inside-span tag members e =
           let c : contentsOf tree ≡ encodedAll members = ap contentsOf e in
           let n : length (contentsOf tree) ≡ length (encodedAll members) = ap length c in
           record {
-              before = before ++ headerOf tree;
-              behind = encodedAll trees ++ behind;
-              whole = rw (← c) (sym (step-inside before behind tree trees));
-              start = length-append before (headerOf tree);
-              stop = omega (arith, length-append before (headerOf tree), length-parts tree);
-              sound = members-sound tag members (subst (Sound paper) e sound) }
+            before = before ++ headerOf tree;
+            behind = encodedAll trees ++ behind;
+            whole = rw (← c) (sym (step-inside before behind tree trees));
+            start = length-append before (headerOf tree);
+            stop = omega (arith, length-append before (headerOf tree), length-parts tree);
+            sound = members-sound tag members (subst (Sound paper) e sound);
+          }
 
   found-member : (e : Element) → foundAt item (length before) stop-at ≡ One e → Member item stop-at e tree trees
   found-member e f = subst (λ (x : Element). Member item stop-at x tree trees) (one (sym first-found ∙ f)) first-member

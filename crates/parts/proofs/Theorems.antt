@@ -38,12 +38,13 @@ root : (item : List ℕ) (n : ℕ) (e : Encodes paper item n) → Spans item 0 (
 unfolding encodedAll
 root item n e =
     record {
-        before = [];
-        behind = [];
-        whole = append-nil (encoded (e .tree) ++ []) ∙ append-nil (encoded (e .tree)) ∙ e .bytes;
-        start = refl;
-        stop = (let n : length (encoded (e .tree) ++ []) ≡ length item = ap length (append-nil (encoded (e .tree)) ∙ e .bytes) in omega arith);
-        sound = sound-more (e .sound) sound-none }
+      before = [];
+      behind = [];
+      whole = append-nil (encoded (e .tree) ++ []) ∙ append-nil (encoded (e .tree)) ∙ e .bytes;
+      start = refl;
+      stop = (let n : length (encoded (e .tree) ++ []) ≡ length item = ap length (append-nil (encoded (e .tree)) ∙ e .bytes) in omega arith);
+      sound = sound-more (e .sound) sound-none;
+    }
 
 certificate-shape :
     {tree version serial inner issuer validity subject key algorithm signature : Tree} {members after rest : Trees}
@@ -68,22 +69,23 @@ certificate-parts item role f octets e =
     let shape = certificate-shape (v .shape) (a .split) (b .split) in
     subst (Certificate item) (sym (p .fields))
     (record {
-        version = a .version;
-        serial = a .serial;
-        inner = a .inner;
-        issuer = a .issuer;
-        validity = a .validity;
-        subject = b .subject;
-        key = b .key;
-        rest = b .rest;
-        algorithm = v .algorithm;
-        signature = v .signature;
-        tree = ap encoded (sym shape) ∙ t .bytes;
-        sound = subst (Sound paper) shape (t .sound);
-        serial-part = a .serial-member .contents;
-        issuer-part = a .issuer-member .octets;
-        subject-part = b .subject-member .octets;
-        key-part = b .key-member .octets })
+      version = a .version;
+      serial = a .serial;
+      inner = a .inner;
+      issuer = a .issuer;
+      validity = a .validity;
+      subject = b .subject;
+      key = b .key;
+      rest = b .rest;
+      algorithm = v .algorithm;
+      signature = v .signature;
+      tree = ap encoded (sym shape) ∙ t .bytes;
+      sound = subst (Sound paper) shape (t .sound);
+      serial-part = a .serial-member .contents;
+      issuer-part = a .issuer-member .octets;
+      subject-part = b .subject-member .octets;
+      key-part = b .key-member .octets;
+    })
 
 crl-shape :
     {tree version inner issuer algorithm signature : Tree} {members rest : Trees}
@@ -104,12 +106,13 @@ crl-parts item f octets e =
     let shape = crl-shape (v .shape) (a .split) in
     subst (Crl item) (sym (p .fields))
     (record {
-        version = a .version;
-        inner = a .inner;
-        issuer = a .issuer;
-        rest = a .rest;
-        algorithm = v .algorithm;
-        signature = v .signature;
-        tree = ap encoded (sym shape) ∙ t .bytes;
-        sound = subst (Sound paper) shape (t .sound);
-        issuer-part = a .issuer-member .octets })
+      version = a .version;
+      inner = a .inner;
+      issuer = a .issuer;
+      rest = a .rest;
+      algorithm = v .algorithm;
+      signature = v .signature;
+      tree = ap encoded (sym shape) ∙ t .bytes;
+      sound = subst (Sound paper) shape (t .sound);
+      issuer-part = a .issuer-member .octets;
+    })

@@ -1,6 +1,9 @@
 // Times, as numbers YYYYMMDDHHMMSS.
 use calendar::any_moment;
-use elements::{Element, Found, contents, element_at};
+use elements::Element;
+use elements::Found;
+use elements::contents;
+use elements::element_at;
 ghost use mathlib.Core.Path.{_≡_};
 ghost use Rattle.times.specs.Times.{decimalOf, realTime, timeIn, timeOf, timeTag, momentOf, inOrder, timeAt};
 ghost use Prim.Native.Nat.{_≤_};

@@ -69,19 +69,18 @@ loop-again : tie.Need-loop-again Inv-loop μ-loop
 loop-again c =
     let was = c .before .before .before .before .before .before .loop in
     let found = sym (c .before .before .before .before .before .element-at .ensures) ∙ c .before .before .before .e .given .1 in
-    let entry = sym (c .before .entry-of .ensures) in
-    (
+    let entry = sym (c .before .entry-of .ensures) in (
       omega (arith, was .inv .0, ap length (members-more _ _ _ found)),
       was .inv .1
-      ∙ survey-on _ _ _ _ _ _ found
-      (⊎-elim
-      (λ w. bare-adds (entry ∙ w .1 .given .1) (falls (was .timely) (sym (w .3 .ensures) ∙ not-true _ (w .4 .taken)) (w .5)) (w .6))
-      (⊎-elim
-      (λ w. bare-adds (entry ∙ w .1 .given .1) (stays (was .timely) (sym (w .3 .ensures) ∙ not-false _ (w .4 .left)) (w .5)) (w .6))
-      (⊎-elim
-      (λ w. extended-adds (entry ∙ w .1 .given .1) (w .7 ∙ ⊎-elim (λ v. falls (was .timely) (sym (w .3 .ensures) ∙ not-true _ (v .0 .taken)) (v .1)) (λ v. stays (was .timely) (sym (w .3 .ensures) ∙ not-false _ (v .0 .left)) (v .1)) (w .4 .came)) (falls (was .calm) (ap not (sym (w .5 .ensures) ∙ w .6 .taken)) (w .8)))
-      (λ w. extended-adds (entry ∙ w .1 .given .1) (w .7 ∙ ⊎-elim (λ v. falls (was .timely) (sym (w .3 .ensures) ∙ not-true _ (v .0 .taken)) (v .1)) (λ v. stays (was .timely) (sym (w .3 .ensures) ∙ not-false _ (v .0 .left)) (v .1)) (w .4 .came)) (stays (was .calm) (ap not (sym (w .5 .ensures) ∙ w .6 .left)) (w .8)))))
-      (c .match2 .came)),
+          ∙ survey-on _ _ _ _ _ _ found
+          (⊎-elim
+          (λ w. bare-adds (entry ∙ w .1 .given .1) (falls (was .timely) (sym (w .3 .ensures) ∙ not-true _ (w .4 .taken)) (w .5)) (w .6))
+          (⊎-elim
+          (λ w. bare-adds (entry ∙ w .1 .given .1) (stays (was .timely) (sym (w .3 .ensures) ∙ not-false _ (w .4 .left)) (w .5)) (w .6))
+          (⊎-elim
+          (λ w. extended-adds (entry ∙ w .1 .given .1) (w .7 ∙ ⊎-elim (λ v. falls (was .timely) (sym (w .3 .ensures) ∙ not-true _ (v .0 .taken)) (v .1)) (λ v. stays (was .timely) (sym (w .3 .ensures) ∙ not-false _ (v .0 .left)) (v .1)) (w .4 .came)) (falls (was .calm) (ap not (sym (w .5 .ensures) ∙ w .6 .taken)) (w .8)))
+          (λ w. extended-adds (entry ∙ w .1 .given .1) (w .7 ∙ ⊎-elim (λ v. falls (was .timely) (sym (w .3 .ensures) ∙ not-true _ (v .0 .taken)) (v .1)) (λ v. stays (was .timely) (sym (w .3 .ensures) ∙ not-false _ (v .0 .left)) (v .1)) (w .4 .came)) (stays (was .calm) (ap not (sym (w .5 .ensures) ∙ w .6 .left)) (w .8)))))
+          (c .match2 .came)),
     )
 
 pub survey-of-spec : {M : Type 1} → statement M
