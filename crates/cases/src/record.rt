@@ -23,7 +23,7 @@ pub(crate) fn read_head(head: &[u8]) -> Question
 }
 
 // The big-endian number of some octets. The remainder by 2 to the power of 56 leaves room for one octet more.
-fn number(octets: &[u8]) -> u64 {
+pub(crate) fn number(octets: &[u8]) -> u64 {
     let mut value: u64 = 0;
     let mut i = 0;
     while i < octets.len() {
