@@ -4,10 +4,12 @@ import zlib
 
 import oracle_image
 from image_build import ANCHOR, CRL, DAY, LINK, SIGNER, Item, image, items, sized, some_octets
-from record import WRITE, Case
+from record import WRITE, WRITE_FILLED, Case
 from refused import Refused
 
 MOST = 2 ** 64 - 1
+# packed items of this octet alone are not stored, the program has them
+FILL = b'\x5a'
 FOUR = [Item(ANCHOR, 1, some_octets(300, 1)), Item(LINK, 0, some_octets(5, 2)), Item(SIGNER, 0, some_octets(258, 3)),
         Item(CRL, 0, some_octets(7, 4))]
 
@@ -32,16 +34,19 @@ def wrote(label, listed, stated, room=None, day=DAY, packed=None, kinds=None, fl
         assert oracle_image.opened(output[:length]) == (len(listed), day), label
     except Refused as refusal:
         found = answer(refusal.words(), output)
-    return Case('write: ' + label, WRITE, found, asked(packed, kinds, flags, lengths), (day, room), wanted)
+    numbers, rest = (day, room, len(packed)), columns_of(kinds, flags, lengths)
+    if packed and FILL * len(packed) == packed:
+        return Case('write: ' + label, WRITE_FILLED, found, rest, numbers, wanted)
+    return Case('write: ' + label, WRITE, found, packed + rest, numbers, wanted)
 
 
 def answer(words, output):
     return '%s, output %d octets, checksum %d' % (words, len(output), zlib.adler32(output))
 
 
-def asked(packed, kinds, flags, lengths):
-    counts = struct.pack('>4I', len(packed), len(kinds), len(flags), len(lengths))
-    return counts + packed + bytes(kinds) + bytes(flags) + struct.pack('>%dI' % len(lengths), *lengths)
+def columns_of(kinds, flags, lengths):
+    counts = struct.pack('>3I', len(kinds), len(flags), len(lengths))
+    return counts + bytes(kinds) + bytes(flags) + struct.pack('>%dI' % len(lengths), *lengths)
 
 
 def good():
@@ -50,10 +55,12 @@ def good():
                           ('two links', items(2, LINK)), ('an anchor that is not enabled', items(1, ANCHOR))):
         size = len(image(listed))
         yield wrote('%s, room for it' % label, listed, None)
-        yield wrote('%s, room for one octet more' % label, listed, None, size + 1)
         yield wrote('%s, room for 100 octets more' % label, listed, None, size + 100)
         yield wrote('%s, one octet too short' % label, listed, 'refused 9', size - 1)
-        yield wrote('%s, no room' % label, listed, 'refused 9', 0)
+    yield wrote('no items, room for one octet more', [], None, 13)
+    yield wrote('no items, no room', [], 'refused 9', 0)
+    yield wrote('one of each kind, room for one octet more', FOUR, None, len(image(FOUR)) + 1)
+    yield wrote('one of each kind, no room', FOUR, 'refused 9', 0)
     for day in (19500101, 20991231, 20240229):
         yield wrote('no items, day %d' % day, [], None, day=day)
     yield wrote('an item of 16384 octets', [Item(LINK, 0, some_octets(16384))], None)
@@ -112,7 +119,8 @@ def columns():
 
 
 def limits():
-    most, over = sized(262144), sized(262145)
+    most = sized(262144)
+    over = [item._replace(octets=FILL * len(item.octets)) for item in sized(262145)]
     yield wrote('97 items', items(97, CRL), 'refused 1')
     yield wrote('97 items, kinds and flags of 96', items(97, CRL), 'refused 1', kinds=[4] * 96, flags=[0] * 96)
     yield wrote('an image of 262144 octets', most, None)
@@ -137,12 +145,16 @@ def several():
 def no_questions():
     """Records that tell more than they hold."""
     none = 'no such question'
-    for label, item in (('15 octets', bytes(15)), ('packed octets that are not there', asked(b'', [], [], [])[:3] + b'\1'),
-                        ('kinds that are not there', struct.pack('>4I', 0, 1, 0, 0)),
-                        ('flags that are not there', struct.pack('>4I', 0, 0, 1, 0)),
-                        ('129 lengths', struct.pack('>4I', 0, 0, 0, 129))):
-        yield Case('write: %s' % label, WRITE, none, item, (DAY, 100))
-    yield Case('write: room for 300001 octets', WRITE, none, asked(b'', [], [], []), (DAY, 300001))
+    for label, kind, item, packed in (
+            ('packed octets that are not there', WRITE, columns_of([], [], []), 13),
+            ('2^64 - 1 packed octets', WRITE, columns_of([], [], []), MOST),
+            ('300001 packed octets', WRITE_FILLED, columns_of([], [], []), 300001),
+            ('11 octets', WRITE, bytes(11), 0),
+            ('kinds that are not there', WRITE, struct.pack('>3I', 1, 0, 0), 0),
+            ('flags that are not there', WRITE, struct.pack('>3I', 0, 1, 0), 0),
+            ('129 lengths', WRITE, struct.pack('>3I', 0, 0, 129), 0)):
+        yield Case('write: %s' % label, kind, none, item, (DAY, 100, packed))
+    yield Case('write: room for 300001 octets', WRITE, none, columns_of([], [], []), (DAY, 300001, 0))
 
 
 def cases():

@@ -26,8 +26,8 @@ import cases_write
 from record import CERTIFICATE, CRL, IMAGE, NO_KIND, ROOM, WALK, Case, head
 
 PARTS = (cases_der, cases_contents, cases_limits, cases_integer, cases_member, cases_days, cases_certificate,
-         cases_certificate_shape, cases_certificate_parts, cases_certificate_extensions, cases_crl, cases_listed, cases_image,
-         cases_write)
+         cases_certificate_shape, cases_certificate_parts, cases_certificate_extensions, cases_crl, cases_listed,
+         cases_image, cases_write)
 FOLDER = pathlib.Path(__file__).resolve().parents[2] / 'crates' / 'cases'
 
 

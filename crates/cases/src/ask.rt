@@ -12,6 +12,7 @@ pub(crate) fn answer(question: Question, bytes: &[u8]) {
     let kind = question.kind;
     let first = question.first;
     let second = question.second;
+    let third = question.third;
     match kind {
         1 => items::walk(bytes),
         2 => items::integer(bytes),
@@ -29,7 +30,8 @@ pub(crate) fn answer(question: Question, bytes: &[u8]) {
         14 => images::open_for(bytes, first),
         15 => images::entry(bytes, first),
         16 => images::item(bytes, first),
-        17 => writing::write(bytes, first, second),
+        17 => writing::write(bytes, first, second, third),
+        18 => writing::write_filled(bytes, first, second, third),
         _ => say::text(b"no such question"),
     }
 }

@@ -8,6 +8,7 @@ pub(crate) struct Question {
     pub size: usize,
     pub first: u64,
     pub second: u64,
+    pub third: u64,
 }
 
 pub(crate) fn read_head(head: &[u8]) -> Question
@@ -19,6 +20,7 @@ pub(crate) fn read_head(head: &[u8]) -> Question
         size: number(&head[4..8]) as usize,
         first: number(&head[8..16]),
         second: number(&head[16..24]),
+        third: number(&head[24..32]),
     }
 }
 

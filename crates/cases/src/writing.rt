@@ -1,42 +1,57 @@
-// Questions to the writer. The bytes hold four counts, each in four octets: of the octets of the packed items, of the kinds,
-// of the flags, of the lengths. Then come these themselves, a length in four octets.
+// Questions to the writer. The bytes hold the packed items, then three counts, each in four octets: of the kinds, of the
+// flags, of the lengths. Then come these themselves, a length in four octets.
 use crate::record;
 use crate::say;
 use crate::sums;
 use writer::Written;
 
-pub(crate) fn write(bytes: &[u8], day: u64, room: u64) {
+pub(crate) fn write(bytes: &[u8], day: u64, room: u64, packed: u64) {
+    let end = bytes.len();
+    if (end as u64) < packed {
+        no_question();
+        return;
+    }
+    let middle = packed as usize;
+    lend(&bytes[0..middle], &bytes[middle..end], day, room);
+}
+
+// The packed items are octets of one value, and not among the bytes.
+pub(crate) fn write_filled(bytes: &[u8], day: u64, room: u64, packed: u64) {
+    let filled = [0x5Au8; 300_000];
+    if 300_000 < packed {
+        no_question();
+        return;
+    }
+    let end = packed as usize;
+    lend(&filled[0..end], bytes, day, room);
+}
+
+fn lend(packed: &[u8], bytes: &[u8], day: u64, room: u64) {
     let mut lengths = [0u32; 128];
     let mut output = [0xEEu8; 300_000];
-    take_apart(bytes, day, room, &mut lengths, &mut output);
+    take_apart(packed, bytes, day, room, &mut lengths, &mut output);
 }
 
 // Finds the columns among the bytes.
-fn take_apart(bytes: &[u8], day: u64, room: u64, lengths: &mut [u32], output: &mut [u8]) {
+fn take_apart(packed: &[u8], bytes: &[u8], day: u64, room: u64, lengths: &mut [u32], output: &mut [u8]) {
     let end = bytes.len();
-    if end < 16 {
+    if end < 12 {
         no_question();
         return;
     }
-    let packed = record::number(&bytes[0..4]);
-    if ((end - 16) as u64) < packed {
+    let kinds = record::number(&bytes[0..4]);
+    if ((end - 12) as u64) < kinds {
         no_question();
         return;
     }
-    let kinds_at = 16 + packed as usize;
-    let kinds = record::number(&bytes[4..8]);
-    if ((end - kinds_at) as u64) < kinds {
-        no_question();
-        return;
-    }
-    let flags_at = kinds_at + kinds as usize;
-    let flags = record::number(&bytes[8..12]);
+    let flags_at = 12 + kinds as usize;
+    let flags = record::number(&bytes[4..8]);
     if ((end - flags_at) as u64) < flags {
         no_question();
         return;
     }
     let lengths_at = flags_at + flags as usize;
-    let count = record::number(&bytes[12..16]);
+    let count = record::number(&bytes[8..12]);
     if (lengths.len() as u64) < count {
         no_question();
         return;
@@ -45,14 +60,16 @@ fn take_apart(bytes: &[u8], day: u64, room: u64, lengths: &mut [u32], output: &m
         no_question();
         return;
     }
+    let last = count as usize;
+    let lent = room as usize;
     read_lengths(&bytes[lengths_at..end], lengths);
     ask(
-        &bytes[16..kinds_at],
-        &bytes[kinds_at..flags_at],
+        packed,
+        &bytes[12..flags_at],
         &bytes[flags_at..lengths_at],
-        &lengths[0..count as usize],
+        &lengths[0..last],
         day,
-        &mut output[0..room as usize],
+        &mut output[0..lent],
     );
 }
 
