@@ -33,7 +33,14 @@ fn lend(packed: &[u8], bytes: &[u8], day: u64, room: u64) {
 }
 
 // Finds the columns among the bytes.
-fn take_apart(packed: &[u8], bytes: &[u8], day: u64, room: u64, lengths: &mut [u32], output: &mut [u8]) {
+fn take_apart(
+    packed: &[u8],
+    bytes: &[u8],
+    day: u64,
+    room: u64,
+    lengths: &mut [u32],
+    output: &mut [u8],
+) {
     let end = bytes.len();
     if end < 12 {
         no_question();
