@@ -17,14 +17,17 @@ import cases_contents
 import cases_crl
 import cases_days
 import cases_der
+import cases_image
 import cases_integer
 import cases_limits
 import cases_listed
 import cases_member
-from record import CERTIFICATE, CRL, NO_KIND, ROOM, WALK, Case, head
+import cases_write
+from record import CERTIFICATE, CRL, IMAGE, NO_KIND, ROOM, WALK, Case, head
 
 PARTS = (cases_der, cases_contents, cases_limits, cases_integer, cases_member, cases_days, cases_certificate,
-         cases_certificate_shape, cases_certificate_parts, cases_certificate_extensions, cases_crl, cases_listed)
+         cases_certificate_shape, cases_certificate_parts, cases_certificate_extensions, cases_crl, cases_listed,
+         cases_image, cases_write)
 FOLDER = pathlib.Path(__file__).resolve().parents[2] / 'crates' / 'cases'
 
 
@@ -35,7 +38,7 @@ def cases():
     double = sorted({label for label in labels if labels.count(label) > 1})
     if double:
         sys.exit('two cases have the label: ' + ', '.join(double))
-    for kind, rules in ((CERTIFICATE, 14), (CRL, 8)):
+    for kind, rules in ((CERTIFICATE, 14), (CRL, 8), (IMAGE, 7)):
         for rule in range(1, rules + 1):
             if sum(case.kind == kind and case.broken == (rule,) for case in found) < 2:
                 sys.exit('kind %d: fewer than two cases break rule %d alone' % (kind, rule))

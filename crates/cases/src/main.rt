@@ -2,10 +2,13 @@
 mod ask;
 mod certificates;
 mod days;
+mod images;
 mod items;
 mod lists;
 mod record;
 mod say;
+mod sums;
+mod writing;
 
 use libc::STDIN_FILENO;
 

@@ -8,6 +8,7 @@ pub(crate) struct Question {
     pub size: usize,
     pub first: u64,
     pub second: u64,
+    pub third: u64,
 }
 
 pub(crate) fn read_head(head: &[u8]) -> Question
@@ -19,11 +20,12 @@ pub(crate) fn read_head(head: &[u8]) -> Question
         size: number(&head[4..8]) as usize,
         first: number(&head[8..16]),
         second: number(&head[16..24]),
+        third: number(&head[24..32]),
     }
 }
 
 // The big-endian number of some octets. The remainder by 2 to the power of 56 leaves room for one octet more.
-fn number(octets: &[u8]) -> u64 {
+pub(crate) fn number(octets: &[u8]) -> u64 {
     let mut value: u64 = 0;
     let mut i = 0;
     while i < octets.len() {

@@ -11,6 +11,8 @@ use Rattle.der.specs.declared.walking.Walked.the-variants.{Passed, Refused}
 use Rattle.der.specs.Forms.{paper}
 use Rattle.der.specs.Integer.{integerOf}
 use Rattle.der.specs.Walk.{walkOf}
+use Rattle.image.specs.declared.Opened.the-variants.{Image}
+use Rattle.image.specs.Answer.{openedOf}
 
 pub data Case : Type 0 where
   -- an item that passes, with so many elements
@@ -21,12 +23,15 @@ pub data Case : Type 0 where
   is : List ℕ → ℤ → Case
   -- so many days from one day to another
   from-to : ℕ → ℕ → ℤ → Case
+  -- an image that is good, with so many entries and of that day
+  reads : List ℕ → ℕ → ℕ → Case
 
 abbrev pub Holds : Case → Type 0
 Holds (passes item n) = walkOf paper item ≡ Passed n
 Holds (breaks item at) = walkOf paper item ≡ Refused (Der at)
 Holds (is item value) = integerOf paper item ≡ Value value
 Holds (from-to first second days) = differenceOf first second ≡ Days days
+Holds (reads image entries day) = openedOf image ≡ Image entries day
 
 abbrev pub AllHold : List Case → Type 0
 AllHold [] = Unit
@@ -49,4 +54,5 @@ table =
     ∷ from-to 20230228 20230301 (pos 1)
     ∷ from-to 20210101 20201231 (negsuc 0)
     ∷ from-to 19500101 20991231 (pos 54786)
+    ∷ reads (0x00 ∷ 0x00 ∷ 0x00 ∷ 0x00 ∷ 0x00 ∷ 0x00 ∷ 0x00 ∷ 0x01 ∷ 0x01 ∷ 0x34 ∷ 0xD7 ∷ 0xAD ∷ []) 0 20240301
     ∷ []
