@@ -5,11 +5,6 @@ use mathlib.Core.Path.{_≡_}
 use borrow.Author.Tests.{eq-eqb, ne-eqb}
 use Rattle.refusal.specs.declared.Refusal.the-variants.{Profile}
 use Rattle.elements.specs.declared.elements.Element.{Element}
-use Rattle.elements.specs.declared.envelopes.Envelope.{Envelope}
-use Rattle.elements.specs.declared.envelopes.Envelope.the-variants as envelope
-use Rattle.names.specs.declared.Name.{Name}
-use Rattle.names.specs.declared.Name.the-variants.{Holds, Shapeless}
-use Rattle.names.specs.declared.Seen.{Seen}
 use Rattle.certificate.specs.declared.shapes.Shape.{Shape}
 use Rattle.certificate.specs.declared.shapes.Shape.the-variants.{Parts, Broken}
 use Rattle.certificate.specs.declared.shapes.Front.{Front}
@@ -23,16 +18,7 @@ use Rattle.certificate.specs.declared.Fields.{Fields}
 use Rattle.certificate.specs.declared.Judged.{Judged}
 use Rattle.certificate.specs.declared.Judged.the-variants.{Passed, Refused}
 use Rattle.certificate.specs.Answer.{onShape, graded}
-use Rattle.certificate.specs.Shape.{onEnvelope, onFront, onValidity, onBack, onName}
-
-module _ {x : Envelope} (next : Element → Element → Shape) where
-  pub envelope-bad : x ≡ envelope.Formless → Broken ≡ onEnvelope x next
-  unfolding onEnvelope
-  envelope-bad h = rw h
-
-  pub envelope-good : {tbs algorithm : Element} {r : Shape} → x ≡ envelope.Parts tbs algorithm → r ≡ next tbs algorithm → r ≡ onEnvelope x next
-  unfolding onEnvelope
-  envelope-good h g = rw h g
+use Rattle.certificate.specs.Shape.{onFront, onValidity, onBack}
 
 module _ {x : Front} (next : Element → Element → Element → Element → Element → Shape) where
   pub front-bad : x ≡ Frontless → Broken ≡ onFront x next
@@ -60,15 +46,6 @@ module _ {x : Back} (next : Element → Element → Bool → Element → Shape) 
   pub back-good : {subject key extensions : Element} {unique : Bool} {r : Shape} → x ≡ Closes subject key unique extensions → r ≡ next subject key unique extensions → r ≡ onBack x next
   unfolding onBack
   back-good h g = rw h g
-
-module _ {x : Name} (next : Seen → Shape) where
-  pub name-bad : x ≡ Shapeless → Broken ≡ onName x next
-  unfolding onName
-  name-bad h = rw h
-
-  pub name-good : {seen : Seen} {r : Shape} → x ≡ Holds seen → r ≡ next seen → r ≡ onName x next
-  unfolding onName
-  name-good h g = rw h g
 
 module _ {x : Shape} (next : Layout → Judged) where
   pub shape-bad : x ≡ Broken → Refused (Profile 1) ≡ onShape x next

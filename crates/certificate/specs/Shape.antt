@@ -4,15 +4,10 @@ use mathlib.Core.Bool.{Bool, cond, not}
 use mathlib.Core.List.{List}
 use lib.Dec.{eqb}
 use Rattle.elements.specs.declared.elements.Element.{Element}
-use Rattle.elements.specs.declared.envelopes.Envelope.{Envelope}
-use Rattle.elements.specs.declared.envelopes.Envelope.the-variants as envelope
-use Rattle.names.specs.declared.Name.{Name}
-use Rattle.names.specs.declared.Name.the-variants.{Holds, Shapeless}
-use Rattle.names.specs.declared.Seen.{Seen}
 use Rattle.elements.specs.Elements.{foundTagged, onFound}
-use Rattle.elements.specs.Envelope.{envelopeOf}
+use Rattle.elements.specs.Envelope.{envelopeOf, onEnvelope}
 use Rattle.extensions.specs.Extensions.{extensionsShaped}
-use Rattle.names.specs.Names.{nameOf}
+use Rattle.names.specs.Names.{nameOf, onName}
 use Rattle.elements.specs.Steps.{onlyOf, pastOf}
 use Rattle.times.specs.Times.{timeAt}
 use Rattle.certificate.specs.declared.shapes.Shape.{Shape}
@@ -24,17 +19,9 @@ use Rattle.certificate.specs.declared.shapes.Back.the-variants.{Closes, 
 use Rattle.certificate.specs.declared.shapes.Validity.{Validity}
 use Rattle.certificate.specs.declared.shapes.Validity.the-variants.{Times, Timeless}
 
-unfoldable pub onEnvelope : Envelope → (Element → Element → Shape) → Shape
-onEnvelope envelope.Formless next = Broken
-onEnvelope (envelope.Parts tbs algorithm) next = next tbs algorithm
-
 unfoldable pub onValidity : Validity → (Element → Element → Shape) → Shape
 onValidity Timeless next = Broken
 onValidity (Times start finish) next = next start finish
-
-unfoldable pub onName : Name → (Seen → Shape) → Shape
-onName Shapeless next = Broken
-onName (Holds seen) next = next seen
 
 -- a SEQUENCE of two times
 unfoldable pub validityOf : List ℕ → Element → Validity
@@ -80,12 +67,12 @@ onBack (Closes subject key unique extensions) next = next subject key unique ext
 -- SEQUENCE of tbs, algorithm, BIT STRING; the tbs's members in order; names and extensions of their shape
 unfoldable pub layoutOf : List ℕ → Shape
 layoutOf s =
-    onEnvelope (envelopeOf s) λ tbs outer.
+    onEnvelope (envelopeOf s) Broken λ tbs outer.
     onFront (frontOf s tbs) λ version serial inner issuer validity.
     onValidity (validityOf s validity) λ start finish.
     onBack (backOf s (validity .end) (tbs .end)) λ subject key unique extensions.
-    onName (nameOf s issuer) λ issuerCountry.
-    onName (nameOf s subject) λ subjectCountry.
+    onName (nameOf s issuer) Broken λ issuerCountry.
+    onName (nameOf s subject) Broken λ subjectCountry.
     cond (extensionsShaped s extensions)
     (Parts (record {
       version = version;

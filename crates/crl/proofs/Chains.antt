@@ -5,11 +5,6 @@ use mathlib.Core.List.{List, [], _∷_}
 use mathlib.Core.Path.{_≡_, sym, _∙_}
 use Rattle.refusal.specs.declared.Refusal.the-variants.{Profile}
 use Rattle.elements.specs.declared.elements.Element.{Element}
-use Rattle.elements.specs.declared.envelopes.Envelope.{Envelope}
-use Rattle.elements.specs.declared.envelopes.Envelope.the-variants as envelope
-use Rattle.names.specs.declared.Name.{Name}
-use Rattle.names.specs.declared.Name.the-variants.{Holds, Shapeless}
-use Rattle.names.specs.declared.Seen.{Seen}
 use Rattle.refusal.specs.Rules.{firstBroken}
 use Rattle.refusal.proofs.Order as order
 use Rattle.crl.specs.declared.entries.Survey.{Survey}
@@ -21,17 +16,8 @@ use Rattle.crl.specs.declared.shapes.Shape.{Shape}
 use Rattle.crl.specs.declared.shapes.Shape.the-variants.{Parts, Broken}
 use Rattle.crl.specs.declared.Judged.{Judged}
 use Rattle.crl.specs.declared.Judged.the-variants.{Refused}
-use Rattle.crl.specs.Shape.{onEnvelope, onFront, onName, onSurvey}
+use Rattle.crl.specs.Shape.{onFront, onSurvey}
 use Rattle.crl.specs.Answer.{onShape}
-
-module _ {f : Envelope} (next : Element → Element → Shape) where
-  pub envelope-missing : f ≡ envelope.Formless → Broken ≡ onEnvelope f next
-  unfolding onEnvelope
-  envelope-missing h = rw h
-
-  pub envelope-there : {tbs algorithm : Element} {r : Shape} → f ≡ envelope.Parts tbs algorithm → r ≡ next tbs algorithm → r ≡ onEnvelope f next
-  unfolding onEnvelope
-  envelope-there h g = rw h g
 
 module _ {f : Front} (next : Element → Element → Element → Element → Element → Shape) where
   pub front-missing : f ≡ Frontless → Broken ≡ onFront f next
@@ -41,15 +27,6 @@ module _ {f : Front} (next : Element → Element → Element → Element → Ele
   pub front-there : {version inner issuer current coming : Element} {r : Shape} → f ≡ Opens version inner issuer current coming → r ≡ next version inner issuer current coming → r ≡ onFront f next
   unfolding onFront
   front-there h g = rw h g
-
-module _ {f : Name} (next : Seen → Shape) where
-  pub name-missing : f ≡ Shapeless → Broken ≡ onName f next
-  unfolding onName
-  name-missing h = rw h
-
-  pub name-there : {seen : Seen} {r : Shape} → f ≡ Holds seen → r ≡ next seen → r ≡ onName f next
-  unfolding onName
-  name-there h g = rw h g
 
 module _ {f : Survey} (next : ℕ → Bool → Bool → Shape) where
   pub survey-missing : f ≡ survey.Shapeless → Broken ≡ onSurvey f next

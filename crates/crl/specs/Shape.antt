@@ -7,15 +7,10 @@ use lib.Dec.{eqb}
 use Rattle.elements.specs.declared.elements.Element.{Element}
 use Rattle.elements.specs.declared.elements.Found.{Found}
 use Rattle.elements.specs.declared.elements.Found.the-variants.{One, Missing}
-use Rattle.elements.specs.declared.envelopes.Envelope.{Envelope}
-use Rattle.elements.specs.declared.envelopes.Envelope.the-variants as envelope
-use Rattle.names.specs.declared.Name.{Name}
-use Rattle.names.specs.declared.Name.the-variants.{Holds, Shapeless}
-use Rattle.names.specs.declared.Seen.{Seen}
 use Rattle.elements.specs.Elements.{foundTagged, onFound}
-use Rattle.elements.specs.Envelope.{envelopeOf}
+use Rattle.elements.specs.Envelope.{envelopeOf, onEnvelope}
 use Rattle.extensions.specs.Extensions.{extensionsShaped}
-use Rattle.names.specs.Names.{nameOf}
+use Rattle.names.specs.Names.{nameOf, onName}
 use Rattle.elements.specs.Steps.{onlyOf}
 use Rattle.times.specs.Times.{timeAt}
 use Rattle.crl.specs.declared.entries.Survey.{Survey}
@@ -26,14 +21,6 @@ use Rattle.crl.specs.declared.shapes.Listing.{Listing}
 use Rattle.crl.specs.declared.shapes.Shape.{Shape}
 use Rattle.crl.specs.declared.shapes.Shape.the-variants.{Parts, Broken}
 use Rattle.crl.specs.Entries.{surveyOf}
-
-unfoldable pub onEnvelope : Envelope → (Element → Element → Shape) → Shape
-onEnvelope envelope.Formless next = Broken
-onEnvelope (envelope.Parts tbs algorithm) next = next tbs algorithm
-
-unfoldable pub onName : Name → (Seen → Shape) → Shape
-onName Shapeless next = Broken
-onName (Holds seen) next = next seen
 
 -- where the entry list stands, if it is there: its contents' start and end, and the offset after it
 unfoldable pub listingOf : ℕ → Found → Listing
@@ -69,9 +56,9 @@ onFront (Opens version inner issuer current coming) next = next version inner is
 -- SEQUENCE of tbs, algorithm, BIT STRING; between the first members and the last an entry list may stand
 unfoldable pub layoutOf : List ℕ → Shape
 layoutOf s =
-    onEnvelope (envelopeOf s) λ tbs outer.
+    onEnvelope (envelopeOf s) Broken λ tbs outer.
     onFront (frontOf s tbs) λ version inner issuer current coming.
-    onName (nameOf s issuer) λ country.
+    onName (nameOf s issuer) Broken λ country.
     let listing = listingOf (coming .end) (foundTagged s (coming .end) (tbs .end) 0x30) in
     onFound (lastOf s (listing .after) (tbs .end)) Broken λ extensions.
     onSurvey (surveyOf s (listing .from) (listing .end)) λ count timely calm.

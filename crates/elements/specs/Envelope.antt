@@ -4,6 +4,7 @@ use mathlib.Core.Bool.{cond}
 use mathlib.Core.List.{List}
 use lib.Dec.{eqb}
 use lib.ListN.{length}
+use Rattle.elements.specs.declared.elements.Element.{Element}
 use Rattle.elements.specs.declared.envelopes.Envelope.{Envelope}
 use Rattle.elements.specs.declared.envelopes.Envelope.the-variants.{Parts, Formless}
 use Rattle.elements.specs.Elements.{foundTagged, onFound}
@@ -15,3 +16,8 @@ envelopeOf s =
     onFound (foundTagged s (tbs .end) (outermost .end) 0x30) Formless λ algorithm.
     onFound (foundTagged s (algorithm .end) (outermost .end) 0x03) Formless λ signature.
     cond (eqb (signature .end) (outermost .end)) (Parts tbs algorithm) Formless
+
+-- what is to be said of an item without that form, and of the parts of one with it
+unfoldable pub onEnvelope : {A : Type 0} → Envelope → A → (Element → Element → A) → A
+onEnvelope Formless formless next = formless
+onEnvelope (Parts tbs algorithm) formless next = next tbs algorithm

@@ -85,3 +85,8 @@ firstLetter (Two a b) = a
 abbrev pub secondLetter : Letters → ℕ
 secondLetter Unfit = 0
 secondLetter (Two a b) = b
+
+-- what is to be said of what is no name, and of what a name holds
+unfoldable pub onName : {A : Type 0} → Name → A → (Seen → A) → A
+onName Shapeless shapeless next = shapeless
+onName (Holds seen) shapeless next = next seen

@@ -7,14 +7,10 @@ use native.Mathlib.Omega.{arith}
 use lib.Dec.{eqb}
 use Rattle.tree.specs.Tree.{Tree, Trees, none, more}
 use Rattle.elements.specs.declared.elements.Element.{Element}
-use Rattle.elements.specs.declared.envelopes.Envelope.{Envelope}
 use Rattle.elements.specs.declared.envelopes.Envelope.the-variants as envelope
 use Rattle.elements.specs.Elements.{foundTagged, onFound}
 use Rattle.elements.specs.Envelope.{envelopeOf}
 use Rattle.elements.specs.Steps.{onlyOf}
-use Rattle.names.specs.declared.Name.{Name}
-use Rattle.names.specs.declared.Name.the-variants.{Holds, Shapeless}
-use Rattle.names.specs.declared.Seen.{Seen}
 use Rattle.names.specs.Names.{nameOf}
 use Rattle.extensions.specs.Extensions.{extensionsShaped}
 use Rattle.certificate.specs.declared.shapes.Back.{Back}
@@ -26,8 +22,8 @@ use Rattle.certificate.specs.declared.shapes.Shape.{Shape}
 use Rattle.certificate.specs.declared.shapes.Shape.the-variants.{Parts, Broken}
 use Rattle.certificate.specs.declared.shapes.Validity.{Validity}
 use Rattle.certificate.specs.declared.shapes.Validity.the-variants.{Times, Timeless}
-use Rattle.certificate.specs.Shape.{onEnvelope, onFront, onValidity, onBack, onName, frontOf, validityOf, uniqueEnd, backOf, layoutOf}
-use Rattle.parts.proofs.Inverse.{Went, went, kept}
+use Rattle.certificate.specs.Shape.{onFront, onValidity, onBack, frontOf, validityOf, uniqueEnd, backOf, layoutOf}
+use Rattle.parts.proofs.Inverse.{Went, went, kept, by-envelope, by-name}
 use Rattle.parts.proofs.Spans.{Spans, Member}
 use Rattle.parts.proofs.Enveloped.{Tagged, tagged-first}
 
@@ -39,12 +35,6 @@ frontless p = let z : _≡_ {A = ℕ} 0 1 = cc in omega arith
 
 backless : {a b d : Element} {c : Bool} → _≡_ {A = Back} Backless (Closes a b c d) → ⊥
 backless p = let z : _≡_ {A = ℕ} 0 1 = cc in omega arith
-
-by-envelope : {l : Layout} (v : Envelope) (k : Element → Element → Shape) → onEnvelope v k ≡ Parts l
-    → (tbs : Element) × (outer : Element) × (v ≡ envelope.Parts tbs outer) × (k tbs outer ≡ Parts l)
-unfolding onEnvelope
-by-envelope envelope.Formless k e = absurd (broken e)
-by-envelope (envelope.Parts tbs outer) k e = (tbs, outer, refl, e)
 
 by-front : {l : Layout} (v : Front) (k : Element → Element → Element → Element → Element → Shape) → onFront v k ≡ Parts l
     → (a : Element) × (b : Element) × (c : Element) × (d : Element) × (e : Element) × (v ≡ Opens a b c d e) × (k a b c d e ≡ Parts l)
@@ -64,11 +54,6 @@ unfolding onBack
 by-back Backless k p = absurd (broken p)
 by-back (Closes a b c d) k p = (a, b, c, d, refl, p)
 
-by-name : {l : Layout} (v : Name) (k : Seen → Shape) → onName v k ≡ Parts l → (seen : Seen) × (k seen ≡ Parts l)
-unfolding onName
-by-name Shapeless k p = absurd (broken p)
-by-name (Holds seen) k p = (seen, p)
-
 parts-same : {l m : Layout} → _≡_ {A = Shape} (Parts l) (Parts m) → l ≡ m
 parts-same p = cc
 
@@ -87,12 +72,12 @@ pub record Laid (s : List ℕ) (l : Layout) : Type 0 where
 pub laid : (s : List ℕ) (l : Layout) → layoutOf s ≡ Parts l → Laid s l
 unfolding layoutOf
 laid s l e =
-    let a = by-envelope (envelopeOf s) _ e in
+    let a = by-envelope (envelopeOf s) Broken _ (Parts l) broken e in
     let b = by-front (frontOf s (a .0)) _ (a .3) in
     let c = by-validity (validityOf s (b .4)) _ (b .6) in
     let d = by-back (backOf s (b .4 .end) (a .0 .end)) _ (c .3) in
-    let f = by-name (nameOf s (b .3)) _ (d .5) in
-    let g = by-name (nameOf s (d .0)) _ (f .1) in
+    let f = by-name (nameOf s (b .3)) Broken _ (Parts l) broken (d .5) in
+    let g = by-name (nameOf s (d .0)) Broken _ (Parts l) broken (f .1) in
     let h = kept (extensionsShaped s (d .3)) _ Broken (Parts l) broken (g .1) in
     subst (Laid s) (parts-same (h .1))
     (record {

@@ -9,7 +9,14 @@ use lib.Dec.{eqb}
 use Rattle.elements.specs.declared.elements.Element.{Element}
 use Rattle.elements.specs.declared.elements.Found.{Found}
 use Rattle.elements.specs.declared.elements.Found.the-variants.{One, Missing}
+use Rattle.elements.specs.declared.envelopes.Envelope.{Envelope}
+use Rattle.elements.specs.declared.envelopes.Envelope.the-variants as envelope
 use Rattle.elements.specs.Elements.{foundAt, withTag, foundTagged, onFound}
+use Rattle.elements.specs.Envelope.{onEnvelope}
+use Rattle.names.specs.declared.Name.{Name}
+use Rattle.names.specs.declared.Name.the-variants.{Holds, Shapeless}
+use Rattle.names.specs.declared.Seen.{Seen}
+use Rattle.names.specs.Names.{onName}
 
 -- the element that a step went on from
 pub record Went {A : Type 0} (f : Found) (next : Element → A) (r : A) : Type 0 where
@@ -39,3 +46,17 @@ tagged-found s from end tag e p = go (foundAt s from end) p
       where
         same : (eqb (x .tag) tag ≡ true) × (_≡_ {A = Found} (One x) (One e)) → (_≡_ {A = Found} (One x) (One e)) × (e .tag ≡ tag)
         same h = let t : x .tag ≡ tag = eqb-true _ _ (h .0) in let g = h .1 in (g, cc)
+
+-- the parts of the envelope that a shape went on from, and the countryNames of a name
+pub by-envelope :
+    {A : Type 0} (v : Envelope) (formless : A) (k : Element → Element → A) (r : A) → (formless ≡ r → ⊥) → onEnvelope v formless k ≡ r
+    → (tbs : Element) × (outer : Element) × (v ≡ envelope.Parts tbs outer) × (k tbs outer ≡ r)
+unfolding onEnvelope
+by-envelope envelope.Formless formless k r other e = absurd (other e)
+by-envelope (envelope.Parts tbs outer) formless k r other e = (tbs, outer, refl, e)
+
+pub by-name :
+    {A : Type 0} (v : Name) (shapeless : A) (k : Seen → A) (r : A) → (shapeless ≡ r → ⊥) → onName v shapeless k ≡ r → (seen : Seen) × (k seen ≡ r)
+unfolding onName
+by-name Shapeless shapeless k r other e = absurd (other e)
+by-name (Holds seen) shapeless k r other e = (seen, e)

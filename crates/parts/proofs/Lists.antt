@@ -6,13 +6,9 @@ use mathlib.Core.List.{List}
 use native.Mathlib.Omega.{arith}
 use Rattle.tree.specs.Tree.{Tree, Trees, none, more}
 use Rattle.elements.specs.declared.elements.Element.{Element}
-use Rattle.elements.specs.declared.envelopes.Envelope.{Envelope}
 use Rattle.elements.specs.declared.envelopes.Envelope.the-variants as envelope
 use Rattle.elements.specs.Elements.{foundTagged}
 use Rattle.elements.specs.Envelope.{envelopeOf}
-use Rattle.names.specs.declared.Name.{Name}
-use Rattle.names.specs.declared.Name.the-variants.{Holds, Shapeless}
-use Rattle.names.specs.declared.Seen.{Seen}
 use Rattle.names.specs.Names.{nameOf}
 use Rattle.times.specs.Times.{timeAt}
 use Rattle.crl.specs.declared.entries.Survey.{Survey}
@@ -24,8 +20,8 @@ use Rattle.crl.specs.declared.shapes.Listing.{Listing}
 use Rattle.crl.specs.declared.shapes.Shape.{Shape}
 use Rattle.crl.specs.declared.shapes.Shape.the-variants.{Parts, Broken}
 use Rattle.crl.specs.Entries.{surveyOf}
-use Rattle.crl.specs.Shape.{onEnvelope, onFront, onName, onSurvey, listingOf, frontOf, lastOf, layoutOf}
-use Rattle.parts.proofs.Inverse.{went}
+use Rattle.crl.specs.Shape.{onFront, onSurvey, listingOf, frontOf, lastOf, layoutOf}
+use Rattle.parts.proofs.Inverse.{went, by-envelope, by-name}
 use Rattle.parts.proofs.Spans.{Spans, Member}
 use Rattle.parts.proofs.Enveloped.{tagged-first}
 
@@ -35,22 +31,11 @@ broken p = let z : _≡_ {A = ℕ} 0 1 = cc in omega arith
 frontless : {a b c d e : Element} → _≡_ {A = Front} Frontless (Opens a b c d e) → ⊥
 frontless p = let z : _≡_ {A = ℕ} 0 1 = cc in omega arith
 
-by-envelope : {l : Layout} (v : Envelope) (k : Element → Element → Shape) → onEnvelope v k ≡ Parts l
-    → (tbs : Element) × (outer : Element) × (v ≡ envelope.Parts tbs outer) × (k tbs outer ≡ Parts l)
-unfolding onEnvelope
-by-envelope envelope.Formless k e = absurd (broken e)
-by-envelope (envelope.Parts tbs outer) k e = (tbs, outer, refl, e)
-
 by-front : {l : Layout} (v : Front) (k : Element → Element → Element → Element → Element → Shape) → onFront v k ≡ Parts l
     → (a : Element) × (b : Element) × (c : Element) × (d : Element) × (e : Element) × (v ≡ Opens a b c d e) × (k a b c d e ≡ Parts l)
 unfolding onFront
 by-front Frontless k p = absurd (broken p)
 by-front (Opens a b c d e) k p = (a, b, c, d, e, refl, p)
-
-by-name : {l : Layout} (v : Name) (k : Seen → Shape) → onName v k ≡ Parts l → (seen : Seen) × (k seen ≡ Parts l)
-unfolding onName
-by-name Shapeless k p = absurd (broken p)
-by-name (Holds seen) k p = (seen, p)
 
 by-survey : {l : Layout} (v : Survey) (k : ℕ → Bool → Bool → Shape) → onSurvey v k ≡ Parts l
     → (n : ℕ) × (timely : Bool) × (calm : Bool) × (k n timely calm ≡ Parts l)
@@ -71,9 +56,9 @@ pub record Laid (s : List ℕ) (l : Layout) : Type 0 where
 pub laid : (s : List ℕ) (l : Layout) → layoutOf s ≡ Parts l → Laid s l
 unfolding layoutOf
 laid s l e =
-    let a = by-envelope (envelopeOf s) _ e in
+    let a = by-envelope (envelopeOf s) Broken _ (Parts l) broken e in
     let b = by-front (frontOf s (a .0)) _ (a .3) in
-    let c = by-name (nameOf s (b .2)) _ (b .6) in
+    let c = by-name (nameOf s (b .2)) Broken _ (Parts l) broken (b .6) in
     let listing = listingOf (b .4 .end) (foundTagged s (b .4 .end) (a .0 .end) 0x30) in
     let d = went (lastOf s (listing .after) (a .0 .end)) Broken _ (Parts l) broken (c .1) in
     let f = by-survey (surveyOf s (listing .from) (listing .end)) _ (d .then) in

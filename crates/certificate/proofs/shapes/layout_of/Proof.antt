@@ -3,7 +3,9 @@ use mathlib.Core.Path.{sym, _∙_}
 use borrow.Author.Needs.{needs}
 use borrow.Author.Tests.{not-true, not-false}
 use Rattle.certificate.specs.Shape.{layoutOf}
-use Rattle.certificate.proofs.Chains.{envelope-bad, envelope-good, front-bad, front-good, validity-bad, validity-good, back-bad, back-good, name-bad, name-good}
+use Rattle.elements.proofs.Enclosed.{envelope-bad, envelope-good}
+use Rattle.names.proofs.Held.{name-bad, name-good}
+use Rattle.certificate.proofs.Chains.{front-bad, front-good, validity-bad, validity-good, back-bad, back-good}
 use Rattle.certificate.proofs.shapes.layout_of.Statement.{statement}
 use Rattle.certificate.proofs.shapes.layout_of.Tie as tie
 
@@ -31,7 +33,7 @@ enum-told-2 c = search needs
 
 returns-2 : tie.Need-returns-2
 unfolding layoutOf
-returns-2 c = envelope-good _ (sym (c .before .before .before .before .before .before .envelope-of .ensures) ∙ c .before .before .before .before .tbs .given .1) (front-bad _ (sym (c .before .before .front-of .ensures) ∙ c .enum-told2 .given .1))
+returns-2 c = envelope-good _ _ (sym (c .before .before .before .before .before .before .envelope-of .ensures) ∙ c .before .before .before .before .tbs .given .1) (front-bad _ (sym (c .before .before .front-of .ensures) ∙ c .enum-told2 .given .1))
 
 validity-of-requires : tie.Need-validity-of-requires
 validity-of-requires c κs = search needs
@@ -44,7 +46,7 @@ enum-told-3 c = search needs
 
 returns-3 : tie.Need-returns-3
 unfolding layoutOf
-returns-3 c = envelope-good _ (sym (c .before .before .before .before .before .before .before .before .before .before .envelope-of .ensures) ∙ c .before .before .before .before .before .before .before .before .tbs .given .1) (front-good _ (sym (c .before .before .before .before .before .before .front-of .ensures) ∙ c .before .before .before .before .version .given .1) (validity-bad _ (sym (c .before .before .validity-of .ensures) ∙ c .enum-told3 .given .1)))
+returns-3 c = envelope-good _ _ (sym (c .before .before .before .before .before .before .before .before .before .before .envelope-of .ensures) ∙ c .before .before .before .before .before .before .before .before .tbs .given .1) (front-good _ (sym (c .before .before .before .before .before .before .front-of .ensures) ∙ c .before .before .before .before .version .given .1) (validity-bad _ (sym (c .before .before .validity-of .ensures) ∙ c .enum-told3 .given .1)))
 
 back-of-requires : tie.Need-back-of-requires
 back-of-requires c κs = search needs
@@ -57,7 +59,7 @@ enum-told-4 c = search needs
 
 returns-4 : tie.Need-returns-4
 unfolding layoutOf
-returns-4 c = envelope-good _ (sym (c .before .before .before .before .before .before .before .before .before .before .before .before .before .before .envelope-of .ensures) ∙ c .before .before .before .before .before .before .before .before .before .before .before .before .tbs .given .1) (front-good _ (sym (c .before .before .before .before .before .before .before .before .before .before .front-of .ensures) ∙ c .before .before .before .before .before .before .before .before .version .given .1) (validity-good _ (sym (c .before .before .before .before .before .before .validity-of .ensures) ∙ c .before .before .before .before .start .given .1) (back-bad _ (sym (c .before .before .back-of .ensures) ∙ c .enum-told4 .given .1))))
+returns-4 c = envelope-good _ _ (sym (c .before .before .before .before .before .before .before .before .before .before .before .before .before .before .envelope-of .ensures) ∙ c .before .before .before .before .before .before .before .before .before .before .before .before .tbs .given .1) (front-good _ (sym (c .before .before .before .before .before .before .before .before .before .before .front-of .ensures) ∙ c .before .before .before .before .before .before .before .before .version .given .1) (validity-good _ (sym (c .before .before .before .before .before .before .validity-of .ensures) ∙ c .before .before .before .before .start .given .1) (back-bad _ (sym (c .before .before .back-of .ensures) ∙ c .enum-told4 .given .1))))
 
 name-of-requires : tie.Need-name-of-requires
 name-of-requires c κs = search needs
@@ -70,7 +72,7 @@ enum-told-5 c = search needs
 
 returns-5 : tie.Need-returns-5
 unfolding layoutOf
-returns-5 c = envelope-good _ (sym (c .before .before .before .before .before .before .before .before .before .before .before .before .before .before .before .before .before .before .envelope-of .ensures) ∙ c .before .before .before .before .before .before .before .before .before .before .before .before .before .before .before .before .tbs .given .1) (front-good _ (sym (c .before .before .before .before .before .before .before .before .before .before .before .before .before .before .front-of .ensures) ∙ c .before .before .before .before .before .before .before .before .before .before .before .before .version .given .1) (validity-good _ (sym (c .before .before .before .before .before .before .before .before .before .before .validity-of .ensures) ∙ c .before .before .before .before .before .before .before .before .start .given .1) (back-good _ (sym (c .before .before .before .before .before .before .back-of .ensures) ∙ c .before .before .before .before .subject .given .1) (name-bad _ (sym (c .before .before .name-of .ensures) ∙ c .enum-told5 .given .1)))))
+returns-5 c = envelope-good _ _ (sym (c .before .before .before .before .before .before .before .before .before .before .before .before .before .before .before .before .before .before .envelope-of .ensures) ∙ c .before .before .before .before .before .before .before .before .before .before .before .before .before .before .before .before .tbs .given .1) (front-good _ (sym (c .before .before .before .before .before .before .before .before .before .before .before .before .before .before .front-of .ensures) ∙ c .before .before .before .before .before .before .before .before .before .before .before .before .version .given .1) (validity-good _ (sym (c .before .before .before .before .before .before .before .before .before .before .validity-of .ensures) ∙ c .before .before .before .before .before .before .before .before .start .given .1) (back-good _ (sym (c .before .before .before .before .before .before .back-of .ensures) ∙ c .before .before .before .before .subject .given .1) (name-bad _ (sym (c .before .before .name-of .ensures) ∙ c .enum-told5 .given .1)))))
 
 name-of-requires-2 : tie.Need-name-of-requires-2
 name-of-requires-2 c κs = search needs
@@ -83,18 +85,18 @@ enum-told-6 c = search needs
 
 returns-6 : tie.Need-returns-6
 unfolding layoutOf
-returns-6 c = envelope-good _ (sym (c .before .before .before .before .before .before .before .before .before .before .before .before .before .before .before .before .before .before .before .before .before .before .envelope-of .ensures) ∙ c .before .before .before .before .before .before .before .before .before .before .before .before .before .before .before .before .before .before .before .before .tbs .given .1) (front-good _ (sym (c .before .before .before .before .before .before .before .before .before .before .before .before .before .before .before .before .before .before .front-of .ensures) ∙ c .before .before .before .before .before .before .before .before .before .before .before .before .before .before .before .before .version .given .1) (validity-good _ (sym (c .before .before .before .before .before .before .before .before .before .before .before .before .before .before .validity-of .ensures) ∙ c .before .before .before .before .before .before .before .before .before .before .before .before .start .given .1) (back-good _ (sym (c .before .before .before .before .before .before .before .before .before .before .back-of .ensures) ∙ c .before .before .before .before .before .before .before .before .subject .given .1) (name-good _ (sym (c .before .before .before .before .before .before .name-of .ensures) ∙ c .before .before .before .before .issuer-country .given .1) (name-bad _ (sym (c .before .before .name-of2 .ensures) ∙ c .enum-told6 .given .1))))))
+returns-6 c = envelope-good _ _ (sym (c .before .before .before .before .before .before .before .before .before .before .before .before .before .before .before .before .before .before .before .before .before .before .envelope-of .ensures) ∙ c .before .before .before .before .before .before .before .before .before .before .before .before .before .before .before .before .before .before .before .before .tbs .given .1) (front-good _ (sym (c .before .before .before .before .before .before .before .before .before .before .before .before .before .before .before .before .before .before .front-of .ensures) ∙ c .before .before .before .before .before .before .before .before .before .before .before .before .before .before .before .before .version .given .1) (validity-good _ (sym (c .before .before .before .before .before .before .before .before .before .before .before .before .before .before .validity-of .ensures) ∙ c .before .before .before .before .before .before .before .before .before .before .before .before .start .given .1) (back-good _ (sym (c .before .before .before .before .before .before .before .before .before .before .back-of .ensures) ∙ c .before .before .before .before .before .before .before .before .subject .given .1) (name-good _ _ (sym (c .before .before .before .before .before .before .name-of .ensures) ∙ c .before .before .before .before .issuer-country .given .1) (name-bad _ (sym (c .before .before .name-of2 .ensures) ∙ c .enum-told6 .given .1))))))
 
 extensions-shaped-requires : tie.Need-extensions-shaped-requires
 extensions-shaped-requires c κs = search needs
 
 returns-7 : tie.Need-returns-7
 unfolding layoutOf
-returns-7 c = envelope-good _ (sym (c .before .before .before .before .before .before .before .before .before .before .before .before .before .before .before .before .before .before .before .before .before .before .before .before .before .envelope-of .ensures) ∙ c .before .before .before .before .before .before .before .before .before .before .before .before .before .before .before .before .before .before .before .before .before .before .before .tbs .given .1) (front-good _ (sym (c .before .before .before .before .before .before .before .before .before .before .before .before .before .before .before .before .before .before .before .before .before .front-of .ensures) ∙ c .before .before .before .before .before .before .before .before .before .before .before .before .before .before .before .before .before .before .before .version .given .1) (validity-good _ (sym (c .before .before .before .before .before .before .before .before .before .before .before .before .before .before .before .before .before .validity-of .ensures) ∙ c .before .before .before .before .before .before .before .before .before .before .before .before .before .before .before .start .given .1) (back-good _ (sym (c .before .before .before .before .before .before .before .before .before .before .before .before .before .back-of .ensures) ∙ c .before .before .before .before .before .before .before .before .before .before .before .subject .given .1) (name-good _ (sym (c .before .before .before .before .before .before .before .before .before .name-of .ensures) ∙ c .before .before .before .before .before .before .before .issuer-country .given .1) (name-good _ (sym (c .before .before .before .before .before .name-of2 .ensures) ∙ c .before .before .before .subject-country .given .1) (rw (sym (c .before .extensions-shaped .ensures) ∙ not-true _ (c .if1 .taken))))))))
+returns-7 c = envelope-good _ _ (sym (c .before .before .before .before .before .before .before .before .before .before .before .before .before .before .before .before .before .before .before .before .before .before .before .before .before .envelope-of .ensures) ∙ c .before .before .before .before .before .before .before .before .before .before .before .before .before .before .before .before .before .before .before .before .before .before .before .tbs .given .1) (front-good _ (sym (c .before .before .before .before .before .before .before .before .before .before .before .before .before .before .before .before .before .before .before .before .before .front-of .ensures) ∙ c .before .before .before .before .before .before .before .before .before .before .before .before .before .before .before .before .before .before .before .version .given .1) (validity-good _ (sym (c .before .before .before .before .before .before .before .before .before .before .before .before .before .before .before .before .before .validity-of .ensures) ∙ c .before .before .before .before .before .before .before .before .before .before .before .before .before .before .before .start .given .1) (back-good _ (sym (c .before .before .before .before .before .before .before .before .before .before .before .before .before .back-of .ensures) ∙ c .before .before .before .before .before .before .before .before .before .before .before .subject .given .1) (name-good _ _ (sym (c .before .before .before .before .before .before .before .before .before .name-of .ensures) ∙ c .before .before .before .before .before .before .before .issuer-country .given .1) (name-good _ _ (sym (c .before .before .before .before .before .name-of2 .ensures) ∙ c .before .before .before .subject-country .given .1) (rw (sym (c .before .extensions-shaped .ensures) ∙ not-true _ (c .if1 .taken))))))))
 
 returns-8 : tie.Need-returns-8
 unfolding layoutOf
-returns-8 c = envelope-good _ (sym (c .before .before .before .before .before .before .before .before .before .before .before .before .before .before .before .before .before .before .before .before .before .before .before .before .before .envelope-of .ensures) ∙ c .before .before .before .before .before .before .before .before .before .before .before .before .before .before .before .before .before .before .before .before .before .before .before .tbs .given .1) (front-good _ (sym (c .before .before .before .before .before .before .before .before .before .before .before .before .before .before .before .before .before .before .before .before .before .front-of .ensures) ∙ c .before .before .before .before .before .before .before .before .before .before .before .before .before .before .before .before .before .before .before .version .given .1) (validity-good _ (sym (c .before .before .before .before .before .before .before .before .before .before .before .before .before .before .before .before .before .validity-of .ensures) ∙ c .before .before .before .before .before .before .before .before .before .before .before .before .before .before .before .start .given .1) (back-good _ (sym (c .before .before .before .before .before .before .before .before .before .before .before .before .before .back-of .ensures) ∙ c .before .before .before .before .before .before .before .before .before .before .before .subject .given .1) (name-good _ (sym (c .before .before .before .before .before .before .before .before .before .name-of .ensures) ∙ c .before .before .before .before .before .before .before .issuer-country .given .1) (name-good _ (sym (c .before .before .before .before .before .name-of2 .ensures) ∙ c .before .before .before .subject-country .given .1) (rw (sym (c .before .extensions-shaped .ensures) ∙ not-false _ (c .if1 .left))))))))
+returns-8 c = envelope-good _ _ (sym (c .before .before .before .before .before .before .before .before .before .before .before .before .before .before .before .before .before .before .before .before .before .before .before .before .before .envelope-of .ensures) ∙ c .before .before .before .before .before .before .before .before .before .before .before .before .before .before .before .before .before .before .before .before .before .before .before .tbs .given .1) (front-good _ (sym (c .before .before .before .before .before .before .before .before .before .before .before .before .before .before .before .before .before .before .before .before .before .front-of .ensures) ∙ c .before .before .before .before .before .before .before .before .before .before .before .before .before .before .before .before .before .before .before .version .given .1) (validity-good _ (sym (c .before .before .before .before .before .before .before .before .before .before .before .before .before .before .before .before .before .validity-of .ensures) ∙ c .before .before .before .before .before .before .before .before .before .before .before .before .before .before .before .start .given .1) (back-good _ (sym (c .before .before .before .before .before .before .before .before .before .before .before .before .before .back-of .ensures) ∙ c .before .before .before .before .before .before .before .before .before .before .before .subject .given .1) (name-good _ _ (sym (c .before .before .before .before .before .before .before .before .before .name-of .ensures) ∙ c .before .before .before .before .before .before .before .issuer-country .given .1) (name-good _ _ (sym (c .before .before .before .before .before .name-of2 .ensures) ∙ c .before .before .before .subject-country .given .1) (rw (sym (c .before .extensions-shaped .ensures) ∙ not-false _ (c .if1 .left))))))))
 
 pub layout-of-spec : {M : Type 1} → statement M
 layout-of-spec =
