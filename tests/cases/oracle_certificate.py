@@ -2,7 +2,7 @@
 import collections
 
 from oracle_fields import (AUTHORITY_KEY, SEQUENCE, country, doubled, list_shape, moment, name_shape,
-                           read_list)
+                           read_list, tbs_of)
 from oracle_tree import tree
 from refused import Refused
 
@@ -40,10 +40,8 @@ class Certificate:
 
 
 def has_shape(outermost):
-    if outermost.tag != SEQUENCE or not outermost.holds(rb'\x30\x30\x03'):
-        return False
-    tbs = outermost.members[0]
-    if not tbs.holds(rb'\xa0\x02\x30\x30\x30\x30\x30\x81?\x82?\xa3'):
+    tbs = tbs_of(outermost, rb'\xa0\x02\x30\x30\x30\x30\x30\x81?\x82?\xa3')
+    if tbs is None:
         return False
     version, block = tbs.members[0], tbs.members[-1]
     issuer, validity, subject = tbs.members[3:6]

@@ -3,7 +3,7 @@ import collections
 
 import oracle_days
 from oracle_certificate import times_hold, whole
-from oracle_fields import (AUTHORITY_KEY, SEQUENCE, country, doubled, list_shape, moment, name_shape, read_list)
+from oracle_fields import AUTHORITY_KEY, country, doubled, list_shape, moment, name_shape, read_list, tbs_of
 from oracle_tree import tree
 from refused import Refused
 
@@ -34,10 +34,8 @@ def entry_shape(member):
 
 
 def has_shape(outermost):
-    if outermost.tag != SEQUENCE or not outermost.holds(rb'\x30\x30\x03'):
-        return False
-    tbs = outermost.members[0]
-    if not tbs.holds(rb'\x02\x30\x30[\x17\x18][\x17\x18]\x30?\xa0'):
+    tbs = tbs_of(outermost, rb'\x02\x30\x30[\x17\x18][\x17\x18]\x30?\xa0')
+    if tbs is None:
         return False
     block = tbs.members[-1]
     listing = tbs.members[5:-1]

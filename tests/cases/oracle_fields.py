@@ -64,3 +64,11 @@ def read_list(extensions):
 
 def doubled(extensions):
     return len({extension.name for extension in extensions}) != len(extensions)
+
+
+def tbs_of(outermost, tags):
+    """The first of SEQUENCE, SEQUENCE and BIT STRING in a SEQUENCE, if its members have these tags; else None."""
+    if outermost.tag != SEQUENCE or not outermost.holds(rb'\x30\x30\x03'):
+        return None
+    tbs = outermost.members[0]
+    return tbs if tbs.holds(tags) else None
