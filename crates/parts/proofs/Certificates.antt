@@ -1,14 +1,17 @@
 -- The members of a certificate's tbs, one after the other, by going back through the steps of its shape.
 use Prim.Native.Nat.{ℕ}
-use mathlib.Core.Path.{_≡_, refl, sym, ap, subst, _∙_}
-use mathlib.Core.Bool.{Bool, true, false, cond}
+use mathlib.Core.Path.{_≡_, refl, subst, _∙_}
+use mathlib.Core.Bool.{Bool, true, false}
 use mathlib.Core.List.{List}
 use native.Mathlib.Omega.{arith}
+use borrow.Author.Tests.{eqb-true, not-false}
 use lib.Dec.{eqb}
-use Rattle.tree.specs.Tree.{Tree, Trees, none, more}
+use Rattle.der.specs.Heading.{constructed}
+use Rattle.tree.specs.Tree.{Tree, node, Trees, none, more, encoded, tagOf}
 use Rattle.elements.specs.declared.elements.Element.{Element}
+use Rattle.elements.specs.declared.elements.Found.the-variants.{One}
 use Rattle.elements.specs.declared.envelopes.Envelope.the-variants as envelope
-use Rattle.elements.specs.Elements.{foundTagged, onFound}
+use Rattle.elements.specs.Elements.{foundTagged, wholeOf}
 use Rattle.elements.specs.Envelope.{envelopeOf}
 use Rattle.elements.specs.Steps.{onlyOf}
 use Rattle.names.specs.Names.{nameOf}
@@ -23,9 +26,9 @@ use Rattle.certificate.specs.declared.shapes.Shape.the-variants.{Parts, Broken}
 use Rattle.certificate.specs.declared.shapes.Validity.{Validity}
 use Rattle.certificate.specs.declared.shapes.Validity.the-variants.{Times, Timeless}
 use Rattle.certificate.specs.Shape.{onFront, onValidity, onBack, frontOf, validityOf, uniqueEnd, backOf, layoutOf}
-use Rattle.parts.proofs.Inverse.{Went, went, kept, by-envelope, by-name}
+use Rattle.parts.proofs.Inverse.{went, kept, by-envelope, by-name}
 use Rattle.parts.proofs.Spans.{Spans, Member}
-use Rattle.parts.proofs.Enveloped.{Tagged, tagged-first}
+use Rattle.parts.proofs.Enveloped.{tagged-first, members-inside, only-tree, only-inside}
 
 broken : {l : Layout} → _≡_ {A = Shape} Broken (Parts l) → ⊥
 broken p = let z : _≡_ {A = ℕ} 0 1 = cc in omega arith
@@ -63,11 +66,10 @@ pub record Laid (s : List ℕ) (l : Layout) : Type 0 where
   pub outer : Element
   pub version : Element
   pub validity : Element
-  pub unique : Bool
-  pub last : Element
   pub around : envelopeOf s ≡ envelope.Parts tbs outer
   pub front : frontOf s tbs ≡ Opens version (l .serial) (l .inner) (l .issuer) validity
-  pub back : backOf s (validity .end) (tbs .end) ≡ Closes (l .subject) (l .key) unique last
+  pub back : backOf s (validity .end) (tbs .end) ≡ Closes (l .subject) (l .key) (l .unique) (l .extensions)
+  pub shaped : extensionsShaped s (l .extensions) ≡ true
 
 pub laid : (s : List ℕ) (l : Layout) → layoutOf s ≡ Parts l → Laid s l
 unfolding layoutOf
@@ -85,11 +87,10 @@ laid s l e =
       outer = a .1;
       version = b .0;
       validity = b .4;
-      unique = d .2;
-      last = d .3;
       around = a .2;
       front = b .5;
       back = d .4;
+      shaped = h .0;
     })
 
 -- the first five members of the tbs
@@ -101,6 +102,7 @@ pub record Fronted (s : List ℕ) (end : ℕ) (members : Trees) (b c d v : Eleme
   pub validity : Tree
   pub rest : Trees
   pub split : members ≡ more version (more serial (more inner (more issuer (more validity rest))))
+  pub serial-tag : tagOf serial ≡ 0x02
   pub serial-member : Member s end b serial (more inner (more issuer (more validity rest)))
   pub issuer-member : Member s end d issuer (more validity rest)
   pub next : Spans s (v .end) end rest
@@ -143,6 +145,7 @@ fronted s tbs a b c d v members sp e =
       validity = t6 .tree;
       rest = t6 .rest;
       split = split-five (t1 .split) (t3 .split) (t4 .split) (t5 .split) (t6 .split);
+      serial-tag = t3 .named;
       serial-member =
           subst (λ (m : Trees). Member s (tbs .end) b (t3 .tree) m) (split-three (t4 .split) (t5 .split) (t6 .split))
           (subst (λ (x : Element). Member s (tbs .end) x (t3 .tree) (t3 .rest)) (same .0) (t3 .member));
@@ -152,27 +155,31 @@ fronted s tbs a b c d v members sp e =
       next = subst (λ (x : Element). Spans s (x .end) (tbs .end) (t6 .rest)) (same .2) (t6 .member .next);
     }
 
--- the two members after them
-pub record Backed (s : List ℕ) (end : ℕ) (members : Trees) (a b : Element) : Type 0 where
+-- the three members after them, where nothing stands between the key and the extensions
+pub record Backed (s : List ℕ) (end : ℕ) (members : Trees) (a b d : Element) : Type 0 where
   pub subject : Tree
   pub key : Tree
-  pub rest : Trees
-  pub split : members ≡ more subject (more key rest)
-  pub subject-member : Member s end a subject (more key rest)
-  pub key-member : Member s end b key rest
+  pub extensions : Trees
+  pub split : members ≡ more subject (more key (more (node 0xA3 (more (node 0x30 extensions) none)) none))
+  pub subject-octets : wholeOf s a ≡ encoded subject
+  pub key-octets : wholeOf s b ≡ encoded key
+  pub inside : Spans s (d .contents) (d .end) extensions
 
-split-two : {x y : Tree} {members p q : Trees} → members ≡ more x p → p ≡ more y q → members ≡ more x (more y q)
-split-two a b = cc
+split-back :
+    {x y z w : Tree} {members p q r list : Trees}
+    → members ≡ more x p → p ≡ more y q → q ≡ more z none → z ≡ node 0xA3 r → r ≡ more w none → w ≡ node 0x30 list
+    → members ≡ more x (more y (more (node 0xA3 (more (node 0x30 list) none)) none))
+split-back a b c d e f = cc
 
 closes-same :
-    {a b d p q t : Element} {c r : Bool} → _≡_ {A = Back} (Closes a b c d) (Closes p q r t) → (a ≡ p) × (b ≡ q)
-closes-same h = (cc, cc)
+    {a b d p q t : Element} {c r : Bool} → _≡_ {A = Back} (Closes a b c d) (Closes p q r t) → (a ≡ p) × (b ≡ q) × (c ≡ r) × (d ≡ t)
+closes-same h = (cc, cc, cc, cc)
 
 pub backed :
     (s : List ℕ) (from end : ℕ) (a b : Element) (c : Bool) (d : Element) (members : Trees) → Spans s from end members
-    → backOf s from end ≡ Closes a b c d → Backed s end members a b
-unfolding backOf
-backed s from end a b c d members sp e =
+    → backOf s from end ≡ Closes a b c d → c ≡ false → Backed s end members a b d
+unfolding backOf constructed
+backed s from end a b c d members sp e bare =
     let r = Closes a b c d in
     let f1 = went (foundTagged s from end 0x30) Backless _ r backless e in
     let t1 = tagged-first s from end 0x30 members (f1 .element) sp (f1 .there) in
@@ -182,13 +189,18 @@ backed s from end a b c d members sp e =
     let k = kept (eqb (f3 .element .end) end) _ Backless r backless (f3 .then) in
     let f4 = went (onlyOf s (f3 .element) 0x30) Backless _ r backless (k .1) in
     let same = closes-same (f4 .then) in
+    let here = eqb-true (uniqueEnd s (f2 .element .end) end) (f2 .element .end) (not-false _ (same .2 ∙ bare)) in
+    let t3 = tagged-first s (f2 .element .end) end 0xA3 (t2 .rest) (f3 .element) (t2 .member .next)
+    (subst (λ (n : ℕ). foundTagged s n end 0xA3 ≡ One (f3 .element)) here (f3 .there)) in
+    let i3 = members-inside s (f2 .element .end) end 0xA3 (t2 .rest) (f3 .element) refl t3 in
+    let t4 = only-inside s (f3 .element) 0x30 (i3 .0) (f4 .element) (i3 .2) (f4 .there) in
+    let i4 = members-inside s (f3 .element .contents) (f3 .element .end) 0x30 (i3 .0) (f4 .element) refl (t4 .0) in
     record {
       subject = t1 .tree;
       key = t2 .tree;
-      rest = t2 .rest;
-      split = split-two (t1 .split) (t2 .split);
-      subject-member =
-          subst (λ (m : Trees). Member s end a (t1 .tree) m) (t2 .split)
-          (subst (λ (x : Element). Member s end x (t1 .tree) (t1 .rest)) (same .0) (t1 .member));
-      key-member = subst (λ (x : Element). Member s end x (t2 .tree) (t2 .rest)) (same .1) (t2 .member);
+      extensions = i4 .0;
+      split = split-back (t1 .split) (t2 .split) (only-tree s (f2 .element .end) end 0xA3 (t2 .rest) (f3 .element) t3 (eqb-true _ _ (k .0))) (i3 .1) (t4 .1) (i4 .1);
+      subject-octets = subst (λ (x : Element). wholeOf s x ≡ encoded (t1 .tree)) (same .0) (t1 .member .octets);
+      key-octets = subst (λ (x : Element). wholeOf s x ≡ encoded (t2 .tree)) (same .1) (t2 .member .octets);
+      inside = subst (λ (x : Element). Spans s (x .contents) (x .end) (i4 .0)) (same .3) (i4 .2);
     }

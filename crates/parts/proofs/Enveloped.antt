@@ -1,15 +1,15 @@
 -- A signed item's outermost element is a node of tbs, algorithm and signature, and the tbs's contents encode its members.
-use Prim.Native.Nat.{ℕ, _+_, _≤_}
+use Prim.Native.Nat.{ℕ, _+_}
 use mathlib.Core.Path.{_≡_, refl, sym, ap, subst, _∙_}
-use mathlib.Core.Bool.{Bool, true, false, cond}
-use mathlib.Core.List.{List, [], _++_, append-nil}
+use mathlib.Core.Bool.{true, false, true≢false}
+use mathlib.Core.List.{List}
 use native.Mathlib.Omega.{arith}
 use borrow.Author.Tests.{eqb-true}
 use lib.Dec.{eqb}
 use lib.ListN.{length}
 use Rattle.der.specs.Forms.{paper}
 use Rattle.der.specs.Heading.{constructed}
-use Rattle.tree.specs.Tree.{Tree, leaf, node, Trees, none, more, encoded, encodedAll, tagOf, Sound, sound-leaf, sound-node, sound-none, sound-more}
+use Rattle.tree.specs.Tree.{Tree, leaf, node, Trees, none, more, encodedAll, tagOf, contentsOf, Sound, sound-leaf, sound-node}
 use Rattle.tree.proofs.Members.{length-more}
 use Rattle.tree.proofs.Reading.{encoded-some}
 use Rattle.elements.specs.declared.elements.Element.{Element}
@@ -19,16 +19,23 @@ use Rattle.elements.specs.declared.envelopes.Envelope.{Envelope}
 use Rattle.elements.specs.declared.envelopes.Envelope.the-variants.{Parts, Formless}
 use Rattle.elements.specs.Elements.{foundTagged}
 use Rattle.elements.specs.Envelope.{envelopeOf}
+use Rattle.elements.specs.Steps.{onlyOf}
 use Rattle.parts.specs.Shown.{signed}
-use Rattle.parts.proofs.Inverse.{Went, went, kept, tagged-found}
+use Rattle.parts.proofs.Inverse.{went, kept, tagged-found}
 use Rattle.parts.proofs.Spans.{Spans, Member, first-of}
 
--- a sound tree with the tag of a SEQUENCE is a node
-is-node : (tree : Tree) → Sound paper tree → tagOf tree ≡ 0x30 → (members : Trees) × (tree ≡ node 0x30 members)
-unfolding tagOf constructed
-is-node (leaf tag c) (sound-leaf small good flat octets fits contents) e =
-    absurd (let z : true ≡ false = subst (λ (t : ℕ). constructed t ≡ false) e flat in let y : _≡_ {A = ℕ} 0 1 = cc in omega arith)
-is-node (node tag members) sound e = (members, ap (λ (t : ℕ). node t members) e)
+-- a sound tree with a constructed tag is a node, and one with a primitive tag a leaf
+pub is-node : (tree : Tree) (tag : ℕ) → constructed tag ≡ true → Sound paper tree → tagOf tree ≡ tag → (members : Trees) × (tree ≡ node tag members)
+unfolding tagOf
+is-node (leaf own c) tag built (sound-leaf small good flat octets fits contents) e =
+    absurd (true≢false (sym built ∙ sym (ap constructed e) ∙ flat))
+is-node (node own members) tag built sound e = (members, ap (λ (t : ℕ). node t members) e)
+
+pub is-leaf : (tree : Tree) (tag : ℕ) → constructed tag ≡ false → Sound paper tree → tagOf tree ≡ tag → tree ≡ leaf tag (contentsOf tree)
+unfolding tagOf contentsOf
+is-leaf (leaf own c) tag flat sound e = ap (λ (t : ℕ). leaf t c) e
+is-leaf (node own members) tag flat (sound-node small good built fits all) e =
+    absurd (true≢false (sym built ∙ ap constructed e ∙ flat))
 
 -- no tree stands in a stretch without octets
 span-none : (s : List ℕ) (at : ℕ) (trees : Trees) → Spans s at at trees → trees ≡ none
@@ -52,12 +59,36 @@ tagged-first s from end tag trees e sp f =
     let x = first-of s from end trees e sp (h .0) in
     record { tree = x .0; rest = x .1; split = x .2; member = x .3; named = sym (x .3 .tag) ∙ h .1 }
 
--- the members of the first tree of a stretch, where it is a SEQUENCE
-pub sequence-inside :
-    (s : List ℕ) (from end : ℕ) (trees : Trees) (e : Element) (t : Tagged s from end 0x30 trees e)
-    → (members : Trees) × (t .tree ≡ node 0x30 members) × Spans s (e .contents) (e .end) members
-sequence-inside s from end trees e t =
-    let n = is-node (t .tree) (t .member .sound) (t .named) in (n .0, n .1, t .member .inside 0x30 (n .0) (n .1))
+-- the members of the first tree of a stretch, where its tag is constructed
+pub members-inside :
+    (s : List ℕ) (from end tag : ℕ) (trees : Trees) (e : Element) → constructed tag ≡ true → (t : Tagged s from end tag trees e)
+    → (members : Trees) × (t .tree ≡ node tag members) × Spans s (e .contents) (e .end) members
+members-inside s from end tag trees e built t =
+    let n = is-node (t .tree) tag built (t .member .sound) (t .named) in (n .0, n .1, t .member .inside tag (n .0) (n .1))
+
+-- where the first tree reaches the end of a stretch, it is the only one
+pub only-tree :
+    (s : List ℕ) (from end tag : ℕ) (trees : Trees) (e : Element) (t : Tagged s from end tag trees e) → e .end ≡ end → trees ≡ more (t .tree) none
+only-tree s from end tag trees e t h =
+    t .split ∙ ap (more (t .tree)) (span-none s end (t .rest) (subst (λ (n : ℕ). Spans s n end (t .rest)) h (t .member .next)))
+
+-- the one member of an element
+pub only-inside :
+    (s : List ℕ) (e : Element) (tag : ℕ) (members : Trees) (x : Element) → Spans s (e .contents) (e .end) members → onlyOf s e tag ≡ One x
+    → (t : Tagged s (e .contents) (e .end) tag members x) × (members ≡ more (t .tree) none)
+unfolding onlyOf
+only-inside s e tag members x sp h =
+    let f = went (foundTagged s (e .contents) (e .end) tag) Missing _ (One x) missing h in
+    let k = kept (eqb (f .element .end) (e .end)) (One (f .element)) Missing (One x) missing (f .then) in
+    let same : f .element ≡ x = one (f .element) (k .1) in
+    let t = tagged-first s (e .contents) (e .end) tag members x sp (f .there ∙ k .1) in
+    (t, only-tree s (e .contents) (e .end) tag members x t (sym (ap (λ (y : Element). y .end) same) ∙ eqb-true _ _ (k .0)))
+  where
+    missing : _≡_ {A = Found} Missing (One x) → ⊥
+    missing p = let z : _≡_ {A = ℕ} 0 1 = cc in omega arith
+
+    one : (y : Element) → _≡_ {A = Found} (One y) (One x) → y ≡ x
+    one y p = cc
 
 pub record Enveloped (s : List ℕ) (tree : Tree) (tbs : Element) : Type 0 where
   pub members : Trees
@@ -67,10 +98,10 @@ pub record Enveloped (s : List ℕ) (tree : Tree) (tbs : Element) : Type 0 where
   pub span : Spans s (tbs .contents) (tbs .end) members
 
 shape-of :
-    {tree outermost inner last second : Tree} {after members list first rest end : Trees}
+    {tree outermost inner last second : Tree} {after members list first rest : Trees}
     → _≡_ {A = Trees} (more tree none) (more outermost after) → outermost ≡ node 0x30 list → list ≡ more inner first → inner ≡ node 0x30 members
-    → first ≡ more second rest → rest ≡ more last end → end ≡ none → tree ≡ signed members second last
-shape-of a b c d e f g = cc
+    → first ≡ more second rest → rest ≡ more last none → tree ≡ signed members second last
+shape-of a b c d e f = cc
 
 parts-same : {tbs outer x y : Element} → _≡_ {A = Envelope} (Parts x y) (Parts tbs outer) → x ≡ tbs
 parts-same e = cc
@@ -79,25 +110,25 @@ parts-same e = cc
 pub enveloped :
     (s : List ℕ) (tree : Tree) (tbs outer : Element) → Spans s 0 (length s) (more tree none) → envelopeOf s ≡ Parts tbs outer
     → Enveloped s tree tbs
-unfolding envelopeOf
+unfolding envelopeOf constructed
 enveloped s tree tbs outer root e =
     let a = went (foundTagged s 0 (length s) 0x30) Formless _ (Parts tbs outer) formless e in
     let o = tagged-first s 0 (length s) 0x30 (more tree none) (a .element) root (a .there) in
-    let i = sequence-inside s 0 (length s) (more tree none) (a .element) o in
+    let i = members-inside s 0 (length s) 0x30 (more tree none) (a .element) refl o in
     let b = went (foundTagged s (a .element .contents) (a .element .end) 0x30) Formless _ (Parts tbs outer) formless (a .then) in
     let t = tagged-first s (a .element .contents) (a .element .end) 0x30 (i .0) (b .element) (i .2) (b .there) in
-    let j = sequence-inside s (a .element .contents) (a .element .end) (i .0) (b .element) t in
+    let j = members-inside s (a .element .contents) (a .element .end) 0x30 (i .0) (b .element) refl t in
     let c = went (foundTagged s (b .element .end) (a .element .end) 0x30) Formless _ (Parts tbs outer) formless (b .then) in
     let u = tagged-first s (b .element .end) (a .element .end) 0x30 (t .rest) (c .element) (t .member .next) (c .there) in
     let d = went (foundTagged s (c .element .end) (a .element .end) 0x03) Formless _ (Parts tbs outer) formless (c .then) in
     let v = tagged-first s (c .element .end) (a .element .end) 0x03 (u .rest) (d .element) (u .member .next) (d .there) in
     let k = kept (eqb (d .element .end) (a .element .end)) _ Formless (Parts tbs outer) formless (d .then) in
-    let gone = span-none s (a .element .end) (v .rest) (subst (λ (n : ℕ). Spans s n (a .element .end) (v .rest)) (eqb-true _ _ (k .0)) (v .member .next)) in
+    let gone = only-tree s (c .element .end) (a .element .end) 0x03 (u .rest) (d .element) v (eqb-true _ _ (k .0)) in
     record {
       members = j .0;
       algorithm = u .tree;
       signature = v .tree;
-      shape = shape-of (o .split) (i .1) (t .split) (j .1) (u .split) (v .split) gone;
+      shape = shape-of (o .split) (i .1) (t .split) (j .1) (u .split) gone;
       span = subst (λ (x : Element). Spans s (x .contents) (x .end) (j .0)) (parts-same (k .1)) (j .2);
     }
   where

@@ -1,7 +1,7 @@
 -- What must have been found where a chain of steps came to its end: each step, by going back from the answer.
 use Prim.Native.Nat.{ℕ}
-use mathlib.Core.Path.{_≡_, refl, sym, _∙_}
-use mathlib.Core.Bool.{Bool, true, false, cond}
+use mathlib.Core.Path.{_≡_, refl}
+use mathlib.Core.Bool.{Bool, true, false, false≢true, cond, _&&_}
 use mathlib.Core.List.{List}
 use native.Mathlib.Omega.{arith}
 use borrow.Author.Tests.{eqb-true}
@@ -34,6 +34,15 @@ went (One element) missing next r other e = record { element = element; there = 
 pub kept : {A : Type 0} (b : Bool) (x y r : A) → (y ≡ r → ⊥) → cond b x y ≡ r → (b ≡ true) × (x ≡ r)
 kept true x y r other e = (refl, e)
 kept false x y r other e = absurd (other e)
+
+pub parted : {A P : Type 0} (b : Bool) (x y r : A) → (x ≡ r → P) → (y ≡ r → P) → cond b x y ≡ r → P
+parted true x y r f g e = f e
+parted false x y r f g e = g e
+
+-- a conjunction's parts
+pub both : (p q : Bool) → (p && q) ≡ true → (p ≡ true) × (q ≡ true)
+both true q e = (refl, e)
+both false q e = absurd (false≢true e)
 
 pub tagged-found :
     (s : List ℕ) (from end tag : ℕ) (e : Element) → foundTagged s from end tag ≡ One e → (foundAt s from end ≡ One e) × (e .tag ≡ tag)

@@ -2,5 +2,8 @@ pub mod Spans
 pub mod Inverse
 pub mod Enveloped
 pub mod Certificates
+pub mod Extensions
+pub mod KeyIdentifiers
+pub mod Serials
 pub mod Lists
 pub mod Theorems

@@ -1,10 +1,10 @@
 -- The first members of a CRL's tbs, one after the other, by going back through the steps of its shape.
 use Prim.Native.Nat.{ℕ}
-use mathlib.Core.Path.{_≡_, refl, sym, subst, _∙_}
+use mathlib.Core.Path.{_≡_, refl, subst}
 use mathlib.Core.Bool.{Bool}
 use mathlib.Core.List.{List}
 use native.Mathlib.Omega.{arith}
-use Rattle.tree.specs.Tree.{Tree, Trees, none, more}
+use Rattle.tree.specs.Tree.{Tree, Trees, more}
 use Rattle.elements.specs.declared.elements.Element.{Element}
 use Rattle.elements.specs.declared.envelopes.Envelope.the-variants as envelope
 use Rattle.elements.specs.Elements.{foundTagged}
@@ -16,7 +16,6 @@ use Rattle.crl.specs.declared.entries.Survey.the-variants as survey
 use Rattle.crl.specs.declared.shapes.Front.{Front}
 use Rattle.crl.specs.declared.shapes.Front.the-variants.{Opens, Frontless}
 use Rattle.crl.specs.declared.shapes.Layout.{Layout}
-use Rattle.crl.specs.declared.shapes.Listing.{Listing}
 use Rattle.crl.specs.declared.shapes.Shape.{Shape}
 use Rattle.crl.specs.declared.shapes.Shape.the-variants.{Parts, Broken}
 use Rattle.crl.specs.Entries.{surveyOf}

@@ -1,18 +1,13 @@
 -- A stretch of an item that encodes some trees: the element found at its start is the first of them, what follows encodes
 -- the others, and its contents encode its members.
-use Prim.Native.Nat.{ℕ, _+_, _-_, _≤_}
+use Prim.Native.Nat.{ℕ, _+_, _-_}
 use mathlib.Core.Path.{_≡_, refl, sym, ap, subst, _∙_}
-use mathlib.Core.Bool.{true, false, true≢false}
-use mathlib.Core.List.{List, [], _∷_, _++_, append-nil, append-assoc}
+use mathlib.Core.List.{List, _++_, append-assoc}
 use native.Mathlib.Omega.{arith}
 use lib.Dec.{lit≤}
 use lib.ListN.{length, take, drop, length-append}
-use Rattle.der.specs.declared.stepping.Step.{Step}
-use Rattle.der.specs.declared.stepping.Step.the-variants.{At, Nothing}
 use Rattle.der.specs.Forms.{paper}
-use Rattle.der.specs.Heading.{constructed}
-use Rattle.der.specs.Member.{memberOf}
-use Rattle.tree.specs.Tree.{Tree, leaf, node, Trees, none, more, encoded, encodedAll, tagOf, contentsOf, headerOf, Sound, sound-leaf, sound-node, SoundAll, sound-none, sound-more}
+use Rattle.tree.specs.Tree.{Tree, node, Trees, none, more, encoded, encodedAll, tagOf, contentsOf, headerOf, Sound, sound-node, SoundAll, sound-more}
 use Rattle.tree.proofs.Theorems.{step-none, step-more, step-next, step-inside, step-contents}
 use Rattle.tree.proofs.Members.{part-at, length-more}
 use Rattle.tree.proofs.Parts.{length-parts}
@@ -103,36 +98,42 @@ module _ (before behind : List ℕ) (tree : Tree) (trees : Trees) (sound : Sound
             sound = members-sound tag members (subst (Sound paper) e sound);
           }
 
-  found-member : (e : Element) → foundAt item (length before) stop-at ≡ One e → Member item stop-at e tree trees
-  found-member e f = subst (λ (x : Element). Member item stop-at x tree trees) (one (sym first-found ∙ f)) first-member
-    where
-      one : _≡_ {A = Found} (One first) (One e) → first ≡ e
-      one p = cc
+-- the first tree of a stretch is found at its start
+pub found-first :
+    (s : List ℕ) (from end : ℕ) (tree : Tree) (trees : Trees) → Spans s from end (more tree trees)
+    → (e : Element) × (foundAt s from end ≡ One e) × Member s end e tree trees
+unfolding item stop-at
+found-first s from end tree trees sp = go (sp .sound)
+  where
+    go : SoundAll paper (more tree trees) → (e : Element) × (foundAt s from end ≡ One e) × Member s end e tree trees
+    go (sound-more sound others) =
+        let b = sp .before in
+        let h = sp .behind in
+        subst (λ (t : List ℕ). (e : Element) × (foundAt t from end ≡ One e) × Member t end e tree trees) (sp .whole)
+        (subst (λ (a : ℕ). (e : Element) × (foundAt (item b h tree trees sound others) a end ≡ One e) × Member (item b h tree trees sound others) end e tree trees) (sp .start)
+        (subst (λ (d : ℕ). (e : Element) × (foundAt (item b h tree trees sound others) (length b) d ≡ One e) × Member (item b h tree trees sound others) d e tree trees) (sp .stop)
+        (first b h tree trees sound others, first-found b h tree trees sound others, first-member b h tree trees sound others)))
+
+-- in a stretch without trees nothing is found
+pub found-none : (s : List ℕ) (from end : ℕ) → Spans s from end none → foundAt s from end ≡ Missing
+unfolding foundAt stepped encodedAll
+found-none s from end sp =
+    subst (λ (t : List ℕ). foundAt t from end ≡ Missing) (sp .whole)
+    (subst (λ (b : ℕ). foundAt (sp .before ++ encodedAll none ++ sp .behind) b end ≡ Missing) (sp .start)
+    (subst (λ (b : ℕ). foundAt (sp .before ++ encodedAll none ++ sp .behind) (length (sp .before)) b ≡ Missing) (sp .stop)
+    (ap (stepped (length (sp .before))) (step-none paper (sp .before) (sp .behind)))))
 
 -- an element that is found in a stretch is the first of its trees
 pub first-of :
     (s : List ℕ) (from end : ℕ) (trees : Trees) (e : Element) → Spans s from end trees → foundAt s from end ≡ One e
     → (tree : Tree) × (rest : Trees) × (trees ≡ more tree rest) × Member s end e tree rest
-unfolding foundAt stepped encodedAll item stop-at
-first-of s from end none e sp f = absurd (never (sym gone ∙ f))
+first-of s from end none e sp f = absurd (never (sym (found-none s from end sp) ∙ f))
   where
-    gone : foundAt s from end ≡ Missing
-    gone =
-        subst (λ (t : List ℕ). foundAt t from end ≡ Missing) (sp .whole)
-        (subst (λ (b : ℕ). foundAt (sp .before ++ encodedAll none ++ sp .behind) b end ≡ Missing) (sp .start)
-        (subst (λ (b : ℕ). foundAt (sp .before ++ encodedAll none ++ sp .behind) (length (sp .before)) b ≡ Missing) (sp .stop)
-        (ap (stepped (length (sp .before))) (step-none paper (sp .before) (sp .behind)))))
-
     never : _≡_ {A = Found} Missing (One e) → ⊥
     never p = let z : _≡_ {A = ℕ} 0 1 = cc in omega arith
 first-of s from end (more tree rest) e sp f =
-    (tree, rest, refl, moved (sp .sound) f)
+    let x = found-first s from end tree rest sp in
+    (tree, rest, refl, subst (λ (y : Element). Member s end y tree rest) (one (x .0) (sym (x .1) ∙ f)) (x .2))
   where
-    moved : SoundAll paper (more tree rest) → foundAt s from end ≡ One e → Member s end e tree rest
-    moved (sound-more sound others) =
-        let b = sp .before in
-        let h = sp .behind in
-        subst (λ (t : List ℕ). foundAt t from end ≡ One e → Member t end e tree rest) (sp .whole)
-        (subst (λ (a : ℕ). foundAt (item b h tree rest sound others) a end ≡ One e → Member (item b h tree rest sound others) end e tree rest) (sp .start)
-        (subst (λ (d : ℕ). foundAt (item b h tree rest sound others) (length b) d ≡ One e → Member (item b h tree rest sound others) d e tree rest) (sp .stop)
-        (found-member b h tree rest sound others e)))
+    one : (y : Element) → _≡_ {A = Found} (One y) (One e) → y ≡ e
+    one y p = cc

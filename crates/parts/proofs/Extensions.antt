@@ -1,0 +1,219 @@
+-- The extensions that are looked through are the trees of their stretch in order, and an extension's two or three elements are its
+-- tree's members: so the one that a look-up finds is one of the trees, and where it finds none no tree has the OID.
+use Prim.Native.Nat.{ℕ, _≤_}
+use mathlib.Core.Path.{_≡_, refl, sym, ap, subst, _∙_}
+use mathlib.Core.Bool.{Bool, true, false, true≢false, cond}
+use mathlib.Core.List.{List}
+use native.Mathlib.Omega.{arith}
+use borrow.Author.Tests.{eqb-true}
+use lib.Dec.{eqb}
+use lib.ListN.{length, getD}
+use Rattle.der.specs.Forms.{paper}
+use Rattle.der.specs.Heading.{constructed}
+use Rattle.der.specs.Octets.{Octets}
+use Rattle.tree.specs.Tree.{Tree, leaf, node, Trees, none, more, Sound, sound-leaf}
+use Rattle.elements.specs.declared.elements.Element.{Element}
+use Rattle.elements.specs.declared.elements.Found.{Found}
+use Rattle.elements.specs.declared.elements.Found.the-variants.{One}
+use Rattle.elements.specs.Elements.{foundAt, foundTagged, withTag, membersOf}
+use Rattle.elements.specs.Elements as elements
+use Rattle.elements.proofs.Likeness.{alike-is, is-alike}
+use Rattle.elements.proofs.Members.{found-within, members-none, members-more}
+use Rattle.extensions.specs.declared.Extension.{Extension}
+use Rattle.extensions.specs.declared.Extension.the-variants.{Is, Absent}
+use Rattle.extensions.specs.Extensions.{holdingOf, extensionOf, present, allShaped, hasOid, firstWith}
+use Rattle.parts.specs.Shown.{Among, first, later, extension}
+use Rattle.parts.proofs.Inverse.{went, kept, parted, tagged-found}
+use Rattle.parts.proofs.Spans.{Spans, Member, found-first, found-none}
+use Rattle.parts.proofs.Enveloped.{Tagged, tagged-first, is-node, is-leaf, only-tree}
+
+-- an OCTET STRING whose octets stand in the item
+pub record Holds (s : List ℕ) (value : Element) : Type 0 where
+  pub octets : Octets (elements.contentsOf s value)
+  pub order : value .contents ≤ value .end
+  pub within : value .end ≤ length s
+
+-- the tree of an extension: its OID first, and where it is not critical its OCTET STRING next and last
+pub record Extended (s : List ℕ) (tree : Tree) (oid : Element) (critical : Bool) (value : Element) : Type 0 where
+  pub rest : Trees
+  pub shape : tree ≡ node 0x30 (more (leaf 0x06 (elements.contentsOf s oid)) rest)
+  pub plain : critical ≡ false → (rest ≡ more (leaf 0x04 (elements.contentsOf s value)) none) × Holds s value
+
+absent : {oid value : Element} {critical : Bool} → _≡_ {A = Extension} Absent (Is oid critical value) → ⊥
+absent p = let z : _≡_ {A = ℕ} 0 1 = cc in omega arith
+
+is-same :
+    {a b c d : Element} {p q : Bool} → _≡_ {A = Extension} (Is a p b) (Is c q d) → (a ≡ c) × (p ≡ q) × (b ≡ d)
+is-same h = (cc, cc, cc)
+
+held :
+    (e own oid value : Element) (flag critical : Bool) (next : Found) → holdingOf e own flag next ≡ Is oid critical value
+    → (own ≡ oid) × (flag ≡ critical) × (withTag 0x04 next ≡ One value) × (value .end ≡ e .end)
+unfolding holdingOf
+held e own oid value flag critical next h =
+    let r = Is oid critical value in
+    let f = went (withTag 0x04 next) Absent _ r absent h in
+    let k = kept (eqb (f .element .end) (e .end)) (Is own flag (f .element)) Absent r absent (f .then) in
+    let same = is-same (k .1) in
+    (same .0, same .1, f .there ∙ ap One (same .2), sym (ap (λ (x : Element). x .end) (same .2)) ∙ eqb-true _ _ (k .0))
+
+-- what is found in an extension
+record Opened (s : List ℕ) (e oid : Element) (critical : Bool) (value : Element) : Type 0 where
+  built : e .tag ≡ 0x30
+  named : foundTagged s (e .contents) (e .end) 0x06 ≡ One oid
+  plain : critical ≡ false → foundTagged s (oid .end) (e .end) 0x04 ≡ One value
+  last : value .end ≡ e .end
+
+opened : (s : List ℕ) (e oid : Element) (critical : Bool) (value : Element) → extensionOf s e ≡ Is oid critical value → Opened s e oid critical value
+unfolding extensionOf foundTagged
+opened s e oid critical value h =
+    let r = Is oid critical value in
+    let k = kept (eqb (e .tag) 0x30) _ Absent r absent h in
+    let a = went (foundTagged s (e .contents) (e .end) 0x06) Absent _ r absent (k .1) in
+    let b = went (foundAt s (a .element .end) (e .end)) Absent _ r absent (a .then) in
+    parted (eqb (b .element .tag) 0x01) _ _ r
+    (λ c. let g = kept (eqb (getD s (b .element .contents) 0) 255) _ Absent r absent c in
+    let q = held e (a .element) oid value true critical (foundAt s (b .element .end) (e .end)) (g .1) in
+    record {
+      built = eqb-true _ _ (k .0);
+      named = a .there ∙ ap One (q .0);
+      plain = λ p. absurd (true≢false (q .1 ∙ p));
+      last = q .3;
+    })
+    (λ c. let q = held e (a .element) oid value false critical (One (b .element)) c in
+    record {
+      built = eqb-true _ _ (k .0);
+      named = a .there ∙ ap One (q .0);
+      plain = λ p.
+          subst (λ (x : Element). withTag 0x04 (foundAt s (x .end) (e .end)) ≡ One value) (q .0) (ap (withTag 0x04) (b .there) ∙ q .2);
+      last = q .3;
+    })
+    (b .then)
+
+-- an element found by a primitive tag is a leaf of its contents
+pub found-leaf :
+    (s : List ℕ) (from end tag : ℕ) (trees : Trees) (e : Element) → constructed tag ≡ false → (t : Tagged s from end tag trees e)
+    → t .tree ≡ leaf tag (elements.contentsOf s e)
+found-leaf s from end tag trees e flat t =
+    is-leaf (t .tree) tag flat (t .member .sound) (t .named) ∙ ap (leaf tag) (sym (t .member .contents))
+
+leaf-octets : (tag : ℕ) (c : List ℕ) → Sound paper (leaf tag c) → Octets c
+leaf-octets tag c (sound-leaf small good flat octets fits contents) = octets
+
+shape-of :
+    {tree oid : Tree} {members rest : Trees} {c : List ℕ}
+    → tree ≡ node 0x30 members → members ≡ more oid rest → oid ≡ leaf 0x06 c → tree ≡ node 0x30 (more (leaf 0x06 c) rest)
+shape-of a b c = cc
+
+extension-tree :
+    (s : List ℕ) (end : ℕ) (e : Element) (tree : Tree) (trees : Trees) (oid : Element) (critical : Bool) (value : Element)
+    → Member s end e tree trees → extensionOf s e ≡ Is oid critical value → Extended s tree oid critical value
+unfolding constructed
+extension-tree s end e tree trees oid critical value m h =
+    let o = opened s e oid critical value h in
+    let n = is-node tree 0x30 refl (m .sound) (sym (m .tag) ∙ o .built) in
+    let t = tagged-first s (e .contents) (e .end) 0x06 (n .0) oid (m .inside 0x30 (n .0) (n .1)) (o .named) in
+    record {
+      rest = t .rest;
+      shape = shape-of (n .1) (t .split) (found-leaf s (e .contents) (e .end) 0x06 (n .0) oid refl t);
+      plain = λ p. value-tree (t .rest) (o .plain p) (o .last) (t .member .next);
+    }
+  where
+    value-tree :
+        (rest : Trees) → foundTagged s (oid .end) (e .end) 0x04 ≡ One value → value .end ≡ e .end → Spans s (oid .end) (e .end) rest
+        → (rest ≡ more (leaf 0x04 (elements.contentsOf s value)) none) × Holds s value
+    value-tree rest found last sp =
+        let t = tagged-first s (oid .end) (e .end) 0x04 rest value sp found in
+        let l = found-leaf s (oid .end) (e .end) 0x04 rest value refl t in
+        let w = found-within s (oid .end) (e .end) (tagged-found s (oid .end) (e .end) 0x04 value found .0) in (
+          only-tree s (oid .end) (e .end) 0x04 rest value t last ∙ ap (λ (x : Tree). more x none) l,
+          record {
+            octets = leaf-octets 0x04 (elements.contentsOf s value) (subst (Sound paper) l (t .member .sound));
+            order = w .5;
+            within = omega (arith, w .2, w .3);
+          },
+        )
+
+-- an extension that is not critical, with this OID and this value, is one of the trees
+pub record Listed (s : List ℕ) (trees : Trees) (oid : List ℕ) (value : Element) : Type 0 where
+  pub among : Among (extension oid (elements.contentsOf s value)) trees
+  pub holds : Holds s value
+
+extension-is :
+    {tree : Tree} {rest : Trees} {own oid c : List ℕ}
+    → tree ≡ node 0x30 (more (leaf 0x06 own) rest) → rest ≡ more (leaf 0x04 c) none → own ≡ oid → tree ≡ extension oid c
+extension-is a b c = cc
+
+oid-same :
+    {own oid : List ℕ} {p q : Trees} → _≡_ {A = Tree} (node 0x30 (more (leaf 0x06 own) p)) (node 0x30 (more (leaf 0x06 oid) q)) → own ≡ oid
+oid-same h = cc
+
+present-is : (x : Extension) → present x ≡ true → (oid : Element) × (critical : Bool) × (value : Element) × (x ≡ Is oid critical value)
+unfolding present
+present-is Absent h = absurd (true≢false (sym h))
+present-is (Is oid critical value) h = (oid, critical, value, refl)
+
+missed :
+    {o v : Element} {c : Bool} (has : Bool) (x rest : Extension) → x ≡ Is o c v → cond has x rest ≡ Absent → (has ≡ false) × (rest ≡ Absent)
+missed true x rest e h = absurd (absent (sym h ∙ e))
+missed false x rest e h = (refl, h)
+
+module _ (s oid : List ℕ) (end : ℕ) where
+  -- the look-up, and the test of all shapes, over the first member and the others
+  looks : (from : ℕ) (e : Element) → foundAt s from end ≡ One e → (r : Extension) → firstWith s oid (membersOf s from end) ≡ r
+      → cond (hasOid s oid (extensionOf s e)) (extensionOf s e) (firstWith s oid (membersOf s (e .end) end)) ≡ r
+  unfolding firstWith
+  looks from e f r h = sym (ap (firstWith s oid) (members-more s from end f)) ∙ h
+
+  tests : (from : ℕ) (e : Element) → foundAt s from end ≡ One e → allShaped s (membersOf s from end) ≡ true
+      → (present (extensionOf s e) ≡ true) × (allShaped s (membersOf s (e .end) end) ≡ true)
+  unfolding allShaped
+  tests from e f h =
+      kept (present (extensionOf s e)) (allShaped s (membersOf s (e .end) end)) false true (λ p. true≢false (sym p))
+      (sym (ap (allShaped s) (members-more s from end f)) ∙ h)
+
+  -- the extension that a look-up finds, if it is not critical
+  pub look-finds :
+      (trees : Trees) (from : ℕ) (own value : Element) → Spans s from end trees → firstWith s oid (membersOf s from end) ≡ Is own false value
+      → Listed s trees oid value
+  unfolding firstWith hasOid
+  look-finds none from own value sp h =
+      absurd (absent (sym (ap (firstWith s oid) (members-none s from end (found-none s from end sp))) ∙ h))
+  look-finds (more tree trees) from own value sp h =
+      let x = found-first s from end tree trees sp in
+      go (x .0) (x .2) (look-finds trees (x .0 .end) own value (x .2 .next)) (hasOid s oid (extensionOf s (x .0))) refl
+      (looks from (x .0) (x .1) (Is own false value) h)
+    where
+      here : (e : Element) → Member s end e tree trees → extensionOf s e ≡ Is own false value → hasOid s oid (Is own false value) ≡ true → Listed s (more tree trees) oid value
+      here e m i has =
+          let t = extension-tree s end e tree trees own false value m i in
+          let p = t .plain refl in
+          let shape = extension-is (t .shape) (p .0) (alike-is (elements.contentsOf s own) oid has) in
+          record { among = subst (λ (y : Tree). Among y (more tree trees)) shape first; holds = p .1 }
+
+      go :
+          (e : Element) → Member s end e tree trees → (firstWith s oid (membersOf s (e .end) end) ≡ Is own false value → Listed s trees oid value)
+          → (has : Bool) → hasOid s oid (extensionOf s e) ≡ has
+          → cond has (extensionOf s e) (firstWith s oid (membersOf s (e .end) end)) ≡ Is own false value → Listed s (more tree trees) oid value
+      go e m less true has i = here e m i (sym (ap (hasOid s oid) i) ∙ has)
+      go e m less false has i = let r = less i in record { among = later (r .among); holds = r .holds }
+
+  -- where a look-up finds nothing in extensions of their shape, none has the OID
+  pub look-misses :
+      {trees : Trees} (from : ℕ) (members : Trees) → Spans s from end trees → allShaped s (membersOf s from end) ≡ true
+      → firstWith s oid (membersOf s from end) ≡ Absent → Among (node 0x30 (more (leaf 0x06 oid) members)) trees → ⊥
+  unfolding hasOid
+  look-misses from members sp shaped h (first {rest = trees}) =
+      let tree = node 0x30 (more (leaf 0x06 oid) members) in
+      let x = found-first s from end tree trees sp in
+      let p = present-is (extensionOf s (x .0)) (tests from (x .0) (x .1) shaped .0) in
+      let t = extension-tree s end (x .0) tree trees (p .0) (p .1) (p .2) (x .2) (p .3) in
+      let other = missed (hasOid s oid (extensionOf s (x .0))) _ _ (p .3) (looks from (x .0) (x .1) Absent h) in
+      let has = is-alike (elements.contentsOf s (p .0)) oid (oid-same (sym (t .shape))) in
+      true≢false (sym has ∙ sym (ap (hasOid s oid) (p .3)) ∙ other .0)
+  look-misses from members sp shaped h (later {other = other} {rest = trees} a) =
+      let x = found-first s from end other trees sp in
+      let shapes = tests from (x .0) (x .1) shaped in
+      let p = present-is (extensionOf s (x .0)) (shapes .0) in
+      let rest = missed (hasOid s oid (extensionOf s (x .0))) _ _ (p .3) (looks from (x .0) (x .1) Absent h) in
+      look-misses (x .0 .end) members (x .2 .next) (shapes .1) (rest .1) a
