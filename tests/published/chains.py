@@ -4,8 +4,8 @@
   chains.py           writes chains.tsv
   chains.py --check   writes nothing; exit status 1 where chains.tsv is not what is found now
 
-chains.tsv has the columns image, moment, place (the signer asked for), number (0 for a chain, else the refusal), detail,
-length and places (with commas between them, - if there are none).
+chains.tsv has the columns image, moment, place (the signer asked for), number (0 for a chain, else the refusal),
+detail, length and places (with commas between them, - if there are none).
 """
 import pathlib
 import sys

@@ -142,7 +142,8 @@ class Maker:
             sys.exit('openssl %s\n%s' % (' '.join(words), done.stderr))
 
     def config(self, **values):
-        self.write('config', CONFIG % dict(dict.fromkeys(('first', 'letters', 'own', 'authority', 'start', 'end'), ''), **values))
+        nothing = dict.fromkeys(('first', 'letters', 'own', 'authority', 'start', 'end'), '')
+        self.write('config', CONFIG % dict(nothing, **values))
 
     def der(self, command, name):
         self.openssl(command, '-in', name + '.pem', '-outform', 'DER', '-out', str(FOLDER / (name + '.der')))
