@@ -4,7 +4,7 @@
   agree.py    exit status 1 where a field is another one
 
 It goes over tests/data/published, in the roles of answers.tsv, and tests/data/made, in the kinds of places.tsv. The
-records are stored, so that no other reader is needed. A part told by offset and length must be those octets of the item.
+records are stored, so that no other reader is needed. A part told by offset and length must be those octets.
 """
 import pathlib
 import sys
