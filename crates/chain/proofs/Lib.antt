@@ -1,1 +1,4 @@
+pub mod RowLaws
+pub mod Slots
+pub mod Cells
 pub mod Theorems

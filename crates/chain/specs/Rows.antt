@@ -161,10 +161,12 @@ unfoldable pub signedOf : Row → Bool
 signedOf row = cond (eqb (row .standing) 2) true (eqb (row .standing) 3)
 
 -- 1 a usable anchor, 2 a usable link, 3 a usable signer, else 0
+unfoldable pub roleBy : Row → ℕ → ℕ
+roleBy row spoken =
+    cond (signedOf row) (cond (eqb spoken 1) (cond (eqb (row .standing) 2) 2 3) 0) (cond (eqb (row .standing) 1) 1 0)
+
 unfoldable pub roleOf : List ℕ → ℕ → List Row → List ℕ → Row → ℕ
-roleOf s n rows counting row =
-    cond (signedOf row) (cond (eqb (spokenBelow s rows counting row n) 1) (cond (eqb (row .standing) 2) 2 3) 0)
-    (flag (eqb (row .standing) 1))
+roleOf s n rows counting row = roleBy row (cond (signedOf row) (spokenBelow s rows counting row n) 0)
 
 -- the table of roles
 abbrev pub Roles : List ℕ → ℕ → List Row → List ℕ → List ℕ → Type 0
@@ -184,11 +186,15 @@ fitsOf s u v =
     (alike (pieceOf s v (v .«issuer_at») (v .«issuer_len»)) (pieceOf s u (u .«subject_at») (u .«subject_len»)))
     false
 
+-- a link or signer that fits
+unfoldable pub matchedOf : List ℕ → Row → Row → ℕ → Bool
+matchedOf s u v role = cond (ledOf role) (fitsOf s u v) false
+
 -- a good step between usable places
 unfoldable pub stepOf : List ℕ → ℕ → List ℕ → List Row → List ℕ → ℕ → ℕ → Bool
 stepOf s n table rows roles u v =
     cond (leadsOf (getD roles u 0))
-    (cond (verdictIn n table u v) (cond (ledOf (getD roles v 0)) (fitsOf s (rowAt rows u) (rowAt rows v)) false) false)
+    (cond (verdictIn n table u v) (matchedOf s (rowAt rows u) (rowAt rows v) (getD roles v 0)) false)
     false
 
 -- the table of steps

@@ -1,6 +1,7 @@
 // Which CRLs count.
 use crate::opened::Row;
 ghost use mathlib.Core.Path.{_≡_};
+ghost use mathlib.Core.Bool.{cond};
 ghost use Prim.Native.Nat.{_≤_};
 ghost use lib.ListN.{getD};
 ghost use Rattle.chain.specs.Rows.{vouchesOf, Counted};
@@ -22,23 +23,29 @@ pub(crate) fn counting_lists(table: &[u8], places: usize, rows: [Row; 96]) -> [u
     while list < places {
         let own = rows[list];
         if own.standing == 4 {
-            let mut vouched = false;
+            let mut vouched = 0;
             let mut anchor = 0;
             while anchor < places {
                 if octet(table, anchor * places + list) == 1 {
-                    if vouches(rows[anchor], own) {
-                        vouched = true;
-                    }
+                    vouched = vouched_by(rows[anchor], own, vouched);
                 }
                 anchor += 1;
             }
-            if vouched {
-                counting[list] = 1;
-            }
+            counting[list] = vouched;
         }
         list += 1;
     }
     counting
+}
+
+// 1 where an anchor before or this one vouches.
+fn vouched_by(anchor: Row, list: Row, before: u8) -> u8
+    ensures { λ r. ⌜ r ≡ cond (vouchesOf anchor list) 1 before ⌝ }
+{
+    if vouches(anchor, list) {
+        return 1;
+    }
+    before
 }
 
 // A usable anchor of the CRL's country.

@@ -5,7 +5,7 @@ use crate::roles::piece;
 use elements::same;
 ghost use mathlib.Core.Path.{_≡_};
 ghost use Prim.Native.Nat.{_≤_};
-ghost use Rattle.chain.specs.Rows.{leadsOf, ledOf, fitsOf, Matched};
+ghost use Rattle.chain.specs.Rows.{flag, leadsOf, ledOf, fitsOf, matchedOf, Matched};
 
 // 96 rows of 96 columns: 1 for a good step from an anchor or link to a link or signer, all usable.
 pub(crate) fn matching_steps(
@@ -22,14 +22,11 @@ pub(crate) fn matching_steps(
     let mut u = 0;
     while u < places {
         if leads(roles[u]) {
+            let from = rows[u];
             let mut v = 0;
             while v < places {
                 if octet(table, u * places + v) == 1 {
-                    if led(roles[v]) {
-                        if fits(image, rows[u], rows[v]) {
-                            steps[u * 96 + v] = 1;
-                        }
-                    }
+                    steps[u * 96 + v] = matched(image, from, rows[v], roles[v]);
                 }
                 v += 1;
             }
@@ -37,6 +34,19 @@ pub(crate) fn matching_steps(
         u += 1;
     }
     steps
+}
+
+// 1 where the second place can be led to and the two fit.
+fn matched(image: &[u8], u: Row, v: Row, role: u8) -> u8
+    ensures { λ r. ⌜ r ≡ flag (matchedOf (now (image .entry)) u v role) ⌝ }
+{
+    if !led(role) {
+        return 0;
+    }
+    if fits(image, u, v) {
+        return 1;
+    }
+    0
 }
 
 // An anchor or a link.

@@ -5,9 +5,7 @@ use elements::same;
 use image::part;
 ghost use mathlib.Core.Path.{_≡_};
 ghost use Prim.Native.Nat.{_≤_};
-ghost use mathlib.Core.Bool.{cond};
-ghost use lib.Dec.{eqb};
-ghost use Rattle.chain.specs.Rows.{pieceOf, signedOf, spokenOf, Roles};
+ghost use Rattle.chain.specs.Rows.{pieceOf, signedOf, spokenOf, roleBy, Roles};
 
 // 1 a usable anchor, 2 a usable link, 3 a usable signer, else 0.
 pub(crate) fn roles_of(image: &[u8], places: usize, rows: [Row; 96], counting: [u8; 96]) -> [u8; 96]
@@ -18,8 +16,8 @@ pub(crate) fn roles_of(image: &[u8], places: usize, rows: [Row; 96], counting: [
     let mut place = 0;
     while place < places {
         let own = rows[place];
+        let mut spoken = 0;
         if signed(own) {
-            let mut spoken = 0;
             let mut list = 0;
             while list < places {
                 if counting[list] == 1 {
@@ -27,13 +25,8 @@ pub(crate) fn roles_of(image: &[u8], places: usize, rows: [Row; 96], counting: [
                 }
                 list += 1;
             }
-            if spoken == 1 {
-                roles[place] = role_of(own);
-            }
         }
-        if own.standing == 1 {
-            roles[place] = 1;
-        }
+        roles[place] = role_of(own, spoken);
         place += 1;
     }
     roles
@@ -49,14 +42,23 @@ fn signed(row: Row) -> bool
     row.standing == 3
 }
 
-// Its role where it is usable.
-fn role_of(row: Row) -> u8
-    ensures { λ r. ⌜ r ≡ cond (eqb (row .standing) 2) 2 3 ⌝ }
+// The role of a place, by what the CRLs say of it.
+fn role_of(row: Row, spoken: u8) -> u8
+    ensures { λ r. ⌜ r ≡ roleBy row spoken ⌝ }
 {
-    if row.standing == 2 {
-        return 2;
+    if signed(row) {
+        if spoken != 1 {
+            return 0;
+        }
+        if row.standing == 2 {
+            return 2;
+        }
+        return 3;
     }
-    3
+    if row.standing == 1 {
+        return 1;
+    }
+    0
 }
 
 // What the CRLs say: 0 none covers the certificate, 1 one covers it, 2 one that covers it lists its serial.
