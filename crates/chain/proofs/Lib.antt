@@ -1,1 +1,4 @@
+pub mod Bits
+pub mod Filling
+pub mod ImageOpened
 pub mod Theorems
