@@ -1,4 +1,1 @@
-pub mod RowLaws
-pub mod Slots
-pub mod Cells
 pub mod Theorems

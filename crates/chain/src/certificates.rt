@@ -1,7 +1,7 @@
 // The row of a certificate.
+use crate::opened::Row;
 use certificate::Judged;
 use certificate::judge;
-use crate::opened::Row;
 use image::IndexEntry;
 ghost use mathlib.Core.Path.{_≡_};
 ghost use Rattle.chain.specs.Rows.{blank, certificateRow};
