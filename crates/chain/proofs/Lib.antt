@@ -1,1 +1,4 @@
+pub mod ImageOpened
+pub mod Transfer
+pub mod PlacesMean
 pub mod Theorems
