@@ -5,4 +5,8 @@ pub mod RowReadings
 pub mod StandingMeans
 pub mod ItemsTold
 pub mod CountingMeans
+pub mod SpeakingMeans
+pub mod RolesMean
+pub mod StepsMean
+pub mod Meaning
 pub mod Theorems
