@@ -1,12 +1,12 @@
 -- The table of counting CRLs tells which CRLs count: the rows tell the usable anchors, the CRLs and their letters.
 use Prim.Native.Nat.{ℕ, zero, suc, _<_}
-use mathlib.Core.Path.{_≡_, refl, ap, ap₂, sym, _∙_}
+use mathlib.Core.Path.{_≡_, refl, ap₂, sym, _∙_}
 use mathlib.Core.Bool.{Bool, true, false, cond, _&&_, _||_}
 use mathlib.Core.List.{List}
 use native.Mathlib.Omega.{arith}
 use borrow.Author.Tests.{eqb-true}
 use lib.Dec.{eqb}
-use lib.ListN.{length, getD}
+use lib.ListN.{getD}
 use Rattle.certificate.specs.declared.Fields as certificates
 use Rattle.certificate.specs.declared.Judged.the-variants.{Passed}
 use Rattle.certificate.specs.Answer.{judgedOf}
@@ -15,7 +15,7 @@ use Rattle.crl.specs.declared.Judged.the-variants as list-judged
 use Rattle.crl.specs.Answer as lists
 use Rattle.image.specs.Index.{entryIn, itemsIn, entryCount}
 use Rattle.chain.specs.declared.opened.Row.{Row}
-use Rattle.chain.specs.Items.{someBelow, somePlace, itemAt, listAt, within}
+use Rattle.chain.specs.Items.{someBelow, somePlace}
 use Rattle.chain.specs.Usable.{usableAnchor, sameCountry, counts}
 use Rattle.chain.specs.Table.{verdictIn}
 use Rattle.chain.specs.Rows.{bytesAt, rowAt, Told, flag, vouchesOf, vouchedBy, countedOf, Counted}

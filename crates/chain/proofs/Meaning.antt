@@ -1,18 +1,16 @@
 -- The chains of the tables are the good chains of the image's items, since roles and steps mean the definitions.
 use Prim.Native.Nat.{ℕ, _≤_}
-use mathlib.Core.Path.{_≡_, refl, sym, _∙_}
-use mathlib.Core.Bool.{true, cond}
+use mathlib.Core.Path.{_≡_, sym, _∙_}
+use mathlib.Core.Bool.{cond}
 use mathlib.Core.List.{List}
-use native.Mathlib.Omega.{arith}
 use borrow.Author.Tests.{le-leb}
 use lib.Dec.{leb}
 use Rattle.graph.specs.declared.Found.{Found}
 use Rattle.graph.specs.Chains.{graphOf}
 use Rattle.graph.specs.Answer as search
-use Rattle.image.specs.Index.{itemsIn, entryCount}
+use Rattle.image.specs.Index.{entryCount}
 use Rattle.chain.specs.declared.opened.Row.{Row}
 use Rattle.chain.specs.Steps.{chains}
-use Rattle.chain.specs.Table.{verdictIn}
 use Rattle.chain.specs.Rows.{Told, Counted, Roles, Matched}
 use Rattle.chain.specs.Answer.{goodChains}
 use Rattle.chain.proofs.Transfer.{Alike, answer-transfer}

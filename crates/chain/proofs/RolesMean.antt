@@ -1,7 +1,7 @@
 -- The table of roles tells the usable anchors, links and signers: a role is a standing, and of a link or signer what the CRLs say.
 use Prim.Native.Nat.{ℕ, _<_, _≤_}
 use mathlib.Core.Path.{_≡_, refl, sym, _∙_}
-use mathlib.Core.Bool.{Bool, true, false, cond, _&&_, not}
+use mathlib.Core.Bool.{Bool, true, false, cond, _&&_}
 use mathlib.Core.List.{List}
 use native.Mathlib.Omega.{arith}
 use borrow.Author.Tests.{eqb-true, ne-eqb}
@@ -9,8 +9,7 @@ use lib.Dec.{eqb}
 use lib.ListN.{getD}
 use Rattle.image.specs.Index.{entryIn, itemsIn, entryCount}
 use Rattle.chain.specs.declared.opened.Row.{Row}
-use Rattle.chain.specs.Items.{somePlace}
-use Rattle.chain.specs.Usable.{usableAnchor, lists, speaksOf, usable}
+use Rattle.chain.specs.Usable.{usableAnchor, usable}
 use Rattle.chain.specs.Steps.{hasKind}
 use Rattle.chain.specs.Table.{verdictIn}
 use Rattle.chain.specs.Rows.{rowAt, Told, Counted, spokenBelow, signedOf, roleBy, roleOf, Roles}

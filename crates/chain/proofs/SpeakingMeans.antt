@@ -1,17 +1,17 @@
 -- What the CRLs say of a certificate is 1 where one that counts covers it and none of those lists its serial: a fold over
 -- the places keeps whether some covered so far and whether some listed.
 use Prim.Native.Nat.{ℕ, zero, suc, _<_}
-use mathlib.Core.Path.{_≡_, refl, ap, ap₂, sym, _∙_}
+use mathlib.Core.Path.{_≡_, refl, ap₂, sym, _∙_}
 use mathlib.Core.Bool.{Bool, true, false, cond, _&&_, _||_, not}
 use mathlib.Core.List.{List}
 use native.Mathlib.Omega.{arith}
 use borrow.Author.Tests.{eqb-true}
 use lib.Dec.{eqb}
 use lib.ListN.{getD}
-use Rattle.image.specs.Index.{entryIn, itemsIn, entryCount}
+use Rattle.image.specs.Index.{itemsIn, entryCount}
 use Rattle.chain.specs.declared.opened.Row.{Row}
 use Rattle.chain.specs.Items.{someBelow, somePlace}
-use Rattle.chain.specs.Usable.{counts, covers, lists, speaksOf}
+use Rattle.chain.specs.Usable.{covers, lists, speaksOf}
 use Rattle.chain.specs.Table.{verdictIn}
 use Rattle.chain.specs.Rows.{bytesAt, rowAt, Told, countedOf, Counted, pieceOf, coversOf, listsOf, spokenOf, spokenBelow}
 use Rattle.chain.proofs.PlacesMean.{length-items}

@@ -12,10 +12,10 @@ use Rattle.elements.specs.Octets.{alike}
 use Rattle.image.specs.Index.{entryIn, itemsIn, entryCount}
 use Rattle.chain.specs.declared.opened.Row.{Row}
 use Rattle.chain.specs.Items.{itemAt}
-use Rattle.chain.specs.Usable.{valid, usableAnchor, usable}
+use Rattle.chain.specs.Usable.{usableAnchor}
 use Rattle.chain.specs.Steps.{hasKind, fits, goodStep}
 use Rattle.chain.specs.Table.{verdictIn}
-use Rattle.chain.specs.Rows.{bytesAt, rowAt, Told, Counted, pieceOf, leadsOf, ledOf, fitsOf, matchedOf, stepOf, roleOf, Roles, Matched}
+use Rattle.chain.specs.Rows.{bytesAt, rowAt, Told, Counted, pieceOf, leadsOf, ledOf, fitsOf, matchedOf, stepOf, Roles, Matched}
 use Rattle.chain.proofs.StandingMeans.{certificate-row}
 use Rattle.chain.proofs.ItemsTold.{part-told, certificate-told}
 use Rattle.chain.proofs.CountingMeans.{flag-one, Certificate, row-reading}

@@ -28,10 +28,10 @@ alike-back {g} {h} a =
       link = λ u l. sym (a .link u (here u l));
       signer = λ u l. sym (a .signer u (here u l));
       step = λ u v l m from to.
-      sym
-      (a .step u v (here u l) (here v m)
-      (⊎-elim (λ (e : h .anchor u ≡ true). inl (a .anchor u (here u l) ∙ e)) (λ (e : h .link u ≡ true). inr (a .link u (here u l) ∙ e)) from)
-      (⊎-elim (λ (e : h .link v ≡ true). inl (a .link v (here v m) ∙ e)) (λ (e : h .signer v ≡ true). inr (a .signer v (here v m) ∙ e)) to));
+          sym
+          (a .step u v (here u l) (here v m)
+          (⊎-elim (λ (e : h .anchor u ≡ true). inl (a .anchor u (here u l) ∙ e)) (λ (e : h .link u ≡ true). inr (a .link u (here u l) ∙ e)) from)
+          (⊎-elim (λ (e : h .link v ≡ true). inl (a .link v (here v m) ∙ e)) (λ (e : h .signer v ≡ true). inr (a .signer v (here v m) ∙ e)) to));
     }
   where
     here : (u : ℕ) → u < h .places → u < g .places
