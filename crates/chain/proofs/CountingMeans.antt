@@ -19,6 +19,7 @@ use Rattle.chain.specs.Items.{someBelow, somePlace}
 use Rattle.chain.specs.Usable.{usableAnchor, sameCountry, counts}
 use Rattle.chain.specs.Table.{verdictIn}
 use Rattle.chain.specs.Rows.{bytesAt, rowAt, Told, flag, vouchesOf, vouchedBy, countedOf, Counted}
+use Rattle.chain.proofs.Booleans.{chosen, reordered, grouped}
 use Rattle.chain.proofs.PlacesMean.{length-items, item-told}
 use Rattle.chain.proofs.RowReadings.{certificateTold, listTold, currentOf, Reading, reading}
 use Rattle.chain.proofs.StandingMeans.{standing-anchor, standing-list, certificate-row, list-row}
@@ -34,30 +35,6 @@ pub flag-one : (b : Bool) → eqb (flag b) 1 ≡ b
 unfolding flag
 flag-one true = refl
 flag-one false = refl
-
--- the same tests in another order
-reordered : (v k m same : Bool) → (k ≡ true → same ≡ m) → cond v (cond k m false) false ≡ (k && (same && v))
-reordered true true m same f = rw (f refl) (sym (and-true m))
-  where
-    and-true : (b : Bool) → (b && true) ≡ b
-    and-true true = refl
-    and-true false = refl
-reordered false true m same f = sym (and-false same)
-  where
-    and-false : (b : Bool) → (b && false) ≡ false
-    and-false true = refl
-    and-false false = refl
-reordered true false m same f = refl
-reordered false false m same f = refl
-
-chosen : (x y : Bool) → cond x y false ≡ (x && y)
-chosen true y = refl
-chosen false y = refl
-
-pub grouped : (given k l m o : Bool) → given ≡ (k && l) → (given ≡ true → m ≡ o) → cond given m false ≡ (k && (l && o))
-grouped given true true m o e f = rw e (f e)
-grouped given true false m o e f = rw e
-grouped given false l m o e f = rw e
 
 -- what the row of a place tells of the certificate, or of the CRL, that stands there
 abbrev pub Certificate : List ℕ → List Row → ℕ → Type 0
@@ -102,13 +79,14 @@ module _ (s table : List ℕ) (moment : ℕ) (rows : List Row) (told : Told mome
       let y = eqb (rowAt rows a .second) (rowAt rows c .second) in
       rw (← anchor-standing a ha)
       (reordered (verdictIn (entryCount s) table a c) (eqb (rowAt rows a .standing) 1) (cond x y false) (sameCountry (itemsIn s) a c)
-      (λ k. country a c ha hc (eqb-true (rowAt rows a .standing) 1 k) four ∙ sym (chosen x y)))
+      (λ k. country a c ha hc (eqb-true (rowAt rows a .standing) 1 k) four ∙ sym (chosen x y y refl)))
 
   counted : (c : ℕ) → c < entryCount s → countedOf (entryCount s) table rows c ≡ counts (itemsIn s) (verdictIn (entryCount s) table) moment c
   unfolding countedOf counts somePlace
   counted c h =
       rw (length-items s, current-told s c h moment, item-told s c h)
-      (grouped (eqb (rowAt rows c .standing) 4) (eqb (entryIn s c .kind) 4) (currentOf moment s (entryIn s c))
+      (chosen (eqb (rowAt rows c .standing) 4) (someBelow (entryCount s) (vouchedBy (entryCount s) table rows c)) _ refl
+      ∙ grouped (eqb (rowAt rows c .standing) 4) (eqb (entryIn s c .kind) 4) (currentOf moment s (entryIn s c))
       (someBelow (entryCount s) (vouchedBy (entryCount s) table rows c)) _ (standing-list (row-reading c h))
       (λ four. some-same (entryCount s) _ _ (λ a ha. vouched a c ha h (eqb-true (rowAt rows c .standing) 4 four))))
 

@@ -1,5 +1,6 @@
 pub mod ImageOpened
 pub mod Transfer
+pub mod Booleans
 pub mod PlacesMean
 pub mod RowReadings
 pub mod StandingMeans

@@ -13,6 +13,7 @@ use Rattle.chain.specs.Usable.{usableAnchor, usable}
 use Rattle.chain.specs.Steps.{hasKind}
 use Rattle.chain.specs.Table.{verdictIn}
 use Rattle.chain.specs.Rows.{rowAt, Told, Counted, spokenBelow, signedOf, roleBy, roleOf, Roles}
+use Rattle.chain.proofs.Booleans.{grouped}
 use Rattle.chain.proofs.RowReadings.{validOf}
 use Rattle.chain.proofs.StandingMeans.{standing-signed, certificate-row}
 use Rattle.chain.proofs.ItemsTold.{kind-told, valid-told}
@@ -77,11 +78,6 @@ module _ (s : List ℕ) (n : ℕ) (rows : List Row) (counting : List ℕ) (row :
   role-signer =
       by-signer (eqb (row .standing) 2) (eqb (row .standing) 3) (eqb (row .standing) 1) (spokenBelow s rows counting row n)
       (apart (row .standing) 2 3 (λ z. omega arith))
-
-grouped : (given k l m o : Bool) → given ≡ (k && l) → (given ≡ true → m ≡ o) → (given && m) ≡ (k && (l && o))
-grouped given true true m o e f = rw e (f e)
-grouped given true false m o e f = rw e
-grouped given false l m o e f = rw e
 
 module _ (s table : List ℕ) (moment : ℕ) (rows : List Row) (counting roles : List ℕ) (told : Told moment s (entryCount s) rows) (counted : Counted (entryCount s) table rows counting) (is : Roles s (entryCount s) rows counting roles) where
   -- role 1 is a usable anchor

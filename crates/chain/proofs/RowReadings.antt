@@ -21,6 +21,7 @@ use Rattle.image.specs.declared.IndexEntry.{IndexEntry}
 use Rattle.chain.specs.declared.opened.Row.{Row}
 use Rattle.chain.specs.Items.{onCertificate, onList, within}
 use Rattle.chain.specs.Rows.{blank, certificateRow, listRow, bytesAt, rowOf}
+use Rattle.chain.proofs.Booleans.{and-false}
 
 -- the rows of a certificate and of a CRL that pass
 abbrev pub certificateTold : IndexEntry → certificates.Fields → Row
@@ -99,10 +100,6 @@ role-bounds bytes k f e = go (leb 1 k) (leb k 3) refl refl (onWalk (walkOf paper
     go true true x y rest h = (leb-true 1 k x, leb-true k 3 y)
     go true false x y rest h = absurd (let z : _≡_ {A = ℕ} 0 1 = cc in omega arith)
     go false b x y rest h = absurd (let z : _≡_ {A = ℕ} 0 1 = cc in omega arith)
-
-and-false : (b : Bool) → (b && false) ≡ false
-and-false true = refl
-and-false false = refl
 
 module _ (moment : ℕ) (s : List ℕ) (e : IndexEntry) where
   -- no certificate that passes

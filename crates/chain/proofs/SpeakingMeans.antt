@@ -14,6 +14,7 @@ use Rattle.chain.specs.Items.{someBelow, somePlace}
 use Rattle.chain.specs.Usable.{covers, lists, speaksOf}
 use Rattle.chain.specs.Table.{verdictIn}
 use Rattle.chain.specs.Rows.{bytesAt, rowAt, Told, countedOf, Counted, pieceOf, coversOf, listsOf, spokenOf, spokenBelow}
+use Rattle.chain.proofs.Booleans.{first, and-when}
 use Rattle.chain.proofs.PlacesMean.{length-items}
 use Rattle.chain.proofs.StandingMeans.{list-row}
 use Rattle.chain.proofs.ItemsTold.{bytes-told, part-told, certificate-told, list-told}
@@ -66,11 +67,6 @@ module _ (s : List ℕ) (rows : List Row) (counting : List ℕ) (row : Row) wher
   spoken-one : (n : ℕ) → eqb (spokenBelow s rows counting row n) 1 ≡ (someBelow n speaking && not (someBelow n listing))
   spoken-one n = rw (spoken-some n) (is-one (someBelow n listing) (someBelow n speaking))
 
--- a second test where the first holds
-and-when : (k x y : Bool) → (k ≡ true → x ≡ y) → (k && x) ≡ (k && y)
-and-when true x y f = f refl
-and-when false x y f = refl
-
 module _ (s table : List ℕ) (moment : ℕ) (rows : List Row) (told : Told moment s (entryCount s) rows) where
   covers-row :
       (c p : ℕ) → c < entryCount s → p < entryCount s → Crl s rows c → Certificate s rows p
@@ -120,10 +116,6 @@ module _ (s table : List ℕ) (moment : ℕ) (rows : List Row) (told : Told mome
         (and-when (speaking s rows counting (rowAt rows p) c) (listsOf s (rowAt rows c) (rowAt rows p)) (lists (itemsIn s) c p)
         (λ k. lists-row c p hc hp (counting-list c hc (speaking-counts c k)) own))
       where
-        first : (a b : Bool) → (a && b) ≡ true → a ≡ true
-        first true b e = refl
-        first false b e = e
-
         speaking-counts : (c : ℕ) → speaking s rows counting (rowAt rows p) c ≡ true → eqb (getD counting c 0) 1 ≡ true
         speaking-counts c k = first (eqb (getD counting c 0) 1) (coversOf s (rowAt rows c) (rowAt rows p)) k
 

@@ -1,7 +1,7 @@
 -- The table of steps tells the good steps between usable places: there the rows tell names and keys, and roles tell kinds.
 use Prim.Native.Nat.{ℕ, _+_, _*_, _<_}
 use mathlib.Core.Path.{_≡_, refl, sym, _∙_}
-use mathlib.Core.Bool.{Bool, true, false, cond, _&&_, _||_}
+use mathlib.Core.Bool.{Bool, true, false, cond, _||_}
 use mathlib.Core.List.{List}
 use mathlib.Core.Logic.{_⊎_, inl, inr, ⊎-elim}
 use native.Mathlib.Omega.{arith}
@@ -16,24 +16,11 @@ use Rattle.chain.specs.Usable.{usableAnchor}
 use Rattle.chain.specs.Steps.{hasKind, fits, goodStep}
 use Rattle.chain.specs.Table.{verdictIn}
 use Rattle.chain.specs.Rows.{bytesAt, rowAt, Told, Counted, pieceOf, leadsOf, ledOf, fitsOf, matchedOf, stepOf, Roles, Matched}
+use Rattle.chain.proofs.Booleans.{first, chosen, swapped}
 use Rattle.chain.proofs.StandingMeans.{certificate-row}
 use Rattle.chain.proofs.ItemsTold.{part-told, certificate-told}
 use Rattle.chain.proofs.CountingMeans.{flag-one, Certificate, row-reading}
 use Rattle.chain.proofs.RolesMean.{role-anchor, role-link, role-signer, anchor-means, link-means, signer-means}
-
-first : (a b : Bool) → (a && b) ≡ true → a ≡ true
-first true b e = refl
-first false b e = e
-
-swapped : (a b : Bool) → cond b a false ≡ (a && b)
-swapped true true = refl
-swapped true false = refl
-swapped false true = refl
-swapped false false = refl
-
-chosen : (a b c : Bool) → b ≡ c → cond a b false ≡ (a && c)
-chosen true b c e = e
-chosen false b c e = refl
 
 either : (a b : Bool) → (a ≡ true) ⊎ (b ≡ true) → (a || b) ≡ true
 either true b e = refl
