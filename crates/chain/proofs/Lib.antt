@@ -1,3 +1,4 @@
+pub mod Answering
 pub mod Bits
 pub mod Booleans
 pub mod Cells

@@ -15,7 +15,7 @@ use Rattle.chain.specs.Rows.{blank, flag, vouchesOf, rowAt, vouchedBy, c
 use Rattle.chain.specs.Table.{verdictIn}
 
 -- a slot of the array is the row of its place
-pub row-read : (rows : List Row) (p : ℕ) → getD rows p (record { standing = 0; first = 0; second = 0; at = 0; size = 0; «issuer_at» = 0; «issuer_len» = 0; «subject_at» = 0; «subject_len» = 0; «serial_at» = 0; «serial_len» = 0; «own_at» = 0; «own_len» = 0; «authority_at» = 0; «authority_len» = 0; from = 0; end = 0; }) ≡ rowAt rows p
+pub row-read : (rows : List Row) (p : ℕ) → getD rows p (record { standing = 0; first = 0; second = 0; at = 0; size = 0; «issuer_at» = 0; «issuer_len» = 0; «subject_at» = 0; «subject_len» = 0; «serial_at» = 0; «serial_len» = 0; «own_at» = 0; «own_len» = 0; «authority_at» = 0; «authority_len» = 0; from = 0; end = 0 }) ≡ rowAt rows p
 unfolding rowAt blank
 row-read rows p = refl
 

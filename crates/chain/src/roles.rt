@@ -73,7 +73,12 @@ fn spoken_by(image: &[u8], list: Row, row: Row, before: u8) -> u8
     if !same(issuer, piece(image, row, row.issuer_at, row.issuer_len)) {
         return before;
     }
-    if listed(listing, list.from, list.end, piece(image, row, row.serial_at, row.serial_len)) {
+    if listed(
+        listing,
+        list.from,
+        list.end,
+        piece(image, row, row.serial_at, row.serial_len),
+    ) {
         return 2;
     }
     1
