@@ -1,20 +1,36 @@
--- What the definition of good chains over items says, taken apart test by test.
-use Prim.Native.Nat.{ℕ, zero, suc, _<_}
-use mathlib.Core.Path.{_≡_, refl}
-use mathlib.Core.Bool.{Bool, true, false, _&&_, _||_, not}
-use mathlib.Core.List.{List, _∷_}
-use mathlib.Core.Logic.{⊎-elim}
+-- What the definition of good chains over items says, taken apart test by test; and what an answer settles, case by case of
+-- the answers.
+use Prim.Native.Nat.{ℕ, zero, suc, _<_, _-_}
+use mathlib.Core.Path.{_≡_, refl, sym, ap, _∙_}
+use mathlib.Core.Bool.{Bool, true, false, cond, _&&_, _||_, not}
+use mathlib.Core.List.{List, _∷_, _++_}
+use mathlib.Core.Logic.{_⊎_, inl, inr, ⊎-elim}
 use native.Mathlib.Nat.{eq-or-lt-of-le}
 use native.Mathlib.Omega.{arith}
 use borrow.Author.Tests.{eqb-true, not-true}
-use lib.Dec.{eqb}
-use lib.ListN.{length}
+use lib.Dec.{eqb, ltb}
+use lib.ListN.{length, replicate}
+use Rattle.refusal.specs.declared.Refusal.{Refusal}
+use Rattle.refusal.specs.declared.Refusal.the-variants as refusal
+use Rattle.refusal.specs.Rules.{firstBroken}
+use Rattle.calendar.specs.Days.{realMoment}
 use Rattle.graph.specs.Chains.{Chain, chain, Best}
 use Rattle.graph.proofs.Theorems as graph
+use Rattle.image.specs.declared.Opened.{Opened}
+use Rattle.image.specs.declared.Opened.the-variants as opened
 use Rattle.image.specs.Items.{Item}
+use Rattle.image.specs.Index.{entryCount, dayIn, entryIn}
+use Rattle.image.specs.Rules.{rules}
+use Rattle.image.specs.Answer.{graded, openedOf}
+use Rattle.chain.specs.declared.asking.Asked.the-variants as asked
+use Rattle.chain.specs.declared.Answer.{Answer}
+use Rattle.chain.specs.declared.Outcome.the-variants.{Shown, Refused}
 use Rattle.chain.specs.Items.{itemAt, someBelow, somePlace}
 use Rattle.chain.specs.Usable.{valid, usableAnchor, counts, covers, lists, speaksOf, usable}
 use Rattle.chain.specs.Steps.{hasKind, fits, goodStep, chains}
+use Rattle.chain.specs.Table.{tableGood}
+use Rattle.chain.specs.Answer as answers
+use Rattle.chain.specs.Answer.{onImage, askedOf, goodChains, With, Answered}
 
 both : (p q : Bool) → (p && q) ≡ true → (p ≡ true) × (q ≡ true)
 both true q e = (refl, e)
@@ -102,3 +118,115 @@ module _ (items : List Item) (verdict : ℕ → ℕ → Bool) (moment : ℕ) whe
   pub one-best :
       (target : ℕ) (c d : List ℕ) → Best (chains items verdict moment) target c → Best (chains items verdict moment) target d → c ≡ d
   one-best target c d = graph.one-best
+
+-- a refusal of a question: the image's 5, or 1
+abbrev pub Plain : Refusal → Type 0
+Plain why = ((k : ℕ) × (why ≡ refusal.Image k)) ⊎ (why ≡ refusal.Argument)
+
+image-plain : (s : List ℕ) (why : Refusal) → openedOf s ≡ opened.Refused why → Plain why
+unfolding openedOf graded
+image-plain s why e = go (firstBroken 1 (rules s)) (eqb (firstBroken 1 (rules s)) 0) e
+  where
+    go :
+        (rule : ℕ) (b : Bool)
+        → cond b (opened.Image (entryCount s) (dayIn s)) (opened.Refused (refusal.Image rule)) ≡ opened.Refused why → Plain why
+    go rule true f = absurd (let z : _≡_ {A = ℕ} 0 1 = cc in omega arith)
+    go rule false f = inl (rule, cc)
+
+tests-plain :
+    (a b c d : Bool) (n : ℕ) (why : Refusal)
+    → cond a (cond b (cond c (cond d (asked.Over n) (asked.Refused refusal.Argument)) (asked.Refused refusal.Argument)) (asked.Refused refusal.Argument))
+    (asked.Refused refusal.Argument)
+    ≡ asked.Refused why → Plain why
+tests-plain true true true true n why e = absurd (let z : _≡_ {A = ℕ} 0 1 = cc in omega arith)
+tests-plain true true true false n why e = inr (cc)
+tests-plain true true false d n why e = inr (cc)
+tests-plain true false c d n why e = inr (cc)
+tests-plain false b c d n why e = inr (cc)
+
+module _ (s table : List ℕ) (moment target : ℕ) where
+  -- A question is refused with the image's 5, or with 1.
+  pub question-plain : (why : Refusal) → askedOf s table moment target ≡ asked.Refused why → Plain why
+  unfolding askedOf onImage
+  question-plain why e = go (openedOf s) refl e
+    where
+      go : (o : Opened) → openedOf s ≡ o → onImage s table moment target o ≡ asked.Refused why → Plain why
+      go (opened.Refused w) h f = image-plain s why (h ∙ (cc))
+      go (opened.Image n day) h f =
+          tests-plain (tableGood n table) (realMoment 1950 2099 moment) (ltb target n) (eqb (entryIn s target .kind) 3) n why f
+
+  question-not-7 : askedOf s table moment target ≡ asked.Refused refusal.Chain → ⊥
+  question-not-7 e = go (question-plain refusal.Chain e)
+    where
+      go : Plain refusal.Chain → ⊥
+      go (inl (k, f)) = let z : _≡_ {A = ℕ} 0 1 = cc in omega arith
+      go (inr f) = let z : _≡_ {A = ℕ} 0 1 = cc in omega arith
+
+  -- No second answer fits.
+  pub one-answer :
+      (r q : Answer) → Answered s table moment target r → Answered s table moment target q
+      → (r .outcome ≡ q .outcome) × (r .length ≡ q .length) × (r .places ≡ q .places)
+  one-answer r q (answers.refused why e w) (answers.refused other f v) =
+      let same : why ≡ other = cc in
+      (w .told ∙ ap Refused same ∙ sym (v .told), w .empty ∙ sym (v .empty), w .slots ∙ sym (v .slots))
+  one-answer r q (answers.refused why e w) (answers.none f h v) = absurd (let z : _≡_ {A = ℕ} 0 1 = cc in omega arith)
+  one-answer r q (answers.refused why e w) (answers.found d f h v) = absurd (let z : _≡_ {A = ℕ} 0 1 = cc in omega arith)
+  one-answer r q (answers.none e g w) (answers.refused why f v) = absurd (let z : _≡_ {A = ℕ} 0 1 = cc in omega arith)
+  one-answer r q (answers.none e g w) (answers.none f h v) =
+      (w .told ∙ sym (v .told), w .empty ∙ sym (v .empty), w .slots ∙ sym (v .slots))
+  one-answer r q (answers.none e g w) (answers.found d f h v) = absurd (g d (h .good))
+  one-answer r q (answers.found c e g w) (answers.refused why f v) = absurd (let z : _≡_ {A = ℕ} 0 1 = cc in omega arith)
+  one-answer r q (answers.found c e g w) (answers.none f h v) = absurd (h c (g .good))
+  one-answer r q (answers.found c e g w) (answers.found d f h v) =
+      let same : c ≡ d = graph.one-best g h in (
+        w .told ∙ sym (v .told),
+        w .many ∙ ap length same ∙ sym (v .many),
+        w .slots ∙ ap (λ (x : List ℕ). x ++ replicate (96 - length x) 255) same ∙ sym (v .slots),
+      )
+
+  module _ (r : Answer) (a : Answered s table moment target r) where
+    -- What is shown is the best of the good chains.
+    pub answer-sound : r .outcome ≡ Shown → (c : List ℕ) × Best (goodChains s table moment) target c × With c r
+    answer-sound e = go a
+      where
+        go : Answered s table moment target r → (c : List ℕ) × Best (goodChains s table moment) target c × With c r
+        go (answers.refused why f w) = absurd (let t = w .told in let z : _≡_ {A = ℕ} 0 1 = cc in omega arith)
+        go (answers.none f h w) = absurd (let t = w .told in let z : _≡_ {A = ℕ} 0 1 = cc in omega arith)
+        go (answers.found c f h w) = (c, h, w)
+
+    -- The answer is 7 only where the question is good and no good chain exists.
+    pub none-sound :
+        r .outcome ≡ Refused refusal.Chain
+        → ((n : ℕ) × (askedOf s table moment target ≡ asked.Over n)) × ((c : List ℕ) → Chain (goodChains s table moment) target c → ⊥)
+    none-sound e = go a
+      where
+        go :
+            Answered s table moment target r
+            → ((n : ℕ) × (askedOf s table moment target ≡ asked.Over n))
+            × ((c : List ℕ) → Chain (goodChains s table moment) target c → ⊥)
+        go (answers.refused why f w) =
+            absurd (let t = w .told in let same : why ≡ refusal.Chain = cc in question-not-7 (f ∙ ap asked.Refused same))
+        go (answers.none {n} f h w) = ((n, f), h)
+        go (answers.found c f h w) = absurd (let t = w .told in let z : _≡_ {A = ℕ} 0 1 = cc in omega arith)
+
+    -- And there it is always 7.
+    pub none-complete :
+        (n : ℕ) → askedOf s table moment target ≡ asked.Over n → ((c : List ℕ) → Chain (goodChains s table moment) target c → ⊥)
+        → r .outcome ≡ Refused refusal.Chain
+    none-complete n e empty = go a
+      where
+        go : Answered s table moment target r → r .outcome ≡ Refused refusal.Chain
+        go (answers.refused why f w) = absurd (let z : _≡_ {A = ℕ} 0 1 = cc in omega arith)
+        go (answers.none f h w) = w .told
+        go (answers.found c f h w) = absurd (empty c (h .good))
+
+    -- Where the question is good and a good chain exists, one is shown.
+    pub answer-complete :
+        (n : ℕ) (c : List ℕ) → askedOf s table moment target ≡ asked.Over n → Chain (goodChains s table moment) target c
+        → r .outcome ≡ Shown
+    answer-complete n c e good = go a
+      where
+        go : Answered s table moment target r → r .outcome ≡ Shown
+        go (answers.refused why f w) = absurd (let z : _≡_ {A = ℕ} 0 1 = cc in omega arith)
+        go (answers.none f h w) = absurd (h c good)
+        go (answers.found d f h w) = w .told

@@ -1,3 +1,6 @@
 pub mod Items
 pub mod Usable
 pub mod Steps
+pub mod Table
+pub mod Rows
+pub mod Answer

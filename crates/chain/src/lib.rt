@@ -1,1 +1,85 @@
-// Good chains over the items of a trust image. This crate has definitions and theorems alone so far.
+// The chain from an enabled anchor to a document signer at a moment: the shortest, and of those the first.
+mod asking;
+mod certificates;
+mod counting;
+mod lists;
+mod matching;
+mod opened;
+mod opening;
+mod roles;
+
+use asking::Asked;
+use asking::question;
+use counting::counting_lists;
+use graph::Found;
+use graph::chain_to;
+use matching::matching_steps;
+use opening::open_items;
+use refusal::Refusal;
+use roles::roles_of;
+ghost use mathlib.Core.Path.{_≡_};
+ghost use Prim.Native.Nat.{_≤_};
+ghost use Rattle.chain.specs.Answer.{Answered, goodChains, Without, Shows};
+ghost use Rattle.graph.specs.Answer as search;
+ghost use Rattle.image.specs.Index.{entryCount};
+
+// Whether a chain is shown, else why not.
+pub enum Outcome {
+    Shown,
+    Refused(Refusal),
+}
+
+// The chain's length and its places, unused slots 255; in a refusal length 0 and all slots 255.
+pub struct Answer {
+    pub outcome: Outcome,
+    pub length: usize,
+    pub places: [u8; 96],
+}
+
+// Refusals in order: the image's 5; 1 for the table, the moment, the target; 7 where no good chain exists.
+pub fn best_chain(image: &[u8], table: &[u8], moment: u64, target: u64) -> Answer
+    ensures { λ r. ⌜ Answered (now (image .entry)) (now (table .entry)) moment target r ⌝ }
+{
+    match question(image, table, moment, target) {
+        Asked::Refused(refusal) => refused(refusal),
+        Asked::Over { places } => shown(chain_among(image, table, places, moment, target as usize)),
+    }
+}
+
+// The search over the image's items, each opened once.
+fn chain_among(image: &[u8], table: &[u8], places: usize, moment: u64, target: usize) -> Found
+    requires { ⌜ (places ≡ entryCount (now image)) × (places ≤ 96) ⌝ }
+    ensures { λ r. ⌜ search.Answered (goodChains (now (image .entry)) (now (table .entry)) moment) target r ⌝ }
+{
+    let rows = open_items(image, places, moment);
+    let counting = counting_lists(table, places, rows);
+    let roles = roles_of(image, places, rows, counting);
+    let steps = matching_steps(image, table, places, rows, roles);
+    chain_to(places, &roles, &steps, target)
+}
+
+// A chain of no places is none.
+fn shown(found: Found) -> Answer
+    ensures { λ r. ⌜ Shows found r ⌝ }
+{
+    let length = found.length;
+    let places = found.places;
+    if length == 0 {
+        return refused(Refusal::Chain);
+    }
+    Answer {
+        outcome: Outcome::Shown,
+        length,
+        places,
+    }
+}
+
+fn refused(refusal: Refusal) -> Answer
+    ensures { λ r. ⌜ Without refusal r ⌝ }
+{
+    Answer {
+        outcome: Outcome::Refused(refusal),
+        length: 0,
+        places: [255; 96],
+    }
+}

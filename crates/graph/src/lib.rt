@@ -35,7 +35,7 @@ fn follows(places: usize, roles: &[u8], steps: &[u8], u: usize, v: usize) -> boo
     if u == places {
         return octet(roles, v) == 1;
     }
-    if octet(steps, u * places + v) != 1 {
+    if octet(steps, u * 96 + v) != 1 {
         return false;
     }
     let role = octet(roles, v);
@@ -169,7 +169,8 @@ fn chain_in(places: usize, roles: &[u8], parent: [u8; 96], target: usize) -> Fou
     }
 }
 
-// Roles: 1 a usable anchor, 2 a usable link, 3 a usable signer. Steps: row the signer, column the signed, 1 for a good step.
+// Roles: 1 a usable anchor, 2 a usable link, 3 a usable signer. Steps: 96 rows, the signers, of
+// 96 columns, the signed, 1 for a good step.
 pub fn chain_to(places: usize, roles: &[u8], steps: &[u8], target: usize) -> Found
     ensures { λ r. ⌜ Answered (graphOf places (now (roles .entry)) (now (steps .entry))) target r ⌝ }
 {

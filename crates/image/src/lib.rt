@@ -211,7 +211,7 @@ fn number_of(c: &[u8]) -> usize
 }
 
 // As many octets as there are, from an offset on.
-fn part(image: &[u8], from: usize, size: usize) -> &[u8]
+pub fn part(image: &[u8], from: usize, size: usize) -> &[u8]
     ensures { λ r. ⌜ now r ≡ take size (drop from (now (image .entry))) ⌝ }
 {
     let n = image.len();

@@ -3,8 +3,7 @@ use borrow.Author.Needs.{needs}
 use borrow.Author.Tests.{eq-eqb, ne-eqb}
 use mathlib.Core.Path.{sym, _∙_}
 use native.Mathlib.Omega.{arith}
-use native.Mathlib.Nat.{mul-le-mul}
-use Prim.Native.Nat.{_*_, _≤_, _<_}
+use Prim.Native.Nat.{_<_}
 use Rattle.graph.specs.Chains.{graphOf}
 use Rattle.graph.specs.Search.{followed}
 use Rattle.graph.proofs.Steps.{no-step, to-link, by-signer}
@@ -19,10 +18,10 @@ unfolding followed
 returns c = rw (eq-eqb _ _ (c .before .if1 .taken), c .octet .ensures)
 
 mul-octet : tie.Need-mul-octet
-mul-octet c = let a = c .before .before .before .args in let m : a .u * a .places ≤ 96 * 96 = mul-le-mul {n₂ = 96} {m₂ = 96} (omega (arith, c .before .before .before .pre)) (omega (arith, c .before .before .before .pre)) in omega arith
+mul-octet c = omega (arith, c .before .before .before .pre)
 
 add-octet : tie.Need-add-octet
-add-octet c = let a = c .before .before .before .args in let m : a .u * a .places ≤ 96 * 96 = mul-le-mul {n₂ = 96} {m₂ = 96} (omega (arith, c .before .before .before .pre)) (omega (arith, c .before .before .before .pre)) in omega arith
+add-octet c = omega (arith, c .before .before .before .pre)
 
 octet-requires-2 : tie.Need-octet-requires-2
 octet-requires-2 c κs = search needs

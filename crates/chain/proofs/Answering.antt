@@ -1,0 +1,65 @@
+-- A question that may be asked is over the image's entries, and what the search found for it is the answer.
+use Prim.Native.Nat.{ℕ, _≤_}
+use mathlib.Core.Path.{_≡_, refl, sym, ap, _∙_}
+use mathlib.Core.Bool.{Bool, true, false, cond}
+use mathlib.Core.List.{List}
+use native.Mathlib.Omega.{arith}
+use lib.Dec.{ltb, eqb}
+use lib.ListN.{length}
+use Rattle.refusal.specs.declared.Refusal.{Refusal}
+use Rattle.refusal.specs.declared.Refusal.the-variants as refusal
+use Rattle.calendar.specs.Days.{realMoment}
+use Rattle.graph.specs.Chains.{Graph, Chain, chain}
+use Rattle.graph.specs.declared.Found.{Found}
+use Rattle.graph.specs.Answer as search
+use Rattle.image.specs.declared.Opened.{Opened}
+use Rattle.image.specs.declared.Opened.the-variants as opened
+use Rattle.image.specs.Answer.{openedOf}
+use Rattle.image.specs.Index.{entryCount, entryIn}
+use Rattle.chain.specs.declared.asking.Asked.{Asked}
+use Rattle.chain.specs.declared.asking.Asked.the-variants as asked
+use Rattle.chain.specs.declared.Answer.{Answer}
+use Rattle.chain.specs.Answer.{onImage, askedOf, goodChains, Without, With, Shows, nothing, something, Answered, none, found}
+use Rattle.chain.specs.Table.{tableGood}
+use Rattle.chain.proofs.ImageOpened.{opened-image}
+
+not-over : {why : Refusal} {n : ℕ} → _≡_ {A = Asked} (asked.Refused why) (asked.Over n) → ⊥
+not-over e = let z : _≡_ {A = ℕ} 0 1 = cc in omega arith
+
+-- of four tests all have to hold
+all-four :
+    {m n : ℕ} (a b c d : Bool)
+    → cond a
+    (cond b (cond c (cond d (asked.Over m) (asked.Refused refusal.Argument)) (asked.Refused refusal.Argument))
+    (asked.Refused refusal.Argument))
+    (asked.Refused refusal.Argument)
+    ≡ asked.Over n
+    → m ≡ n
+all-four false b c d e = absurd (not-over e)
+all-four true false c d e = absurd (not-over e)
+all-four true true false d e = absurd (not-over e)
+all-four true true true false e = absurd (not-over e)
+all-four true true true true e = cc
+
+module _ (s table : List ℕ) (moment target : ℕ) where
+  pub asked-over : {n : ℕ} → askedOf s table moment target ≡ asked.Over n → (n ≡ entryCount s) × (n ≤ 96)
+  unfolding askedOf onImage
+  asked-over {n} = go (openedOf s) refl
+    where
+      go : (o : Opened) → openedOf s ≡ o → onImage s table moment target o ≡ asked.Over n → (n ≡ entryCount s) × (n ≤ 96)
+      go (opened.Refused why) e f = absurd (not-over f)
+      go (opened.Image m day) e f =
+          let same : m ≡ n = all-four (tableGood m table) (realMoment 1950 2099 moment) (ltb target m) (eqb (entryIn s target .kind) 3) f in
+          let o = opened-image s m day e in
+          (sym same ∙ o .0, omega (arith, o .1))
+
+  chain-length : {c : List ℕ} → Chain (goodChains s table moment) target c → length c ≡ 0 → ⊥
+  chain-length (chain h k o) e = omega arith
+
+  pub answering :
+      {n : ℕ} {f : Found} {r : Answer} → askedOf s table moment target ≡ asked.Over n
+      → search.Answered (goodChains s table moment) target f → Shows f r → Answered s table moment target r
+  answering e (search.found c b l p) (nothing z w) = absurd (chain-length (b .good) (sym l ∙ z))
+  answering e (search.found c b l p) (something nz o m q) = found c e b (record { told = o; many = m ∙ l; slots = q ∙ p })
+  answering e (search.none f l p) (nothing z w) = none e f w
+  answering e (search.none f l p) (something nz o m q) = absurd (nz l)

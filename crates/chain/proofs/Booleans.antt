@@ -1,0 +1,39 @@
+-- Laws of tests that are joined by and or chosen between, each by its cases.
+use mathlib.Core.Path.{_≡_, refl}
+use mathlib.Core.Bool.{Bool, true, false, cond, _&&_}
+
+pub and-false : (b : Bool) → (b && false) ≡ false
+and-false true = refl
+and-false false = refl
+
+pub first : (a b : Bool) → (a && b) ≡ true → a ≡ true
+first true b e = refl
+first false b e = e
+
+-- a second test where the first holds
+pub and-when : (k x y : Bool) → (k ≡ true → x ≡ y) → (k && x) ≡ (k && y)
+and-when true x y f = f refl
+and-when false x y f = refl
+
+pub chosen : (a b c : Bool) → b ≡ c → cond a b false ≡ (a && c)
+chosen true b c e = e
+chosen false b c e = refl
+
+pub swapped : (a b : Bool) → cond b a false ≡ (a && b)
+swapped true true = refl
+swapped true false = refl
+swapped false true = refl
+swapped false false = refl
+
+-- a first test that is two, and a last where these hold
+pub grouped : (given k l m o : Bool) → given ≡ (k && l) → (given ≡ true → m ≡ o) → (given && m) ≡ (k && (l && o))
+grouped given true true m o e f = rw e (f e)
+grouped given true false m o e f = rw e
+grouped given false l m o e f = rw e
+
+-- the same tests in another order
+pub reordered : (v k m o : Bool) → (k ≡ true → o ≡ m) → cond v (cond k m false) false ≡ (k && (o && v))
+reordered true true m o f = rw (f refl) (swapped m true)
+reordered false true m o f = swapped o false
+reordered true false m o f = refl
+reordered false false m o f = refl

@@ -1,0 +1,116 @@
+-- The table of roles tells the usable anchors, links and signers: a role is a standing, and of a link or signer what the CRLs say.
+use Prim.Native.Nat.{ℕ, _<_, _≤_}
+use mathlib.Core.Path.{_≡_, refl, sym, _∙_}
+use mathlib.Core.Bool.{Bool, true, false, cond, _&&_}
+use mathlib.Core.List.{List}
+use native.Mathlib.Omega.{arith}
+use borrow.Author.Tests.{eqb-true, ne-eqb}
+use lib.Dec.{eqb}
+use lib.ListN.{getD}
+use Rattle.image.specs.Index.{entryIn, itemsIn, entryCount}
+use Rattle.chain.specs.declared.opened.Row.{Row}
+use Rattle.chain.specs.Usable.{usableAnchor, usable}
+use Rattle.chain.specs.Steps.{hasKind}
+use Rattle.chain.specs.Table.{verdictIn}
+use Rattle.chain.specs.Rows.{rowAt, Told, Counted, spokenBelow, signedOf, roleBy, roleOf, Roles}
+use Rattle.chain.proofs.Booleans.{grouped}
+use Rattle.chain.proofs.RowReadings.{validOf}
+use Rattle.chain.proofs.StandingMeans.{standing-signed, certificate-row}
+use Rattle.chain.proofs.ItemsTold.{kind-told, valid-told}
+use Rattle.chain.proofs.CountingMeans.{Certificate, row-reading, anchor-standing}
+use Rattle.chain.proofs.SpeakingMeans.{spoken-means}
+
+-- the role of a row with tests x and y for standings 2 and 3, and z for 1
+abbrev chosen : Bool → Bool → Bool → ℕ → ℕ
+chosen x y z spoken =
+    cond (cond x true y) (cond (eqb (cond (cond x true y) spoken 0) 1) (cond x 2 3) 0) (cond z 1 0)
+
+picked-1 : (w : Bool) (k : ℕ) → eqb k 1 ≡ false → eqb (cond w k 0) 1 ≡ false
+picked-1 true k e = e
+picked-1 false k e = refl
+
+by-anchor : (x y z : Bool) (spoken : ℕ) → (x ≡ true → z ≡ false) → (y ≡ true → z ≡ false) → eqb (chosen x y z spoken) 1 ≡ z
+by-anchor true y z spoken f g = rw (f refl) (picked-1 (eqb spoken 1) 2 refl)
+by-anchor false true z spoken f g = rw (g refl) (picked-1 (eqb spoken 1) 3 refl)
+by-anchor false false true spoken f g = refl
+by-anchor false false false spoken f g = refl
+
+picked-2 : (w : Bool) → eqb (cond w 2 0) 2 ≡ w
+picked-2 true = refl
+picked-2 false = refl
+
+picked-3 : (w : Bool) → eqb (cond w 3 0) 3 ≡ w
+picked-3 true = refl
+picked-3 false = refl
+
+other : (w : Bool) (a b : ℕ) → eqb a b ≡ false → eqb 0 b ≡ false → eqb (cond w a 0) b ≡ false
+other true a b e f = e
+other false a b e f = f
+
+by-link : (x y z : Bool) (spoken : ℕ) → eqb (chosen x y z spoken) 2 ≡ (x && eqb spoken 1)
+by-link true y z spoken = picked-2 (eqb spoken 1)
+by-link false true z spoken = other (eqb spoken 1) 3 2 refl refl
+by-link false false z spoken = other z 1 2 refl refl
+
+by-signer : (x y z : Bool) (spoken : ℕ) → (x ≡ true → y ≡ false) → eqb (chosen x y z spoken) 3 ≡ (y && eqb spoken 1)
+by-signer true y z spoken f = rw (f refl) (other (eqb spoken 1) 2 3 refl refl)
+by-signer false true z spoken f = picked-3 (eqb spoken 1)
+by-signer false false z spoken f = other z 1 3 refl refl
+
+-- a number is not two numbers
+apart : (m k l : ℕ) → (k ≡ l → ⊥) → eqb m k ≡ true → eqb m l ≡ false
+apart m k l d e = let same : m ≡ k = eqb-true m k e in ne-eqb m l (λ z. d (sym same ∙ z))
+
+module _ (s : List ℕ) (n : ℕ) (rows : List Row) (counting : List ℕ) (row : Row) where
+  pub role-anchor : eqb (roleOf s n rows counting row) 1 ≡ eqb (row .standing) 1
+  unfolding roleOf roleBy signedOf
+  role-anchor =
+      by-anchor (eqb (row .standing) 2) (eqb (row .standing) 3) (eqb (row .standing) 1) (spokenBelow s rows counting row n)
+      (apart (row .standing) 2 1 (λ z. omega arith)) (apart (row .standing) 3 1 (λ z. omega arith))
+
+  pub role-link : eqb (roleOf s n rows counting row) 2 ≡ (eqb (row .standing) 2 && eqb (spokenBelow s rows counting row n) 1)
+  unfolding roleOf roleBy signedOf
+  role-link =
+      by-link (eqb (row .standing) 2) (eqb (row .standing) 3) (eqb (row .standing) 1) (spokenBelow s rows counting row n)
+
+  pub role-signer : eqb (roleOf s n rows counting row) 3 ≡ (eqb (row .standing) 3 && eqb (spokenBelow s rows counting row n) 1)
+  unfolding roleOf roleBy signedOf
+  role-signer =
+      by-signer (eqb (row .standing) 2) (eqb (row .standing) 3) (eqb (row .standing) 1) (spokenBelow s rows counting row n)
+      (apart (row .standing) 2 3 (λ z. omega arith))
+
+module _ (s table : List ℕ) (moment : ℕ) (rows : List Row) (counting roles : List ℕ) (told : Told moment s (entryCount s) rows) (counted : Counted (entryCount s) table rows counting) (is : Roles s (entryCount s) rows counting roles) where
+  -- role 1 is a usable anchor
+  pub anchor-means : (p : ℕ) → p < entryCount s → eqb (getD roles p 0) 1 ≡ usableAnchor (itemsIn s) moment p
+  anchor-means p h =
+      rw (is p h) (role-anchor s (entryCount s) rows counting (rowAt rows p) ∙ anchor-standing s table moment rows told p h)
+
+  -- a standing of 2 or 3 that the CRLs leave is a usable link or signer
+  signed :
+      (p k : ℕ) → p < entryCount s → 2 ≤ k → k ≤ 3
+      → (eqb (rowAt rows p .standing) k && eqb (spokenBelow s rows counting (rowAt rows p) (entryCount s)) 1)
+      ≡ (hasKind (itemsIn s) k p && usable (itemsIn s) (verdictIn (entryCount s) table) moment p)
+  unfolding usable
+  signed p k h l m =
+      rw (kind-told s p h k, valid-told s p h moment)
+      (grouped (eqb (rowAt rows p .standing) k) (eqb (entryIn s p .kind) k) (validOf moment s (entryIn s p))
+      (eqb (spokenBelow s rows counting (rowAt rows p) (entryCount s)) 1) _
+      (standing-signed (row-reading s table moment rows told p h) k l m)
+      (λ e. spoken-means s table moment rows told counting counted p h (own (eqb-true (rowAt rows p .standing) k e))))
+    where
+      own : rowAt rows p .standing ≡ k → Certificate s rows p
+      own e = certificate-row (row-reading s table moment rows told p h) (omega arith) (omega arith)
+
+  -- role 2 is a usable link
+  pub link-means :
+      (p : ℕ) → p < entryCount s
+      → eqb (getD roles p 0) 2 ≡ (hasKind (itemsIn s) 2 p && usable (itemsIn s) (verdictIn (entryCount s) table) moment p)
+  link-means p h =
+      rw (is p h) (role-link s (entryCount s) rows counting (rowAt rows p) ∙ signed p 2 h (omega arith) (omega arith))
+
+  -- role 3 is a usable signer
+  pub signer-means :
+      (p : ℕ) → p < entryCount s
+      → eqb (getD roles p 0) 3 ≡ (hasKind (itemsIn s) 3 p && usable (itemsIn s) (verdictIn (entryCount s) table) moment p)
+  signer-means p h =
+      rw (is p h) (role-signer s (entryCount s) rows counting (rowAt rows p) ∙ signed p 3 h (omega arith) (omega arith))

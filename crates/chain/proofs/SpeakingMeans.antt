@@ -1,0 +1,134 @@
+-- What the CRLs say of a certificate is 1 where one that counts covers it and none of those lists its serial: a fold over
+-- the places keeps whether some covered so far and whether some listed.
+use Prim.Native.Nat.{ℕ, zero, suc, _<_}
+use mathlib.Core.Path.{_≡_, refl, ap₂, sym, _∙_}
+use mathlib.Core.Bool.{Bool, true, false, cond, _&&_, _||_, not}
+use mathlib.Core.List.{List}
+use native.Mathlib.Omega.{arith}
+use borrow.Author.Tests.{eqb-true}
+use lib.Dec.{eqb}
+use lib.ListN.{getD}
+use Rattle.image.specs.Index.{itemsIn, entryCount}
+use Rattle.chain.specs.declared.opened.Row.{Row}
+use Rattle.chain.specs.Items.{someBelow, somePlace}
+use Rattle.chain.specs.Usable.{covers, lists, speaksOf}
+use Rattle.chain.specs.Table.{verdictIn}
+use Rattle.chain.specs.Rows.{bytesAt, rowAt, Told, countedOf, Counted, pieceOf, coversOf, listsOf, spokenOf, spokenBelow}
+use Rattle.chain.proofs.Booleans.{first, and-when}
+use Rattle.chain.proofs.PlacesMean.{length-items}
+use Rattle.chain.proofs.StandingMeans.{list-row}
+use Rattle.chain.proofs.ItemsTold.{bytes-told, part-told, certificate-told, list-told}
+use Rattle.chain.proofs.CountingMeans.{some-same, flag-one, Certificate, Crl, row-reading, counting-means}
+
+-- what is said where some CRL covers and lists, and where some covers
+abbrev said : Bool → Bool → ℕ
+said listed covered = cond listed 2 (cond covered 1 0)
+
+-- one place more
+abbrev next : Bool → Bool → Bool → ℕ → ℕ
+next k covers lists before = cond k (cond (eqb before 2) 2 (cond covers (cond lists 2 1) before)) before
+
+turn :
+    (k covers lists listed covered : Bool)
+    → next k covers lists (said listed covered) ≡ said (((k && covers) && lists) || listed) ((k && covers) || covered)
+turn false c l sl sc = refl
+turn true false l true sc = refl
+turn true false l false true = refl
+turn true false l false false = refl
+turn true true true true sc = refl
+turn true true true false true = refl
+turn true true true false false = refl
+turn true true false true sc = refl
+turn true true false false true = refl
+turn true true false false false = refl
+
+is-one : (listed covered : Bool) → eqb (said listed covered) 1 ≡ (covered && not listed)
+is-one true true = refl
+is-one true false = refl
+is-one false true = refl
+is-one false false = refl
+
+module _ (s : List ℕ) (rows : List Row) (counting : List ℕ) (row : Row) where
+  -- a counting CRL that covers the row, and one that lists it besides
+  unfoldable speaking : ℕ → Bool
+  speaking c = eqb (getD counting c 0) 1 && coversOf s (rowAt rows c) row
+
+  unfoldable listing : ℕ → Bool
+  listing c = speaking c && listsOf s (rowAt rows c) row
+
+  spoken-some : (n : ℕ) → spokenBelow s rows counting row n ≡ said (someBelow n listing) (someBelow n speaking)
+  unfolding spokenBelow spokenOf someBelow speaking listing
+  spoken-some zero = refl
+  spoken-some (suc c) =
+      rw (spoken-some c)
+      (turn (eqb (getD counting c 0) 1) (coversOf s (rowAt rows c) row) (listsOf s (rowAt rows c) row) (someBelow c listing)
+      (someBelow c speaking))
+
+  spoken-one : (n : ℕ) → eqb (spokenBelow s rows counting row n) 1 ≡ (someBelow n speaking && not (someBelow n listing))
+  spoken-one n = rw (spoken-some n) (is-one (someBelow n listing) (someBelow n speaking))
+
+module _ (s table : List ℕ) (moment : ℕ) (rows : List Row) (told : Told moment s (entryCount s) rows) where
+  covers-row :
+      (c p : ℕ) → c < entryCount s → p < entryCount s → Crl s rows c → Certificate s rows p
+      → coversOf s (rowAt rows c) (rowAt rows p) ≡ covers (itemsIn s) c p
+  unfolding coversOf covers pieceOf bytesAt
+  covers-row c p hc hp (g, jg, rg) (f, jf, rf) =
+      rw (list-told s c hc g jg, certificate-told s p hp f jf, part-told s c hc, part-told s p hp, rg, rf)
+
+  lists-row :
+      (c p : ℕ) → c < entryCount s → p < entryCount s → Crl s rows c → Certificate s rows p
+      → listsOf s (rowAt rows c) (rowAt rows p) ≡ lists (itemsIn s) c p
+  unfolding listsOf lists pieceOf bytesAt
+  lists-row c p hc hp (g, jg, rg) (f, jf, rf) =
+      rw (list-told s c hc g jg, certificate-told s p hp f jf, bytes-told s c hc, part-told s p hp, rg, rf)
+
+  counted-list : (c : ℕ) → countedOf (entryCount s) table rows c ≡ true → rowAt rows c .standing ≡ 4
+  unfolding countedOf
+  counted-list c e = go (eqb (rowAt rows c .standing) 4) refl (someBelow (entryCount s) _) e
+    where
+      go :
+          (b : Bool) → eqb (rowAt rows c .standing) 4 ≡ b → (o : Bool) → cond b o false ≡ true → rowAt rows c .standing ≡ 4
+      go true h o f = eqb-true (rowAt rows c .standing) 4 h
+      go false h o f = absurd (let z : _≡_ {A = ℕ} 0 1 = cc in omega arith)
+
+  module _ (counting : List ℕ) (is : Counted (entryCount s) table rows counting) where
+    counting-list : (c : ℕ) → c < entryCount s → eqb (getD counting c 0) 1 ≡ true → Crl s rows c
+    counting-list c h e =
+        list-row (row-reading s table moment rows told c h)
+        (counted-list c (sym (flag-one (countedOf (entryCount s) table rows c)) ∙ rw (is c h) at e))
+
+    speaks :
+        (p c : ℕ) → p < entryCount s → c < entryCount s → Certificate s rows p
+        → speaking s rows counting (rowAt rows p) c ≡ speaksOf (itemsIn s) (verdictIn (entryCount s) table) moment p c
+    unfolding speaking speaksOf
+    speaks p c hp hc own =
+        rw (← counting-means s table moment rows told counting is c hc)
+        (and-when (eqb (getD counting c 0) 1) (coversOf s (rowAt rows c) (rowAt rows p)) (covers (itemsIn s) c p)
+        (λ k. covers-row c p hc hp (counting-list c hc k) own))
+
+    lists-it :
+        (p c : ℕ) → p < entryCount s → c < entryCount s → Certificate s rows p
+        → listing s rows counting (rowAt rows p) c
+        ≡ (speaksOf (itemsIn s) (verdictIn (entryCount s) table) moment p c && lists (itemsIn s) c p)
+    unfolding listing speaking
+    lists-it p c hp hc own =
+        rw (← speaks p c hp hc own)
+        (and-when (speaking s rows counting (rowAt rows p) c) (listsOf s (rowAt rows c) (rowAt rows p)) (lists (itemsIn s) c p)
+        (λ k. lists-row c p hc hp (counting-list c hc (speaking-counts c k)) own))
+      where
+        speaking-counts : (c : ℕ) → speaking s rows counting (rowAt rows p) c ≡ true → eqb (getD counting c 0) 1 ≡ true
+        speaking-counts c k = first (eqb (getD counting c 0) 1) (coversOf s (rowAt rows c) (rowAt rows p)) k
+
+    -- what the CRLs say is 1 where one that counts covers it, and none of those lists its serial
+    pub spoken-means :
+        (p : ℕ) → p < entryCount s → Certificate s rows p
+        → eqb (spokenBelow s rows counting (rowAt rows p) (entryCount s)) 1
+        ≡ (somePlace (itemsIn s) (λ c. speaksOf (itemsIn s) (verdictIn (entryCount s) table) moment p c)
+        && not
+        (somePlace (itemsIn s) λ c. speaksOf (itemsIn s) (verdictIn (entryCount s) table) moment p c && lists (itemsIn s) c p))
+    unfolding somePlace
+    spoken-means p h own =
+        rw (length-items s)
+        (spoken-one s rows counting (rowAt rows p) (entryCount s)
+        ∙ ap₂ (λ (a b : Bool). a && not b) (some-same (entryCount s) _ _ (λ c hc. speaks p c h hc own))
+        (some-same (entryCount s) _ _ (λ c hc. lists-it p c h hc own)))

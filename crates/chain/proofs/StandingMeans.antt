@@ -1,0 +1,81 @@
+-- What a row's standing says of its item, case by case of the readings of a row.
+use Prim.Native.Nat.{ℕ, _≤_}
+use mathlib.Core.Path.{_≡_, refl, ap, sym}
+use mathlib.Core.Bool.{Bool, true, false, _&&_}
+use mathlib.Core.List.{List}
+use native.Mathlib.Omega.{arith}
+use borrow.Author.Tests.{eqb-true, eq-eqb, ne-eqb}
+use lib.Dec.{eqb}
+use Rattle.certificate.specs.declared.Fields as certificates
+use Rattle.certificate.specs.declared.Judged.the-variants.{Passed}
+use Rattle.certificate.specs.Answer.{judgedOf}
+use Rattle.crl.specs.declared.Fields as crls
+use Rattle.crl.specs.declared.Judged.the-variants as list-judged
+use Rattle.crl.specs.Answer as lists
+use Rattle.image.specs.declared.IndexEntry.{IndexEntry}
+use Rattle.chain.specs.declared.opened.Row.{Row}
+use Rattle.chain.specs.Rows.{blank, bytesAt}
+use Rattle.chain.proofs.RowReadings.{certificateTold, listTold, validOf, currentOf, anchorOf, Reading, certificate, list, neither}
+
+-- a test that a second and a third follow from
+with-true : (a b c : Bool) → (a ≡ true → b ≡ true) → c ≡ true → a ≡ (a && (b && c))
+with-true true b c f t = rw (f refl, t)
+with-true false b c f t = refl
+
+with-one : (a b : Bool) → b ≡ true → a ≡ (a && b)
+with-one true b t = sym t
+with-one false b t = refl
+
+module _ {moment : ℕ} {s : List ℕ} {e : IndexEntry} {row : Row} where
+  -- standing 1 is a usable anchor
+  pub standing-anchor : Reading moment s e row → eqb (row .standing) 1 ≡ anchorOf moment s e
+  unfolding anchorOf blank
+  standing-anchor (certificate f j v lo hi on h) =
+      rw h
+      (with-true (eqb (e .kind) 1) (eqb (e .flags) 1) (validOf moment s e)
+      (λ k. eq-eqb (e .flags) 1 (on (eqb-true (e .kind) 1 k))) v)
+  standing-anchor (list f four j v h) = rw (h, four)
+  standing-anchor (neither a b c h) = rw h (sym a)
+
+  -- standings 2 and 3 are those kinds, passing and within their times
+  pub standing-signed :
+      Reading moment s e row → (k : ℕ) → 2 ≤ k → k ≤ 3 → eqb (row .standing) k ≡ (eqb (e .kind) k && validOf moment s e)
+  unfolding blank
+  standing-signed (certificate f j v lo hi on h) k l m = rw h (with-one (eqb (e .kind) k) (validOf moment s e) v)
+  standing-signed (list f four j v h) k l m =
+      let other : eqb 4 k ≡ false = ne-eqb 4 k (λ z. omega arith) in
+      rw (h, four, other)
+  standing-signed (neither a b c h) k l m =
+      let other : eqb 0 k ≡ false = ne-eqb 0 k (λ z. omega arith) in
+      rw (h, other) (sym (b k l m))
+
+  -- standing 4 is a CRL, passing and within its times
+  pub standing-list : Reading moment s e row → eqb (row .standing) 4 ≡ (eqb (e .kind) 4 && currentOf moment s e)
+  unfolding blank
+  standing-list (certificate f j v lo hi on h) =
+      let other : eqb (e .kind) 4 ≡ false = ne-eqb (e .kind) 4 (λ z. omega arith) in
+      rw (h, other)
+  standing-list (list f four j v h) = rw (h, v, four)
+  standing-list (neither a b c h) = rw h (sym c)
+
+  -- the row of a certificate
+  pub certificate-row :
+      Reading moment s e row → 1 ≤ row .standing → row .standing ≤ 3
+      → (f : certificates.Fields) × (judgedOf (bytesAt s e) (e .kind) ≡ Passed f) × (row ≡ certificateTold e f)
+  unfolding blank
+  certificate-row (certificate f j v lo hi on h) l m = (f, j, h)
+  certificate-row (list f four j v h) l m =
+      absurd (let z : row .standing ≡ 4 = ap (λ (r : Row). r .standing) h in omega arith)
+  certificate-row (neither a b c h) l m =
+      absurd (let z : row .standing ≡ 0 = ap (λ (r : Row). r .standing) h in omega arith)
+
+  -- the row of a CRL
+  pub list-row :
+      Reading moment s e row → row .standing ≡ 4
+      → (f : crls.Fields) × (lists.judgedOf (bytesAt s e) ≡ list-judged.Passed f) × (row ≡ listTold e f)
+  unfolding blank
+  list-row (certificate f j v lo hi on h) l =
+      absurd (let z : row .standing ≡ e .kind = ap (λ (r : Row). r .standing) h in omega arith)
+  list-row (list f four j v h) l = (f, j, h)
+  list-row (neither a b c h) l =
+      absurd (let z : row .standing ≡ 0 = ap (λ (r : Row). r .standing) h in omega arith)

@@ -1,0 +1,103 @@
+-- The table of steps tells the good steps between usable places: there the rows tell names and keys, and roles tell kinds.
+use Prim.Native.Nat.{ℕ, _+_, _*_, _<_}
+use mathlib.Core.Path.{_≡_, refl, sym, _∙_}
+use mathlib.Core.Bool.{Bool, true, false, cond, _||_}
+use mathlib.Core.List.{List}
+use mathlib.Core.Logic.{_⊎_, inl, inr, ⊎-elim}
+use native.Mathlib.Omega.{arith}
+use borrow.Author.Tests.{eqb-true}
+use lib.Dec.{eqb}
+use lib.ListN.{getD, take, drop}
+use Rattle.elements.specs.Octets.{alike}
+use Rattle.image.specs.Index.{entryIn, itemsIn, entryCount}
+use Rattle.chain.specs.declared.opened.Row.{Row}
+use Rattle.chain.specs.Items.{itemAt}
+use Rattle.chain.specs.Usable.{usableAnchor}
+use Rattle.chain.specs.Steps.{hasKind, fits, goodStep}
+use Rattle.chain.specs.Table.{verdictIn}
+use Rattle.chain.specs.Rows.{bytesAt, rowAt, Told, Counted, pieceOf, leadsOf, ledOf, fitsOf, matchedOf, stepOf, Roles, Matched}
+use Rattle.chain.proofs.Booleans.{first, chosen, swapped}
+use Rattle.chain.proofs.StandingMeans.{certificate-row}
+use Rattle.chain.proofs.ItemsTold.{part-told, certificate-told}
+use Rattle.chain.proofs.CountingMeans.{flag-one, Certificate, row-reading}
+use Rattle.chain.proofs.RolesMean.{role-anchor, role-link, role-signer, anchor-means, link-means, signer-means}
+
+either : (a b : Bool) → (a ≡ true) ⊎ (b ≡ true) → (a || b) ≡ true
+either true b e = refl
+either false b (inl e) = absurd (let z : _≡_ {A = ℕ} 0 1 = cc in omega arith)
+either false b (inr e) = e
+
+either-cond : (a b : Bool) → (a ≡ true) ⊎ (b ≡ true) → cond a true b ≡ true
+either-cond true b e = refl
+either-cond false b (inl e) = absurd (let z : _≡_ {A = ℕ} 0 1 = cc in omega arith)
+either-cond false b (inr e) = e
+
+-- names and keys of two certificates are those of their rows
+fits-rows :
+    (s : List ℕ) (rows : List Row) (u v : ℕ) → u < entryCount s → v < entryCount s → Certificate s rows u → Certificate s rows v
+    → fitsOf s (rowAt rows u) (rowAt rows v) ≡ fits (itemsIn s) u v
+unfolding fitsOf fits pieceOf bytesAt
+fits-rows s rows u v hu hv (f, jf, rf) (g, jg, rg) =
+    let part : ℕ → ℕ → ℕ → List ℕ = λ p at size. take size (drop at (bytesAt s (entryIn s p))) in
+    rw (
+      certificate-told s u hu f jf,
+      certificate-told s v hv g jg,
+      rf,
+      rg,
+      part-told s v hv (g .«issuer_at»),
+      part-told s u hu (f .«subject_at»),
+      part-told s v hv (g .«authority_key_at»),
+      part-told s u hu (f .«subject_key_at»),
+    )
+    (swapped (alike (part v (g .«issuer_at») (g .«issuer_len»)) (part u (f .«subject_at») (f .«subject_len»)))
+    (alike (part v (g .«authority_key_at») (g .«authority_key_len»)) (part u (f .«subject_key_at») (f .«subject_key_len»))))
+
+module _ (s table : List ℕ) (moment : ℕ) (rows : List Row) (counting roles steps : List ℕ) (told : Told moment s (entryCount s) rows) (counted : Counted (entryCount s) table rows counting) (is : Roles s (entryCount s) rows counting roles) (matched : Matched s (entryCount s) table rows roles steps) where
+  -- a place with a role has a certificate's row
+  anchor-row : (p : ℕ) → p < entryCount s → eqb (getD roles p 0) 1 ≡ true → Certificate s rows p
+  anchor-row p h e =
+      let one = eqb-true (rowAt rows p .standing) 1 (sym (role-anchor s (entryCount s) rows counting (rowAt rows p)) ∙ rw (is p h) at e) in
+      certificate-row (row-reading s table moment rows told p h) (omega arith) (omega arith)
+
+  link-row : (p : ℕ) → p < entryCount s → eqb (getD roles p 0) 2 ≡ true → Certificate s rows p
+  link-row p h e =
+      let two = eqb-true (rowAt rows p .standing) 2
+      (first (eqb (rowAt rows p .standing) 2) _ (sym (role-link s (entryCount s) rows counting (rowAt rows p)) ∙ rw (is p h) at e)) in
+      certificate-row (row-reading s table moment rows told p h) (omega arith) (omega arith)
+
+  signer-row : (p : ℕ) → p < entryCount s → eqb (getD roles p 0) 3 ≡ true → Certificate s rows p
+  signer-row p h e =
+      let three = eqb-true (rowAt rows p .standing) 3
+      (first (eqb (rowAt rows p .standing) 3) _ (sym (role-signer s (entryCount s) rows counting (rowAt rows p)) ∙ rw (is p h) at e)) in
+      certificate-row (row-reading s table moment rows told p h) (omega arith) (omega arith)
+
+  -- and the kind of its role
+  anchor-kind : (p : ℕ) → p < entryCount s → eqb (getD roles p 0) 1 ≡ true → hasKind (itemsIn s) 1 p ≡ true
+  unfolding hasKind usableAnchor
+  anchor-kind p h e =
+      first (eqb (itemAt (itemsIn s) p .kind) 1) _ (sym (anchor-means s table moment rows counting roles told counted is p h) ∙ e)
+
+  link-kind : (p : ℕ) → p < entryCount s → eqb (getD roles p 0) 2 ≡ true → hasKind (itemsIn s) 2 p ≡ true
+  link-kind p h e =
+      first (hasKind (itemsIn s) 2 p) _ (sym (link-means s table moment rows counting roles told counted is p h) ∙ e)
+
+  signer-kind : (p : ℕ) → p < entryCount s → eqb (getD roles p 0) 3 ≡ true → hasKind (itemsIn s) 3 p ≡ true
+  signer-kind p h e =
+      first (hasKind (itemsIn s) 3 p) _ (sym (signer-means s table moment rows counting roles told counted is p h) ∙ e)
+
+  -- between an anchor or link and a link or signer, a step told is a good one
+  pub step-means :
+      (u v : ℕ) → u < entryCount s → v < entryCount s → (eqb (getD roles u 0) 1 ≡ true) ⊎ (eqb (getD roles u 0) 2 ≡ true)
+      → (eqb (getD roles v 0) 2 ≡ true) ⊎ (eqb (getD roles v 0) 3 ≡ true)
+      → eqb (getD steps (u * 96 + v) 0) 1 ≡ goodStep (itemsIn s) (verdictIn (entryCount s) table) u v
+  unfolding stepOf matchedOf leadsOf ledOf goodStep
+  step-means u v hu hv from to =
+      let a : hasKind (itemsIn s) 1 u || hasKind (itemsIn s) 2 u ≡ true =
+      either _ _ (⊎-elim (λ e. inl (anchor-kind u hu e)) (λ e. inr (link-kind u hu e)) from) in
+      let b : hasKind (itemsIn s) 2 v || hasKind (itemsIn s) 3 v ≡ true =
+      either _ _ (⊎-elim (λ e. inl (link-kind v hv e)) (λ e. inr (signer-kind v hv e)) to) in
+      let cu : Certificate s rows u = ⊎-elim (anchor-row u hu) (link-row u hu) from in
+      let cv : Certificate s rows v = ⊎-elim (link-row v hv) (signer-row v hv) to in
+      rw (matched u v hu hv, flag-one (stepOf s (entryCount s) table rows roles u v), either-cond _ _ from, either-cond _ _ to, a, b)
+      (chosen (verdictIn (entryCount s) table u v) (fitsOf s (rowAt rows u) (rowAt rows v)) (fits (itemsIn s) u v)
+      (fits-rows s rows u v hu hv cu cv))

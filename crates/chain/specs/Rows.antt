@@ -1,0 +1,203 @@
+-- What the code keeps of the items of an image and makes of it, table by table. The contract of `best_chain` cites nothing of
+-- this: that the tables mean the definitions of good chains is proved.
+use Prim.Native.Nat.{ℕ, zero, suc, _+_, _*_, _<_}
+use mathlib.Core.Path.{_≡_}
+use mathlib.Core.Bool.{Bool, true, false, cond, _&&_}
+use mathlib.Core.List.{List}
+use lib.Dec.{eqb}
+use lib.ListN.{getD, take, drop}
+use Rattle.certificate.specs.declared.Judged.{Judged}
+use Rattle.certificate.specs.declared.Judged.the-variants.{Passed, Refused}
+use Rattle.certificate.specs.Answer.{judgedOf}
+use Rattle.crl.specs.declared.Judged as list-answer
+use Rattle.crl.specs.declared.Judged.the-variants as list-judged
+use Rattle.crl.specs.Answer as lists
+use Rattle.crl.specs.Listed.{listedOf}
+use Rattle.elements.specs.Octets.{alike}
+use Rattle.image.specs.declared.IndexEntry.{IndexEntry}
+use Rattle.image.specs.Index.{entryIn}
+use Rattle.chain.specs.declared.opened.Row.{Row}
+use Rattle.chain.specs.Items.{someBelow, within}
+use Rattle.chain.specs.Table.{verdictIn}
+
+-- nothing that could stand in a chain
+unfoldable pub blank : Row
+blank =
+    record {
+      standing = 0;
+      first = 0;
+      second = 0;
+      at = 0;
+      size = 0;
+      «issuer_at» = 0;
+      «issuer_len» = 0;
+      «subject_at» = 0;
+      «subject_len» = 0;
+      «serial_at» = 0;
+      «serial_len» = 0;
+      «own_at» = 0;
+      «own_len» = 0;
+      «authority_at» = 0;
+      «authority_len» = 0;
+      from = 0;
+      end = 0;
+    }
+
+-- a certificate that passes, at a moment within its times
+unfoldable pub certificateRow : ℕ → IndexEntry → Judged → Row
+certificateRow moment e (Refused refusal) = blank
+certificateRow moment e (Passed f) =
+    cond (within (f .start) (f .end) moment)
+    (record {
+      standing = e .kind;
+      first = f .first;
+      second = f .second;
+      at = e .offset;
+      size = e .length;
+      «issuer_at» = f .«issuer_at»;
+      «issuer_len» = f .«issuer_len»;
+      «subject_at» = f .«subject_at»;
+      «subject_len» = f .«subject_len»;
+      «serial_at» = f .«serial_at»;
+      «serial_len» = f .«serial_len»;
+      «own_at» = f .«subject_key_at»;
+      «own_len» = f .«subject_key_len»;
+      «authority_at» = f .«authority_key_at»;
+      «authority_len» = f .«authority_key_len»;
+      from = 0;
+      end = 0;
+    })
+    blank
+
+-- a CRL that passes, at a moment from this update to next update
+unfoldable pub listRow : ℕ → IndexEntry → list-answer.Judged → Row
+listRow moment e (list-judged.Refused refusal) = blank
+listRow moment e (list-judged.Passed f) =
+    cond (within (f .«this_update») (f .«next_update») moment)
+    (record {
+      standing = 4;
+      first = f .first;
+      second = f .second;
+      at = e .offset;
+      size = e .length;
+      «issuer_at» = f .«issuer_at»;
+      «issuer_len» = f .«issuer_len»;
+      «subject_at» = 0;
+      «subject_len» = 0;
+      «serial_at» = 0;
+      «serial_len» = 0;
+      «own_at» = 0;
+      «own_len» = 0;
+      «authority_at» = 0;
+      «authority_len» = 0;
+      from = f .«entries_from»;
+      end = f .«entries_end»;
+    })
+    blank
+
+unfoldable pub bytesAt : List ℕ → IndexEntry → List ℕ
+bytesAt s e = take (e .length) (drop (e .offset) s)
+
+-- the row of an entry; a disabled anchor has none
+unfoldable pub rowOf : ℕ → List ℕ → IndexEntry → Row
+rowOf moment s e =
+    cond (eqb (e .kind) 4) (listRow moment e (lists.judgedOf (bytesAt s e)))
+    (cond (eqb (e .kind) 1)
+    (cond (eqb (e .flags) 1) (certificateRow moment e (judgedOf (bytesAt s e) (e .kind))) blank)
+    (certificateRow moment e (judgedOf (bytesAt s e) (e .kind))))
+
+unfoldable pub rowAt : List Row → ℕ → Row
+rowAt rows place = getD rows place blank
+
+-- the rows of an image's places
+abbrev pub Told : ℕ → List ℕ → ℕ → List Row → Type 0
+Told moment s n rows = (p : ℕ) → p < n → rowAt rows p ≡ rowOf moment s (entryIn s p)
+
+-- 1 for what is so
+unfoldable pub flag : Bool → ℕ
+flag so = cond so 1 0
+
+-- a usable anchor of a CRL's country
+unfoldable pub vouchesOf : Row → Row → Bool
+vouchesOf anchor list =
+    cond (eqb (anchor .standing) 1) (cond (eqb (anchor .first) (list .first)) (eqb (anchor .second) (list .second)) false) false
+
+-- an anchor that has verdict 1 for a CRL
+unfoldable pub vouchedBy : ℕ → List ℕ → List Row → ℕ → ℕ → Bool
+vouchedBy n table rows list anchor = cond (verdictIn n table anchor list) (vouchesOf (rowAt rows anchor) (rowAt rows list)) false
+
+unfoldable pub countedOf : ℕ → List ℕ → List Row → ℕ → Bool
+countedOf n table rows list = cond (eqb (rowAt rows list .standing) 4) (someBelow n (vouchedBy n table rows list)) false
+
+-- the table of counting CRLs
+abbrev pub Counted : ℕ → List ℕ → List Row → List ℕ → Type 0
+Counted n table rows counting = (c : ℕ) → c < n → getD counting c 0 ≡ flag (countedOf n table rows c)
+
+-- a part of the item of a row
+unfoldable pub pieceOf : List ℕ → Row → ℕ → ℕ → List ℕ
+pieceOf s row at size = take size (drop at (take (row .size) (drop (row .at) s)))
+
+unfoldable pub coversOf : List ℕ → Row → Row → Bool
+coversOf s list row =
+    alike (pieceOf s list (list .«issuer_at») (list .«issuer_len»)) (pieceOf s row (row .«issuer_at») (row .«issuer_len»))
+
+unfoldable pub listsOf : List ℕ → Row → Row → Bool
+listsOf s list row =
+    listedOf (take (list .size) (drop (list .at) s)) (list .from) (list .end) (pieceOf s row (row .«serial_at») (row .«serial_len»))
+
+-- what one more counting CRL says: 0 none covers the certificate, 1 one covers it, 2 one that covers it lists its serial
+unfoldable pub spokenOf : List ℕ → Row → Row → ℕ → ℕ
+spokenOf s list row before = cond (eqb before 2) 2 (cond (coversOf s list row) (cond (listsOf s list row) 2 1) before)
+
+-- what so many CRLs say
+unfoldable pub spokenBelow : List ℕ → List Row → List ℕ → Row → ℕ → ℕ
+spokenBelow s rows counting row zero = 0
+spokenBelow s rows counting row (suc c) =
+    cond (eqb (getD counting c 0) 1) (spokenOf s (rowAt rows c) row (spokenBelow s rows counting row c))
+    (spokenBelow s rows counting row c)
+
+-- a link or a signer
+unfoldable pub signedOf : Row → Bool
+signedOf row = cond (eqb (row .standing) 2) true (eqb (row .standing) 3)
+
+-- 1 a usable anchor, 2 a usable link, 3 a usable signer, else 0
+unfoldable pub roleBy : Row → ℕ → ℕ
+roleBy row spoken =
+    cond (signedOf row) (cond (eqb spoken 1) (cond (eqb (row .standing) 2) 2 3) 0) (cond (eqb (row .standing) 1) 1 0)
+
+unfoldable pub roleOf : List ℕ → ℕ → List Row → List ℕ → Row → ℕ
+roleOf s n rows counting row = roleBy row (cond (signedOf row) (spokenBelow s rows counting row n) 0)
+
+-- the table of roles
+abbrev pub Roles : List ℕ → ℕ → List Row → List ℕ → List ℕ → Type 0
+Roles s n rows counting roles = (p : ℕ) → p < n → getD roles p 0 ≡ roleOf s n rows counting (rowAt rows p)
+
+-- an anchor or a link; a link or a signer
+unfoldable pub leadsOf : ℕ → Bool
+leadsOf role = cond (eqb role 1) true (eqb role 2)
+
+unfoldable pub ledOf : ℕ → Bool
+ledOf role = cond (eqb role 2) true (eqb role 3)
+
+-- the key identifiers are equal, and the issuer's name is the subject's
+unfoldable pub fitsOf : List ℕ → Row → Row → Bool
+fitsOf s u v =
+    cond (alike (pieceOf s v (v .«authority_at») (v .«authority_len»)) (pieceOf s u (u .«own_at») (u .«own_len»)))
+    (alike (pieceOf s v (v .«issuer_at») (v .«issuer_len»)) (pieceOf s u (u .«subject_at») (u .«subject_len»)))
+    false
+
+-- a link or signer that fits
+unfoldable pub matchedOf : List ℕ → Row → Row → ℕ → Bool
+matchedOf s u v role = cond (ledOf role) (fitsOf s u v) false
+
+-- a good step between usable places
+unfoldable pub stepOf : List ℕ → ℕ → List ℕ → List Row → List ℕ → ℕ → ℕ → Bool
+stepOf s n table rows roles u v =
+    cond (leadsOf (getD roles u 0))
+    (cond (verdictIn n table u v) (matchedOf s (rowAt rows u) (rowAt rows v) (getD roles v 0)) false)
+    false
+
+-- the table of steps
+abbrev pub Matched : List ℕ → ℕ → List ℕ → List Row → List ℕ → List ℕ → Type 0
+Matched s n table rows roles steps =
+    (u v : ℕ) → u < n → v < n → getD steps (u * 96 + v) 0 ≡ flag (stepOf s n table rows roles u v)

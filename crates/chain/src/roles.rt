@@ -1,0 +1,92 @@
+// What each place may be in a chain.
+use crate::opened::Row;
+use crl::listed;
+use elements::same;
+use image::part;
+ghost use mathlib.Core.Path.{_≡_};
+ghost use Prim.Native.Nat.{_≤_};
+ghost use Rattle.chain.specs.Rows.{pieceOf, signedOf, spokenOf, roleBy, Roles};
+
+// 1 a usable anchor, 2 a usable link, 3 a usable signer, else 0.
+pub(crate) fn roles_of(image: &[u8], places: usize, rows: [Row; 96], counting: [u8; 96]) -> [u8; 96]
+    requires { ⌜ places ≤ 96 ⌝ }
+    ensures { λ r. ⌜ Roles (now (image .entry)) places rows counting r ⌝ }
+{
+    let mut roles = [0u8; 96];
+    let mut place = 0;
+    while place < places {
+        let own = rows[place];
+        let mut spoken = 0;
+        if signed(own) {
+            let mut list = 0;
+            while list < places {
+                if counting[list] == 1 {
+                    spoken = spoken_by(image, rows[list], own, spoken);
+                }
+                list += 1;
+            }
+        }
+        roles[place] = role_of(own, spoken);
+        place += 1;
+    }
+    roles
+}
+
+// A link or a signer.
+fn signed(row: Row) -> bool
+    ensures { λ r. ⌜ r ≡ signedOf row ⌝ }
+{
+    if row.standing == 2 {
+        return true;
+    }
+    row.standing == 3
+}
+
+// The role of a place, by what the CRLs say of it.
+fn role_of(row: Row, spoken: u8) -> u8
+    ensures { λ r. ⌜ r ≡ roleBy row spoken ⌝ }
+{
+    if signed(row) {
+        if spoken != 1 {
+            return 0;
+        }
+        if row.standing == 2 {
+            return 2;
+        }
+        return 3;
+    }
+    if row.standing == 1 {
+        return 1;
+    }
+    0
+}
+
+// What the CRLs say: 0 none covers the certificate, 1 one covers it, 2 one that covers it lists its serial.
+fn spoken_by(image: &[u8], list: Row, row: Row, before: u8) -> u8
+    ensures { λ r. ⌜ r ≡ spokenOf (now (image .entry)) list row before ⌝ }
+{
+    if before == 2 {
+        return 2;
+    }
+    let listing = part(image, list.at, list.size);
+    let issuer = part(listing, list.issuer_at, list.issuer_len);
+    if !same(issuer, piece(image, row, row.issuer_at, row.issuer_len)) {
+        return before;
+    }
+    if listed(
+        listing,
+        list.from,
+        list.end,
+        piece(image, row, row.serial_at, row.serial_len),
+    ) {
+        return 2;
+    }
+    1
+}
+
+// A part of the item of a row.
+pub(crate) fn piece(image: &[u8], row: Row, at: usize, size: usize) -> &[u8]
+    ensures { λ r. ⌜ now r ≡ pieceOf (now (image .entry)) row at size ⌝ }
+{
+    part(part(image, row.at, row.size), at, size)
+}
