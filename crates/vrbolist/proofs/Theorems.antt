@@ -1,0 +1,21 @@
+-- No second answer fits the promise of the question for a chain: the answer that it forwards has none.
+use Prim.Native.Nat.{ℕ}
+use mathlib.Core.Path.{_≡_, refl, sym, ap, _∙_}
+use mathlib.Core.List.{List}
+use Rattle.chain.specs.declared.Answer.{Answer}
+use Rattle.chain.specs.declared.Outcome.{Outcome}
+use Rattle.chain.proofs.Theorems as chain
+use Rattle.vrbolist.specs.declared.chains.ChainAnswer.{ChainAnswer}
+use Rattle.vrbolist.specs.Chains.{chainTold, outcomeNumber, outcomeDetail, Forwarded, forwarded}
+
+told-same :
+    (a b : Answer) → a .outcome ≡ b .outcome → a .length ≡ b .length → a .places ≡ b .places → chainTold a ≡ chainTold b
+unfolding chainTold
+told-same a b e f g = rw (e, f, g)
+
+pub one-answer :
+    (s table : List ℕ) (moment target : ℕ) (r q : ChainAnswer) → Forwarded s table moment target r
+    → Forwarded s table moment target q → r ≡ q
+one-answer s table moment target r q (forwarded a e f) (forwarded b g h) =
+    let o = chain.one-answer s table moment target a b e g in
+    f ∙ told-same a b (o .0) (o .1) (o .2) ∙ sym h

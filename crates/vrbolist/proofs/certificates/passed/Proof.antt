@@ -1,0 +1,15 @@
+-- The answer is taken apart as it is defined to be told.
+use mathlib.Core.Path.{refl}
+use Rattle.vrbolist.specs.Told.{certificatePassed}
+use Rattle.vrbolist.proofs.certificates.passed.Statement.{statement}
+use Rattle.vrbolist.proofs.certificates.passed.Tie as tie
+use Rattle.vrbolist.proofs.certificates.passed.Reads as reads
+use Rattle.vrbolist.proofs.certificates.passed.Lts as lts
+
+-- src/certificates.rt:58:1
+returns : tie.Need-returns
+unfolding certificatePassed
+returns c = refl
+
+pub passed-spec : {M : Type 1} → statement M
+passed-spec = tie.close (tie.spec returns)

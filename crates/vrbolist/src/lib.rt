@@ -1,0 +1,6 @@
+// The C interface: each function forwards one question and takes its answer apart. No rule stands here.
+mod certificates;
+mod chains;
+mod images;
+mod items;
+mod lists;
