@@ -89,8 +89,9 @@ fn put(image: &mut [u8], back: usize, bytes: &[u8]) {
 
 /// How far before the end of the image a random index entry stands.
 fn some_entry(image: &[u8], random: &mut Random) -> Option<usize> {
-    let entries = u16::from_be_bytes([*image.get(image.len().wrapping_sub(8))?, image[image.len() - 7]]) as usize;
-    (entries > 0 && entries <= 96).then(|| 12 + 8 * random.between(1, entries))
+    let trailer = image.len().checked_sub(12)?;
+    let entries = u16::from_be_bytes([image[trailer + 4], image[trailer + 5]]) as usize;
+    (entries > 0 && 8 * entries <= trailer).then(|| 12 + 8 * random.between(1, entries))
 }
 
 const fn way(rule: u64, what: &'static str, apply: fn(&mut Vec<u8>, &mut Random)) -> Break<Vec<u8>> {
@@ -128,8 +129,10 @@ pub const BREAKS: &[Break<Vec<u8>>] = &[
     }),
     way(5, "another index start", |image, random| {
         let add = random.between(1, 255) as u8;
-        let at = image.len().saturating_sub(12) + random.below(4);
-        image[at] = image[at].wrapping_add(add);
+        if let Some(trailer) = image.len().checked_sub(12) {
+            let at = trailer + random.below(4);
+            image[at] = image[at].wrapping_add(add);
+        }
     }),
     way(6, "another kind", |image, random| {
         if let Some(back) = some_entry(image, random) {

@@ -346,10 +346,10 @@ fn wrong_entry(random: &mut Random, kinds: &mut [u8], flags: &mut [u8], lengths:
 fn moment(random: &mut Random, world: &World) -> u64 {
     let end = *random.pick(&world.moments);
     match random.below(20) {
-        0..=11 => MOMENT,
-        12..=14 => end,
-        15 | 16 => second_after(end),
-        17 | 18 => second_before(end),
+        0..=14 => MOMENT,
+        15 | 16 => end,
+        17 => second_after(end),
+        18 => second_before(end),
         _ => *random.pick(&[
             0, 20240301, 20240230120000, 20240301240000, 20240301126000, 20240301120060, 19491231235959,
             21000101000000, 20991231235959, 19500101000000, u64::MAX,

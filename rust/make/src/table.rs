@@ -6,12 +6,19 @@ use crate::world::{World, ANCHOR, CRL, LINK, SIGNER};
 /// A table for a world, of some form; sometimes none at all.
 pub fn varied(random: &mut Random, world: &World) -> Vec<u8> {
     let n = world.entries();
-    let mut table = match random.below(10) {
+    // Where names and keys differ, most tables follow them.
+    let form = if world.alike || random.percent(30) { random.below(10) } else { random.below(4) };
+    let mut table = match form {
         0 => vec![1; n * n],
-        1 | 2 => world.truth.clone(),
+        1 => world.truth.clone(),
+        2 => {
+            let mut table = world.truth.clone();
+            put(random, &mut table, 1);
+            table
+        }
         3 => {
             let mut table = world.truth.clone();
-            add(random, &mut table, 10);
+            put(random, &mut table, 0);
             table
         }
         4 => line(random, world),
@@ -42,12 +49,11 @@ pub fn scattered(random: &mut Random, n: usize, percent: usize) -> Vec<u8> {
     table
 }
 
-/// Adds about this many verdicts 1 for each place.
-fn add(random: &mut Random, table: &mut [u8], number: usize) {
-    if !table.is_empty() {
-        for _ in 0..number {
-            let at = random.below(table.len());
-            table[at] = 1;
+/// Puts this verdict into one of ten places.
+fn put(random: &mut Random, table: &mut [u8], verdict: u8) {
+    for at in 0..table.len() {
+        if random.percent(10) {
+            table[at] = verdict;
         }
     }
 }

@@ -13,6 +13,9 @@ pub const LINK: u8 = 2;
 pub const SIGNER: u8 = 3;
 pub const CRL: u8 = 4;
 
+/// Where `name::name` has the letters.
+const LETTERS: std::ops::Range<usize> = 13..15;
+
 /// The moment at which most items are within their times.
 pub const MOMENT: u64 = 20240301120000;
 
@@ -23,6 +26,8 @@ pub struct World {
     pub kinds: Vec<u8>,
     /// The verdicts that true signatures would give.
     pub truth: Vec<u8>,
+    /// All items have one name and one key, so that every step fits.
+    pub alike: bool,
     /// The first and last moments of all items.
     pub moments: Vec<u64>,
 }
@@ -71,9 +76,9 @@ impl Plan {
             left -= number;
             number
         };
-        let anchors = take(3.max(items / 8));
-        let crls = take(3.max(items / 10));
         let signers = take(3.max(items / 8));
+        let crls = take(3.max(items / 10));
+        let anchors = take(3.max(items / 8));
         Plan { anchors, links: left, signers, crls, wrong }
     }
 
@@ -113,7 +118,7 @@ impl World {
 
     /// Several countries, names and keys, mixed as it comes.
     pub fn mixed(random: &mut Random, plan: Plan, shuffled: bool) -> World {
-        let (countries, names, keys) = (random.between(1, 3), random.between(1, 2), random.between(1, 4));
+        let (countries, names, keys) = (random.between(1, 2), random.between(1, 2), random.between(1, 3));
         let mut authorities = Vec::new();
         for country in 0..countries {
             for name in 0..names {
@@ -122,9 +127,14 @@ impl World {
                 }
             }
         }
+        random.shuffle(&mut authorities);
         let all = authorities.len();
         let mut choice = random.clone();
-        Maker { random, plan, authorities: &authorities }.world(shuffled, |_, _| (choice.below(all), choice.below(all)))
+        Maker { random, plan, authorities: &authorities }.world(shuffled, |kind, number| match kind {
+            // Anchors and CRLs of as many authorities as may be.
+            ANCHOR | CRL => (number % all, number % all),
+            _ => (choice.below(all), choice.below(all)),
+        })
     }
 
     pub fn entries(&self) -> usize {
@@ -168,7 +178,7 @@ impl Maker<'_> {
         if shuffled {
             self.random.shuffle(&mut items);
         }
-        pack(items, moments)
+        pack(items, moments, self.authorities.len() == 1)
     }
 
     fn item(&mut self, kind: u8, signer: usize, own: usize, moments: &mut Vec<u64>) -> Item {
@@ -216,10 +226,8 @@ impl Maker<'_> {
             subject_key_id: (kind != SIGNER).then(|| own.key.clone()),
             authority_key_id: Some(signer.key.clone()),
         });
-        if own.name[..13] != signer.name[..13] {
-            // One country in both names: the subject's must be the signer's.
-            made.subject[..own.name.len().min(13)].copy_from_slice(&signer.name[..13]);
-        }
+        // One country in both names: the subject's letters are the signer's.
+        made.subject[LETTERS].copy_from_slice(&signer.name[LETTERS]);
         if wrong && self.random.percent(40) {
             let ways = certificate_breaks::ways(kind as u64);
             (self.random.pick(&ways).apply)(&mut made, self.random);
@@ -228,7 +236,7 @@ impl Maker<'_> {
     }
 
     fn crl(&mut self, signer: &Authority, first: u64, last: u64, wrong: bool) -> Vec<u8> {
-        let entries = *self.random.pick(&[0, 0, 3, 20, 60]);
+        let entries = *self.random.pick(&[0, 0, 0, 3, 20]);
         let mut made = Crl::new(&crl::Parameters {
             issuer: signer.name.clone(),
             this_update: first.min(last),
@@ -245,7 +253,7 @@ impl Maker<'_> {
 }
 
 /// Puts the items into an image, as many as fit.
-fn pack(items: Vec<Item>, moments: Vec<u64>) -> World {
+fn pack(items: Vec<Item>, moments: Vec<u64>, alike: bool) -> World {
     let mut image = Image::new(20240301);
     let mut bytes = 12;
     let mut taken = Vec::with_capacity(items.len());
@@ -264,5 +272,5 @@ fn pack(items: Vec<Item>, moments: Vec<u64>) -> World {
             truth.push((signs && (column.kind != ANCHOR || row.kind == ANCHOR)) as u8);
         }
     }
-    World { image: image.encode(), kinds: image.kinds, truth, moments }
+    World { image: image.encode(), kinds: image.kinds, truth, alike, moments }
 }
