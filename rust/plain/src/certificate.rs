@@ -1,11 +1,11 @@
 //! The certificate profile.
 
-use crate::der::{self, header, INTEGER, OCTET_STRING, PRINTABLE_STRING, SEQUENCE, SET};
+use crate::der::{self, split, INTEGER, OCTET_STRING, PRINTABLE_STRING, SEQUENCE, SET};
 use crate::extensions::{
     bit, extensions, Extensions, AUTHORITY_KEY_ID, BASIC_CONSTRAINTS, KEY_USAGE, SUBJECT_KEY_ID,
 };
 use crate::name::{name, Name};
-use crate::reader::{read_item, Reader, Span};
+use crate::reader::{read_item, Reader};
 use crate::refusal::Refusal;
 use crate::time::time;
 
@@ -37,29 +37,30 @@ pub struct Certificate {
 /// Judges an item as a certificate of a role: 1 anchor, 2 link, 3 DS.
 pub fn certificate(item: &[u8], role: u64) -> Certificate {
     match Role::of(role).and_then(|role| read(item, role)) {
-        Ok(fields) => answer(&fields),
+        Ok(fields) => answer(item, &fields),
         Err(Refusal { number, detail }) => Certificate { number, detail, ..Certificate::default() },
     }
 }
 
-fn answer(fields: &Fields) -> Certificate {
+fn answer(item: &[u8], fields: &Fields) -> Certificate {
+    let at = |part: &[u8]| der::offset(item, part) as u64;
     Certificate {
         number: 0,
         detail: 0,
         start: fields.start,
         end: fields.end,
-        issuer_at: fields.issuer.at as u64,
-        issuer_len: fields.issuer.len as u64,
-        subject_at: fields.subject.at as u64,
-        subject_len: fields.subject.len as u64,
-        key_at: fields.key.at as u64,
-        key_len: fields.key.len as u64,
-        serial_at: fields.serial.at as u64,
-        serial_len: fields.serial.len as u64,
-        subject_key_id_at: fields.subject_key_id.at as u64,
-        subject_key_id_len: fields.subject_key_id.len as u64,
-        authority_key_id_at: fields.authority_key_id.at as u64,
-        authority_key_id_len: fields.authority_key_id.len as u64,
+        issuer_at: at(fields.issuer),
+        issuer_len: fields.issuer.len() as u64,
+        subject_at: at(fields.subject),
+        subject_len: fields.subject.len() as u64,
+        key_at: at(fields.key),
+        key_len: fields.key.len() as u64,
+        serial_at: at(fields.serial),
+        serial_len: fields.serial.len() as u64,
+        subject_key_id_at: at(fields.subject_key_id),
+        subject_key_id_len: fields.subject_key_id.len() as u64,
+        authority_key_id_at: at(fields.authority_key_id),
+        authority_key_id_len: fields.authority_key_id.len() as u64,
         country: fields.country,
     }
 }
@@ -84,42 +85,42 @@ impl Role {
 
 /// What a passing certificate says.
 #[derive(Clone, Copy)]
-pub(crate) struct Fields {
+pub(crate) struct Fields<'a> {
     pub start: u64,
     pub end: u64,
-    pub issuer: Span,
-    pub subject: Span,
-    pub key: Span,
-    pub serial: Span,
-    pub subject_key_id: Span,
-    pub authority_key_id: Span,
+    pub issuer: &'a [u8],
+    pub subject: &'a [u8],
+    pub key: &'a [u8],
+    pub serial: &'a [u8],
+    pub subject_key_id: &'a [u8],
+    pub authority_key_id: &'a [u8],
     pub country: [u8; 2],
 }
 
 /// What rule 1 finds.
-struct Shape {
-    version: Span,
-    serial: Span,
-    issuer: Name,
-    subject: Name,
+struct Shape<'a> {
+    version: &'a [u8],
+    serial: &'a [u8],
+    issuer: Name<'a>,
+    subject: Name<'a>,
     start: Option<u64>,
     end: Option<u64>,
-    key: Span,
+    key: &'a [u8],
     /// 81 or 82 is there.
     unique_ids: bool,
     algorithms_equal: bool,
-    extensions: Extensions,
+    extensions: Extensions<'a>,
 }
 
 /// The fields of a certificate that keeps every rule of its role.
-pub(crate) fn read(item: &[u8], role: Role) -> Result<Fields, Refusal> {
+pub(crate) fn read(item: &[u8], role: Role) -> Result<Fields<'_>, Refusal> {
     let shape = read_item(item, shape)?;
     judge(item, role, &shape).map_err(Refusal::profile)
 }
 
 /// Rule 1: SEQUENCE of tbs, algorithm, BIT STRING, and the tbs in order.
 #[inline(always)]
-fn shape(reader: &mut Reader) -> Option<Shape> {
+fn shape<'a>(reader: &mut Reader<'a>) -> Option<Shape<'a>> {
     let outside = reader.enter(SEQUENCE)?;
     let in_item = reader.enter(SEQUENCE)?;
     let in_tbs = reader.enter(0xA0)?;
@@ -167,7 +168,7 @@ fn shape(reader: &mut Reader) -> Option<Shape> {
 pub(crate) fn one_time(reader: &mut Reader) -> Option<Option<u64>> {
     let tag = if reader.next_is(der::UTC_TIME) { der::UTC_TIME } else { der::GENERALIZED_TIME };
     let contents = reader.primitive(tag)?;
-    Some(time(tag, contents.of(reader.item)))
+    Some(time(tag, contents))
 }
 
 /// Optional 81, then optional 82: whether one is there.
@@ -184,11 +185,11 @@ fn unique_ids(reader: &mut Reader) -> Option<bool> {
 }
 
 /// Rules 2 to 14 in order; gives the smallest that is broken.
-fn judge(item: &[u8], role: Role, shape: &Shape) -> Result<Fields, u64> {
+fn judge<'a>(item: &'a [u8], role: Role, shape: &Shape<'a>) -> Result<Fields<'a>, u64> {
     let extensions = &shape.extensions;
-    let serial = shape.serial.of(item);
+    let serial = shape.serial;
     // 2: version number 2.
-    ensure(2, shape.version.of(item) == [2])?;
+    ensure(2, shape.version == [2])?;
     // 3: serial positive, at most 20 octets.
     ensure(3, serial.len() <= 20 && serial[0] < 0x80 && serial != [0])?;
     // 4: inner and outer algorithm equal.
@@ -203,13 +204,13 @@ fn judge(item: &[u8], role: Role, shape: &Shape) -> Result<Fields, u64> {
     ensure(7, start <= end)?;
     // 8: at least one extension, no OID twice.
     ensure(8, !extensions.empty && !extensions.doubled)?;
-    ensure(9, key_usage_good(item, role, extensions))?;
-    ensure(10, basic_constraints_good(item, role, extensions))?;
+    ensure(9, key_usage_good(role, extensions))?;
+    ensure(10, basic_constraints_good(role, extensions))?;
     let (subject_key_id, authority_key_id) = key_ids(item, role, extensions).ok_or(11u64)?;
     // 12: four that are there, not critical.
     const FOUR: u64 = bit(16) | bit(17) | bit(18) | bit(31);
     ensure(12, extensions.all(FOUR) && extensions.none_critical(FOUR))?;
-    ensure(13, role != Role::Signer || document_types_good(item, extensions))?;
+    ensure(13, role != Role::Signer || document_types_good(extensions))?;
     // 14: nothing critical but those of rules 9 and 10.
     let may = bit(KEY_USAGE) | bit(BASIC_CONSTRAINTS);
     ensure(14, extensions.none_critical(!may) && !extensions.other_critical)?;
@@ -219,7 +220,7 @@ fn judge(item: &[u8], role: Role, shape: &Shape) -> Result<Fields, u64> {
         issuer: shape.issuer.whole,
         subject: shape.subject.whole,
         key: shape.key,
-        serial: shape.serial,
+        serial,
         subject_key_id,
         authority_key_id,
         country,
@@ -236,40 +237,41 @@ fn ensure(rule: u64, kept: bool) -> Result<(), u64> {
 }
 
 /// Rule 9: keyUsage critical, its contents those of the role.
-fn key_usage_good(item: &[u8], role: Role, extensions: &Extensions) -> bool {
+fn key_usage_good(role: Role, extensions: &Extensions) -> bool {
     let wanted = match role {
         Role::Anchor | Role::Link => [0x03, 0x02, 0x01, 0x06],
         Role::Signer => [0x03, 0x02, 0x07, 0x80],
     };
-    extensions.critical & bit(KEY_USAGE) != 0 && extensions.key_usage.of(item) == wanted
+    extensions.critical & bit(KEY_USAGE) != 0 && extensions.key_usage == wanted
 }
 
 /// Rule 10: basicConstraints critical and exact; absent in a DS.
-fn basic_constraints_good(item: &[u8], role: Role, extensions: &Extensions) -> bool {
+fn basic_constraints_good(role: Role, extensions: &Extensions) -> bool {
     const WANTED: [u8; 8] = [0x30, 0x06, 0x01, 0x01, 0xFF, 0x02, 0x01, 0x00];
     if role == Role::Signer {
         return extensions.there & bit(BASIC_CONSTRAINTS) == 0;
     }
-    extensions.critical & bit(BASIC_CONSTRAINTS) != 0 && extensions.basic_constraints.of(item) == WANTED
+    extensions.critical & bit(BASIC_CONSTRAINTS) != 0 && extensions.basic_constraints == WANTED
 }
 
-/// Rule 11: the contents of the subject's and the authority's key identifier,
-/// 0 and 0 for one that may be absent and is.
-fn key_ids(item: &[u8], role: Role, extensions: &Extensions) -> Option<(Span, Span)> {
+/// Rule 11: the contents of the subject's and the authority's key identifier;
+/// for one that may be absent and is, no octets at offset 0.
+fn key_ids<'a>(item: &'a [u8], role: Role, extensions: &Extensions<'a>) -> Option<(&'a [u8], &'a [u8])> {
     if !extensions.none_critical(bit(SUBJECT_KEY_ID) | bit(AUTHORITY_KEY_ID)) {
         return None;
     }
+    let absent = &item[..0];
     let subject = if extensions.all(bit(SUBJECT_KEY_ID)) {
-        subject_key_id(item, extensions.subject_key_id)?
+        subject_key_id(extensions.subject_key_id)?
     } else if role == Role::Signer {
-        Span::default()
+        absent
     } else {
         return None;
     };
     let authority = if extensions.all(bit(AUTHORITY_KEY_ID)) {
-        authority_key_id(item, extensions.authority_key_id)?
+        authority_key_id(extensions.authority_key_id)?
     } else if role == Role::Anchor {
-        Span::default()
+        absent
     } else {
         return None;
     };
@@ -277,63 +279,51 @@ fn key_ids(item: &[u8], role: Role, extensions: &Extensions) -> Option<(Span, Sp
 }
 
 /// Contents of subjectKeyIdentifier: one OCTET STRING.
-fn subject_key_id(item: &[u8], value: Span) -> Option<Span> {
-    let end = value.at + value.len;
-    let inner = header(&item[..end], value.at)?;
-    (inner.id == OCTET_STRING && inner.end == end).then(|| Span::new(inner.body, end))
+fn subject_key_id(value: &[u8]) -> Option<&[u8]> {
+    let inner = split(value)?;
+    (inner.id == OCTET_STRING && inner.after.is_empty()).then_some(inner.contents)
 }
 
 /// Contents of authorityKeyIdentifier: a SEQUENCE whose first member is tag 80,
 /// passing a walk of its own.
-fn authority_key_id(item: &[u8], value: Span) -> Option<Span> {
-    let end = value.at + value.len;
-    let part = &item[..end];
-    let outer = header(part, value.at)?;
-    if outer.id != SEQUENCE || outer.end != end {
+fn authority_key_id(value: &[u8]) -> Option<&[u8]> {
+    let outer = split(value)?;
+    let first = split(outer.contents)?;
+    if outer.id != SEQUENCE || !outer.after.is_empty() || first.id != 0x80 {
         return None;
     }
-    let first = header(part, outer.body)?;
-    if first.id != 0x80 {
-        return None;
-    }
-    if first.end < end {
+    if !first.after.is_empty() {
         // More members: walk them all.
-        let walked = der::tree(item, part, value.at, 1, &mut 0).ok()?;
-        debug_assert_eq!(walked, end);
+        der::tree(value, value, 1, &mut 0).ok()?;
     }
-    Some(Span::new(first.body, first.end))
+    Some(first.contents)
 }
 
 /// Rule 13: SEQUENCE {INTEGER 0, SET of one or more PrintableStrings of 1 or 2
-/// octets}, passing a walk of its own.
-fn document_types_good(item: &[u8], extensions: &Extensions) -> bool {
-    match extensions.document_types {
-        Some(value) => !extensions.document_types_critical && document_types(item, value).is_some(),
-        None => false,
-    }
+/// octets}, not critical, passing a walk of its own.
+fn document_types_good(extensions: &Extensions) -> bool {
+    !extensions.document_types_critical && extensions.document_types.and_then(document_types).is_some()
 }
 
-fn document_types(item: &[u8], value: Span) -> Option<()> {
-    let end = value.at + value.len;
-    let part = &item[..end];
-    let outer = header(part, value.at)?;
-    let version = header(part, outer.body)?;
-    let set = header(part, version.end)?;
-    let zero = version.id == INTEGER && item[version.body..version.end] == [0];
-    let fills = outer.end == end && set.end == end && set.body < end;
+fn document_types(value: &[u8]) -> Option<()> {
+    let outer = split(value)?;
+    let version = split(outer.contents)?;
+    let set = split(version.after)?;
+    let zero = version.id == INTEGER && version.contents == [0];
+    let fills = outer.after.is_empty() && set.after.is_empty() && !set.contents.is_empty();
     if outer.id != SEQUENCE || !zero || set.id != SET || !fills {
         return None;
     }
     // The SEQUENCE, the INTEGER and the SET were read.
     let mut count = 3;
-    let mut at = set.body;
-    while at < end {
-        let string = header(part, at)?;
-        if string.id != PRINTABLE_STRING || !matches!(string.end - string.body, 1 | 2) {
+    let mut rest = set.contents;
+    while !rest.is_empty() {
+        let string = split(rest)?;
+        if string.id != PRINTABLE_STRING || !matches!(string.contents.len(), 1 | 2) {
             return None;
         }
         count += 1;
-        at = string.end;
+        rest = string.after;
     }
     (count <= der::COUNT_LIMIT).then_some(())
 }

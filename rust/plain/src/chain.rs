@@ -5,7 +5,6 @@ use crate::calendar::moment_real;
 use crate::certificate::{self, Role};
 use crate::crl;
 use crate::image::{self, Open, ANCHOR, CRL, LINK, PLACES, SIGNER};
-use crate::reader::Span;
 use crate::refusal::Refusal;
 
 /// The answer to the chain question.
@@ -86,22 +85,15 @@ enum Known {
     Good,
 }
 
-/// Offset and length in the image, in little room.
-#[derive(Clone, Copy, Default)]
-struct Part {
-    at: u32,
-    len: u16,
-}
-
 /// What later steps want of an item that passes.
 #[derive(Clone, Copy, Default)]
-struct Facts {
-    issuer: Part,
-    subject: Part,
+struct Facts<'a> {
+    issuer: &'a [u8],
+    subject: &'a [u8],
     /// A certificate's serial; a CRL's list of entries.
-    serial_or_list: Part,
-    subject_key_id: Part,
-    authority_key_id: Part,
+    serial_or_list: &'a [u8],
+    subject_key_id: &'a [u8],
+    authority_key_id: &'a [u8],
     country: [u8; 2],
 }
 
@@ -114,7 +106,7 @@ struct Question<'a> {
     links: Places,
     crls: Places,
     known: [Known; PLACES],
-    facts: [Facts; PLACES],
+    facts: [Facts<'a>; PLACES],
     /// The step that a place takes towards the target.
     next: [u8; PLACES],
 }
@@ -147,11 +139,6 @@ impl<'a> Question<'a> {
     #[inline(always)]
     fn verdict(&self, signer: usize, signed: usize) -> bool {
         self.table[signer * self.open.entries + signed] == 1
-    }
-
-    #[inline(always)]
-    fn octets(&self, part: Part) -> &'a [u8] {
-        &self.open.image[part.at as usize..part.at as usize + part.len as usize]
     }
 
     /// Goes back from the target, layer by layer of equal distance, up to the
@@ -199,8 +186,7 @@ impl<'a> Question<'a> {
     /// since names of one country are mostly alike.
     fn matches(&self, signer: usize, signed: usize) -> bool {
         let (signer, signed) = (&self.facts[signer], &self.facts[signed]);
-        self.octets(signed.authority_key_id) == self.octets(signer.subject_key_id)
-            && self.octets(signed.issuer) == self.octets(signer.subject)
+        signed.authority_key_id == signer.subject_key_id && signed.issuer == signer.subject
     }
 
     /// Whether a certificate is usable. CRLs are not asked about anchors.
@@ -225,17 +211,16 @@ impl<'a> Question<'a> {
     }
 
     fn open_certificate(&mut self, place: usize, role: Role) {
-        let offset = self.open.line(place).offset;
         self.known[place] = Known::Out;
         if let Ok(fields) = certificate::read(self.open.item(place), role) {
             if fields.start <= self.moment && self.moment <= fields.end {
                 self.known[place] = Known::Passes;
                 self.facts[place] = Facts {
-                    issuer: part(offset, fields.issuer),
-                    subject: part(offset, fields.subject),
-                    serial_or_list: part(offset, fields.serial),
-                    subject_key_id: part(offset, fields.subject_key_id),
-                    authority_key_id: part(offset, fields.authority_key_id),
+                    issuer: fields.issuer,
+                    subject: fields.subject,
+                    serial_or_list: fields.serial,
+                    subject_key_id: fields.subject_key_id,
+                    authority_key_id: fields.authority_key_id,
                     country: fields.country,
                 };
             }
@@ -244,14 +229,13 @@ impl<'a> Question<'a> {
 
     /// Whether a counting CRL covers a certificate and none that does lists it.
     fn covered_unlisted(&mut self, place: usize) -> bool {
-        let issuer = self.octets(self.facts[place].issuer);
-        let serial = self.octets(self.facts[place].serial_or_list);
+        let Facts { issuer, serial_or_list: serial, .. } = self.facts[place];
         let mut covered = false;
         for crl in each(self.crls) {
             if !self.issuer_is(crl, issuer) || !self.counts(crl) {
                 continue;
             }
-            if crl::lists(self.octets(self.facts[crl].serial_or_list), serial) {
+            if crl::lists(self.facts[crl].serial_or_list, serial) {
                 return false;
             }
             covered = true;
@@ -262,14 +246,13 @@ impl<'a> Question<'a> {
     /// Whether a CRL, if it passes, has this issuer.
     fn issuer_is(&mut self, crl: usize, issuer: &[u8]) -> bool {
         if self.known[crl] == Known::Nothing {
-            let offset = self.open.line(crl).offset;
             self.known[crl] = Known::Out;
-            if let Some(place) = crl::issuer_place(self.open.item(crl)) {
+            if let Some(found) = crl::issuer_place(self.open.item(crl)) {
                 self.known[crl] = Known::Peeked;
-                self.facts[crl].issuer = part(offset, place);
+                self.facts[crl].issuer = found;
             }
         }
-        self.known[crl] != Known::Out && self.octets(self.facts[crl].issuer) == issuer
+        self.known[crl] != Known::Out && self.facts[crl].issuer == issuer
     }
 
     /// Whether a CRL counts.
@@ -292,16 +275,11 @@ impl<'a> Question<'a> {
         if self.moment < fields.this_update || fields.next_update < self.moment {
             return false;
         }
-        self.facts[crl].serial_or_list = part(self.open.line(crl).offset, fields.list);
+        self.facts[crl].serial_or_list = fields.list;
         each(self.anchors).any(|anchor| {
             self.verdict(anchor, crl)
                 && self.passes(anchor, Role::Anchor)
                 && self.facts[anchor].country == fields.country
         })
     }
-}
-
-/// A part of an item at this offset of the image.
-fn part(offset: usize, span: Span) -> Part {
-    Part { at: (offset + span.at) as u32, len: span.len as u16 }
 }

@@ -2,10 +2,10 @@
 
 use crate::calendar::{day_real, difference, Days};
 use crate::certificate::one_time;
-use crate::der::{self, header, INTEGER, SEQUENCE};
+use crate::der::{offset, split, SEQUENCE};
 use crate::extensions::{bit, entry_extensions, extensions, Extensions, AUTHORITY_KEY_ID, CRL_NUMBER};
 use crate::name::{name, Name};
-use crate::reader::{read_item, Reader, Span};
+use crate::reader::{read_item, Reader};
 use crate::refusal::Refusal;
 
 /// The answer to the CRL question.
@@ -33,8 +33,8 @@ pub fn crl(item: &[u8]) -> Crl {
             this_update: fields.this_update,
             next_update: fields.next_update,
             entries: fields.entries,
-            issuer_at: fields.issuer.at as u64,
-            issuer_len: fields.issuer.len as u64,
+            issuer_at: offset(item, fields.issuer) as u64,
+            issuer_len: fields.issuer.len() as u64,
             country: fields.country,
         },
         Err(Refusal { number, detail }) => Crl { number, detail, ..Crl::default() },
@@ -56,47 +56,47 @@ fn age(item: &[u8], day: u64) -> Result<i64, Refusal> {
 
 /// What a passing CRL says.
 #[derive(Clone, Copy)]
-pub(crate) struct Fields {
+pub(crate) struct Fields<'a> {
     pub this_update: u64,
     pub next_update: u64,
     pub entries: u64,
     /// The contents of the list of entries, empty if there is none.
-    pub list: Span,
-    pub issuer: Span,
+    pub list: &'a [u8],
+    pub issuer: &'a [u8],
     pub country: [u8; 2],
 }
 
 /// What rule 1 finds.
-struct Shape {
-    version: Span,
+struct Shape<'a> {
+    version: &'a [u8],
     algorithms_equal: bool,
-    issuer: Name,
+    issuer: Name<'a>,
     this_update: Option<u64>,
     next_update: Option<u64>,
-    entries: Entries,
-    extensions: Extensions,
+    entries: Entries<'a>,
+    extensions: Extensions<'a>,
 }
 
 /// What rule 1 finds in the list of entries.
 #[derive(Default)]
-struct Entries {
+struct Entries<'a> {
     there: bool,
     number: u64,
-    list: Span,
+    list: &'a [u8],
     /// A time has not its form.
     bad_time: bool,
     critical: bool,
 }
 
 /// The fields of a CRL that keeps every rule.
-pub(crate) fn read(item: &[u8]) -> Result<Fields, Refusal> {
+pub(crate) fn read(item: &[u8]) -> Result<Fields<'_>, Refusal> {
     let shape = read_item(item, shape)?;
-    judge(item, &shape).map_err(Refusal::profile)
+    judge(&shape).map_err(Refusal::profile)
 }
 
 /// Rule 1: SEQUENCE of tbs, algorithm, BIT STRING, and the tbs in order.
 #[inline(always)]
-fn shape(reader: &mut Reader) -> Option<Shape> {
+fn shape<'a>(reader: &mut Reader<'a>) -> Option<Shape<'a>> {
     let outside = reader.enter(SEQUENCE)?;
     let in_item = reader.enter(SEQUENCE)?;
     let version = reader.integer()?;
@@ -122,10 +122,9 @@ fn shape(reader: &mut Reader) -> Option<Shape> {
 
 /// The list of entries. An entry is INTEGER, time, optional SEQUENCE of extensions.
 #[inline(always)]
-fn entries(reader: &mut Reader) -> Option<Entries> {
-    let mut entries = Entries { there: true, ..Entries::default() };
+fn entries<'a>(reader: &mut Reader<'a>) -> Option<Entries<'a>> {
     let outer = reader.enter(SEQUENCE)?;
-    let at = reader.at;
+    let mut entries = Entries { there: true, list: reader.rest(), ..Entries::default() };
     while !reader.at_end() {
         let in_list = reader.enter(SEQUENCE)?;
         reader.integer()?;
@@ -136,17 +135,16 @@ fn entries(reader: &mut Reader) -> Option<Entries> {
         reader.leave(in_list)?;
         entries.number += 1;
     }
-    entries.list = Span::new(at, reader.at);
     reader.leave(outer)?;
     Some(entries)
 }
 
 /// Rules 2 to 8 in order; gives the smallest that is broken.
-fn judge(item: &[u8], shape: &Shape) -> Result<Fields, u64> {
+fn judge<'a>(shape: &Shape<'a>) -> Result<Fields<'a>, u64> {
     let ensure = |rule: u64, kept: bool| if kept { Ok(()) } else { Err(rule) };
     let (entries, extensions) = (&shape.entries, &shape.extensions);
     // 2: version number 1.
-    ensure(2, shape.version.of(item) == [1])?;
+    ensure(2, shape.version == [1])?;
     // 3: algorithms equal.
     ensure(3, shape.algorithms_equal)?;
     // 4: one country in the issuer.
@@ -174,31 +172,28 @@ fn judge(item: &[u8], shape: &Shape) -> Result<Fields, u64> {
 
 /// The whole element that stands where a CRL has its issuer, by the headers
 /// alone. A CRL that passes has its issuer here; of any other this says nothing.
-pub(crate) fn issuer_place(item: &[u8]) -> Option<Span> {
-    let outermost = header(item, 0)?;
-    let tbs = header(item, outermost.body)?;
-    let version = header(item, tbs.body).filter(|version| version.id == INTEGER)?;
-    let algorithm = header(item, version.end)?;
-    let issuer = header(item, algorithm.end)?;
-    Some(Span::new(algorithm.end, issuer.end))
+pub(crate) fn issuer_place(item: &[u8]) -> Option<&[u8]> {
+    let outermost = split(item)?;
+    let tbs = split(outermost.contents)?;
+    let version = split(tbs.contents)?;
+    let algorithm = split(version.after)?;
+    let issuer = split(algorithm.after)?;
+    Some(&algorithm.after[..algorithm.after.len() - issuer.after.len()])
 }
 
 /// Whether the list of entries of a passing CRL, given by its contents, has an
 /// entry with this serial.
 pub(crate) fn lists(list: &[u8], serial: &[u8]) -> bool {
-    let Some(last) = serial.last() else {
-        return false;
-    };
-    let mut at = 0;
-    while let Some(entry) = der::header(list, at) {
-        if let Some(number) = der::header(list, entry.body) {
-            let contents = &list[number.body..number.end];
+    let last = serial.last();
+    let mut rest = list;
+    while let Some(entry) = split(rest) {
+        if let Some(number) = split(entry.contents) {
             // The last octet first: serials mostly differ there.
-            if contents.last() == Some(last) && contents == serial {
+            if number.contents.last() == last && number.contents == serial {
                 return true;
             }
         }
-        at = entry.end;
+        rest = entry.after;
     }
     false
 }

@@ -9,6 +9,9 @@ pub(crate) const DEPTH_LIMIT: usize = 16;
 /// The most elements in an item.
 pub(crate) const COUNT_LIMIT: usize = 4_096;
 
+/// The bit of a constructed element's identifier.
+pub(crate) const CONSTRUCTED: u8 = 0x20;
+
 pub(crate) const BOOLEAN: u8 = 0x01;
 pub(crate) const INTEGER: u8 = 0x02;
 pub(crate) const BIT_STRING: u8 = 0x03;
@@ -44,53 +47,45 @@ pub(crate) fn judge(item: &[u8]) -> Result<usize, Refusal> {
         return Err(Refusal::TOO_LONG);
     }
     let mut count = 0;
-    let end = tree(item, item, 0, 1, &mut count)?;
-    if end < item.len() {
+    let after = tree(item, item, 1, &mut count)?;
+    if !after.is_empty() {
         // Octets after the outermost element, told last.
-        return Err(Refusal::der(end));
+        return Err(Refusal::der(item.len() - after.len()));
     }
     Ok(count)
 }
 
-/// An element's identifier, start of its contents and end.
+/// An element, and what stands after it in its parent.
 #[derive(Clone, Copy)]
-pub(crate) struct Header {
+pub(crate) struct Element<'a> {
     pub id: u8,
-    pub body: usize,
-    pub end: usize,
+    pub contents: &'a [u8],
+    pub after: &'a [u8],
 }
 
-/// Reads the length that stands at `at` + 1; `part` ends where the parent ends.
-/// Offsets count from the first octet of `part`, which is the item's.
+/// Splits the first element off `rest`, which ends where its parent ends. The
+/// length: under 128 in one octet, 81 only for 128 to 255, 82 only for 256 to
+/// 65,535, no other form; the end not beyond the parent.
 #[inline(always)]
-pub(crate) fn header(part: &[u8], at: usize) -> Option<Header> {
-    let (id, first) = match part.get(at..at + 2) {
-        Some(&[id, first]) => (id, first),
+pub(crate) fn split(rest: &[u8]) -> Option<Element<'_>> {
+    let [id, first, tail @ ..] = rest else {
+        return None;
+    };
+    let (contents, after) = match (first, tail) {
+        (0..=0x7F, tail) => tail.split_at_checked(*first as usize)?,
+        (0x81, [length @ 0x80..=0xFF, tail @ ..]) => tail.split_at_checked(*length as usize)?,
+        (0x82, [high @ 1..=0xFF, low, tail @ ..]) => {
+            tail.split_at_checked((*high as usize) << 8 | *low as usize)?
+        }
         _ => return None,
     };
-    let (body, end) = if first < 0x80 {
-        (at + 2, at + 2 + first as usize)
-    } else {
-        long_length(part, at, first)?
-    };
-    (end <= part.len()).then_some(Header { id, body, end })
+    Some(Element { id: *id, contents, after })
 }
 
-/// 81 only for 128 to 255, 82 only for 256 to 65,535, no other form.
-#[inline]
-fn long_length(part: &[u8], at: usize, first: u8) -> Option<(usize, usize)> {
-    match first {
-        0x81 => {
-            let length = *part.get(at + 2)? as usize;
-            (length >= 0x80).then_some((at + 3, at + 3 + length))
-        }
-        0x82 => {
-            let high = *part.get(at + 2)? as usize;
-            let low = *part.get(at + 3)? as usize;
-            (high > 0).then_some((at + 4, at + 4 + (high << 8 | low)))
-        }
-        _ => None,
-    }
+/// The offset at which a part of an item stands in it.
+#[inline(always)]
+pub(crate) fn offset(item: &[u8], part: &[u8]) -> usize {
+    part.as_ptr() as usize - item.as_ptr() as usize
 }
 
 /// Whether an identifier may stand: tag number under 31, universal 0 never,
@@ -167,46 +162,45 @@ pub(crate) fn bit_string_good(contents: &[u8]) -> bool {
     }
 }
 
-/// Walks the element at `at`, which is at `depth`, and all below it, adding to
-/// `count`. `part` ends where its parent ends, and both begin with the item.
-/// Gives the element's end, or the first fault.
-pub(crate) fn tree(
-    item: &[u8],
-    part: &[u8],
-    at: usize,
+/// Walks the first element of `rest`, which is at `depth`, and all below it,
+/// adding to `count`. Gives what stands after it, or the first fault, with
+/// offsets in `item`, of which `rest` is a part.
+pub(crate) fn tree<'a>(
+    item: &'a [u8],
+    rest: &'a [u8],
     depth: usize,
     count: &mut usize,
-) -> Result<usize, Refusal> {
-    // The ends of the open elements above the one that is read.
-    let mut ends = [0usize; DEPTH_LIMIT + 1];
-    let (mut part, mut at, top, mut depth) = (part, at, depth, depth);
-    let mut read = *count;
+) -> Result<&'a [u8], Refusal> {
+    // What stands after each open element.
+    let mut open: [&[u8]; DEPTH_LIMIT + 1] = [&[]; DEPTH_LIMIT + 1];
+    let (mut rest, top, mut depth, mut read) = (rest, depth, depth, *count);
     loop {
-        let Some(Header { id, body, end }) = header(part, at).filter(|h| identifier_good(h.id)) else {
-            return Err(Refusal::der(at));
+        let Some(Element { id, contents, after }) = split(rest) else {
+            return Err(Refusal::der(offset(item, rest)));
         };
+        if !identifier_good(id) {
+            return Err(Refusal::der(offset(item, rest)));
+        }
         if depth > DEPTH_LIMIT || read >= COUNT_LIMIT {
-            return Err(Refusal::limit(at));
+            return Err(Refusal::limit(offset(item, rest)));
         }
         read += 1;
-        if id & 0x20 != 0 && body < end {
-            ends[depth] = part.len();
-            part = &item[..end];
-            at = body;
+        if id & CONSTRUCTED != 0 {
+            open[depth] = after;
             depth += 1;
-            continue;
+            rest = contents;
+        } else if contents_good(id, contents) {
+            rest = after;
+        } else {
+            return Err(Refusal::der(offset(item, rest)));
         }
-        if id & 0x20 == 0 && !contents_good(id, &part[body..end]) {
-            return Err(Refusal::der(at));
-        }
-        at = end;
-        while depth > top && at == part.len() {
+        while depth > top && rest.is_empty() {
             depth -= 1;
-            part = &item[..ends[depth]];
+            rest = open[depth];
         }
         if depth == top {
             *count = read;
-            return Ok(at);
+            return Ok(rest);
         }
     }
 }

@@ -1,7 +1,7 @@
 //! Lists of extensions.
 
-use crate::der::{header, BOOLEAN, OCTET_STRING, SEQUENCE};
-use crate::reader::{Reader, Span};
+use crate::der::{split, BOOLEAN, OCTET_STRING, SEQUENCE};
+use crate::reader::Reader;
 
 // The last octet of each extension OID 2.5.29.x that a rule names.
 pub(crate) const SUBJECT_KEY_ID: u8 = 14;
@@ -22,23 +22,20 @@ pub(crate) const fn bit(last: u8) -> u64 {
 }
 
 /// One extension: OID, optional BOOLEAN which is then TRUE, OCTET STRING.
-struct Extension {
-    oid: Span,
+struct Extension<'a> {
+    oid: &'a [u8],
     critical: bool,
-    value: Span,
+    value: &'a [u8],
 }
 
 /// Reads one extension.
 #[inline(always)]
-fn extension(reader: &mut Reader) -> Option<Extension> {
+fn extension<'a>(reader: &mut Reader<'a>) -> Option<Extension<'a>> {
     let outer = reader.enter(SEQUENCE)?;
     let oid = reader.oid()?;
     let critical = reader.next_is(BOOLEAN);
-    if critical {
-        let contents = reader.primitive(BOOLEAN)?;
-        if contents.of(reader.item) != [0xFF] {
-            return None;
-        }
+    if critical && reader.primitive(BOOLEAN)? != [0xFF] {
+        return None;
     }
     let value = reader.primitive(OCTET_STRING)?;
     reader.leave(outer)?;
@@ -47,7 +44,7 @@ fn extension(reader: &mut Reader) -> Option<Extension> {
 
 /// What the rules ask about a list of extensions.
 #[derive(Clone, Copy, Default)]
-pub(crate) struct Extensions {
+pub(crate) struct Extensions<'a> {
     /// Which of 2.5.29.0 to .63 are there.
     pub there: u64,
     /// Which of them are critical.
@@ -57,16 +54,16 @@ pub(crate) struct Extensions {
     /// An OID stands twice.
     pub doubled: bool,
     pub empty: bool,
-    pub subject_key_id: Span,
-    pub key_usage: Span,
-    pub basic_constraints: Span,
-    pub authority_key_id: Span,
+    pub subject_key_id: &'a [u8],
+    pub key_usage: &'a [u8],
+    pub basic_constraints: &'a [u8],
+    pub authority_key_id: &'a [u8],
     /// The document type list's contents.
-    pub document_types: Option<Span>,
+    pub document_types: Option<&'a [u8]>,
     pub document_types_critical: bool,
 }
 
-impl Extensions {
+impl<'a> Extensions<'a> {
     /// Whether all of these are there.
     pub fn all(&self, bits: u64) -> bool {
         self.there & bits == bits
@@ -79,7 +76,7 @@ impl Extensions {
 
     /// Takes one of 2.5.29.0 to .63.
     #[inline(always)]
-    fn take_known(&mut self, last: u8, extension: &Extension) {
+    fn take_known(&mut self, last: u8, extension: &Extension<'a>) {
         let bit = bit(last);
         self.doubled |= self.there & bit != 0;
         self.there |= bit;
@@ -96,9 +93,9 @@ impl Extensions {
     }
 
     /// Takes any other extension.
-    fn take_other(&mut self, oid: &[u8], extension: &Extension) {
+    fn take_other(&mut self, extension: &Extension<'a>) {
         self.other_critical |= extension.critical;
-        if oid == DOCUMENT_TYPE_LIST {
+        if extension.oid == DOCUMENT_TYPE_LIST {
             self.document_types = Some(extension.value);
             self.document_types_critical = extension.critical;
         }
@@ -107,30 +104,29 @@ impl Extensions {
 
 /// Reads a SEQUENCE of extensions.
 #[inline]
-pub(crate) fn extensions(reader: &mut Reader) -> Option<Extensions> {
+pub(crate) fn extensions<'a>(reader: &mut Reader<'a>) -> Option<Extensions<'a>> {
     let mut read = Extensions::default();
     let mut others: [&[u8]; FEW] = [&[]; FEW];
     let mut number = 0;
     let outer = reader.enter(SEQUENCE)?;
-    let list = reader.at;
+    let list = reader.rest();
     read.empty = reader.at_end();
     while !reader.at_end() {
         let extension = extension(reader)?;
-        let oid = extension.oid.of(reader.item);
-        match *oid {
+        match *extension.oid {
             [0x55, 0x1D, last] if last < 64 => read.take_known(last, &extension),
             _ => {
-                read.take_other(oid, &extension);
+                read.take_other(&extension);
                 if number < FEW {
-                    read.doubled |= others[..number].contains(&oid);
-                    others[number] = oid;
+                    read.doubled |= others[..number].contains(&extension.oid);
+                    others[number] = extension.oid;
                 }
                 number += 1;
             }
         }
     }
     if number > FEW && !read.doubled {
-        read.doubled = any_doubled(&reader.item[..reader.at], list);
+        read.doubled = any_doubled(list);
     }
     reader.leave(outer)?;
     Some(read)
@@ -138,14 +134,12 @@ pub(crate) fn extensions(reader: &mut Reader) -> Option<Extensions> {
 
 /// Whether an OID stands twice in a long list, by sorting.
 #[cold]
-fn any_doubled(part: &[u8], list: usize) -> bool {
+fn any_doubled(list: &[u8]) -> bool {
     let mut oids = Vec::new();
-    let mut at = list;
-    while let Some(extension) = header(part, at) {
-        if let Some(oid) = header(part, extension.body) {
-            oids.push(&part[oid.body..oid.end]);
-        }
-        at = extension.end;
+    let mut rest = list;
+    while let Some(extension) = split(rest) {
+        oids.extend(split(extension.contents).map(|oid| oid.contents));
+        rest = extension.after;
     }
     oids.sort_unstable();
     oids.windows(2).any(|pair| pair[0] == pair[1])

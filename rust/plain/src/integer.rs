@@ -1,6 +1,6 @@
 //! An INTEGER asked for as a signed number.
 
-use crate::der::{header, judge, INTEGER};
+use crate::der::{judge, split, INTEGER};
 use crate::refusal::Refusal;
 
 /// The answer to the INTEGER question.
@@ -23,11 +23,11 @@ pub fn integer(item: &[u8]) -> Integer {
 /// The walk's 2 and 3 first, then 1 for another element, then 8.
 fn read(item: &[u8]) -> Result<i64, Refusal> {
     judge(item)?;
-    let outermost = header(item, 0).ok_or(Refusal::der(0))?;
+    let outermost = split(item).ok_or(Refusal::der(0))?;
     if outermost.id != INTEGER {
         return Err(Refusal::ARGUMENT);
     }
-    let contents = &item[outermost.body..outermost.end];
+    let contents = outermost.contents;
     if contents.len() > 8 {
         return Err(Refusal::NUMBER);
     }

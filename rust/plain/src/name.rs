@@ -1,16 +1,16 @@
 //! Names and their country.
 
 use crate::der::{PRINTABLE_STRING, SEQUENCE, SET};
-use crate::reader::{Reader, Span};
+use crate::reader::Reader;
 
 /// countryName, 2.5.4.6.
 const COUNTRY_NAME: [u8; 3] = [0x55, 0x04, 0x06];
 
 /// A name: a SEQUENCE of non-empty SETs of SEQUENCE {OID, one element}.
 #[derive(Clone, Copy)]
-pub(crate) struct Name {
+pub(crate) struct Name<'a> {
     /// The whole element.
-    pub whole: Span,
+    pub whole: &'a [u8],
     /// The two letters, if countryName stands once, as a PrintableString of two
     /// letters A to Z.
     pub country: Option<[u8; 2]>,
@@ -18,8 +18,8 @@ pub(crate) struct Name {
 
 /// Reads a name that stands at depth 3.
 #[inline]
-pub(crate) fn name(reader: &mut Reader) -> Option<Name> {
-    let at = reader.at;
+pub(crate) fn name<'a>(reader: &mut Reader<'a>) -> Option<Name<'a>> {
+    let before = reader.rest();
     let (mut countries, mut country) = (0, None);
     let outer = reader.enter(SEQUENCE)?;
     while !reader.at_end() {
@@ -30,9 +30,9 @@ pub(crate) fn name(reader: &mut Reader) -> Option<Name> {
             let oid = reader.oid()?;
             let value = reader.any(6)?;
             reader.leave(in_set)?;
-            if oid.of(reader.item) == COUNTRY_NAME {
+            if oid == COUNTRY_NAME {
                 countries += 1;
-                country = letters(value.id, &reader.item[value.body..value.end]);
+                country = letters(value.id, value.contents);
             }
             if reader.at_end() {
                 break;
@@ -42,7 +42,7 @@ pub(crate) fn name(reader: &mut Reader) -> Option<Name> {
     }
     reader.leave(outer)?;
     let country = if countries == 1 { country } else { None };
-    Some(Name { whole: Span::new(at, reader.at), country })
+    Some(Name { whole: reader.since(before), country })
 }
 
 /// The letters of a PrintableString of two letters A to Z.

@@ -4,36 +4,14 @@
 //! then walks the item again: that walk names a DER fault or a limit, and if it
 //! passes, it was the shape that is broken.
 
-use crate::der::{self, Header, BIT_STRING, COUNT_LIMIT, INTEGER, ITEM_LIMIT, OID};
+use crate::der::{self, Element, BIT_STRING, COUNT_LIMIT, INTEGER, ITEM_LIMIT, OID};
 use crate::refusal::Refusal;
 
-/// Offset and length of a part of an item.
-#[derive(Clone, Copy, Debug, Default)]
-pub(crate) struct Span {
-    pub at: usize,
-    pub len: usize,
-}
-
-impl Span {
-    #[inline(always)]
-    pub fn new(at: usize, end: usize) -> Span {
-        Span { at, len: end - at }
-    }
-
-    /// The octets of this part.
-    #[inline(always)]
-    pub fn of<'a>(&self, item: &'a [u8]) -> &'a [u8] {
-        &item[self.at..self.at + self.len]
-    }
-}
-
-/// Reads an item's elements one after the other.
+/// Reads an item's elements one after the other. Parts come out as slices of it.
 pub(crate) struct Reader<'a> {
-    pub item: &'a [u8],
-    /// The item up to the end of the open element.
-    part: &'a [u8],
-    /// Where the next element stands.
-    pub at: usize,
+    item: &'a [u8],
+    /// What is left of the open element.
+    rest: &'a [u8],
     /// How many elements were read.
     pub count: usize,
 }
@@ -47,9 +25,9 @@ pub(crate) fn read_item<'a, T>(
     if item.len() > ITEM_LIMIT {
         return Err(Refusal::TOO_LONG);
     }
-    let mut reader = Reader { item, part: item, at: 0, count: 0 };
+    let mut reader = Reader { item, rest: item, count: 0 };
     match shape(&mut reader) {
-        Some(read) if reader.at == item.len() && reader.count <= COUNT_LIMIT => Ok(read),
+        Some(read) if reader.at_end() && reader.count <= COUNT_LIMIT => Ok(read),
         _ => Err(name_fault(item)),
     }
 }
@@ -67,109 +45,121 @@ impl<'a> Reader<'a> {
     /// Whether the open element has no more elements.
     #[inline(always)]
     pub fn at_end(&self) -> bool {
-        self.at == self.part.len()
+        self.rest.is_empty()
     }
 
-    /// The next element's identifier.
+    /// What is left of the open element.
+    #[inline(always)]
+    pub fn rest(&self) -> &'a [u8] {
+        self.rest
+    }
+
+    /// What was read since `before` was left.
+    #[inline(always)]
+    pub fn since(&self, before: &'a [u8]) -> &'a [u8] {
+        &before[..before.len() - self.rest.len()]
+    }
+
+    /// Whether the next element has this identifier.
     #[inline(always)]
     pub fn next_is(&self, id: u8) -> bool {
-        self.part.get(self.at) == Some(&id)
+        self.rest.first() == Some(&id)
     }
 
-    /// The next element's header, if it has this identifier.
+    /// The next element, if it has this identifier.
     #[inline(always)]
-    fn header(&mut self, id: u8) -> Option<Header> {
-        let header = der::header(self.part, self.at)?;
+    fn element(&mut self, id: u8) -> Option<Element<'a>> {
+        if !self.next_is(id) {
+            return None;
+        }
         self.count += 1;
-        (header.id == id).then_some(header)
+        der::split(self.rest)
     }
 
     /// Opens a constructed element. Gives what `leave` wants.
     #[inline(always)]
     pub fn enter(&mut self, id: u8) -> Option<&'a [u8]> {
-        let header = self.header(id)?;
-        let outer = self.part;
-        self.part = &outer[..header.end];
-        self.at = header.body;
-        Some(outer)
+        let element = self.element(id)?;
+        self.rest = element.contents;
+        Some(element.after)
     }
 
     /// Leaves a constructed element, all of which must be read.
     #[inline(always)]
-    pub fn leave(&mut self, outer: &'a [u8]) -> Option<()> {
+    pub fn leave(&mut self, after: &'a [u8]) -> Option<()> {
         let all = self.at_end();
-        self.part = outer;
+        self.rest = after;
         all.then_some(())
     }
 
-    /// A primitive element whose contents are not judged: its contents.
+    /// The contents of a primitive element that are not judged.
     #[inline(always)]
-    pub fn primitive(&mut self, id: u8) -> Option<Span> {
-        let header = self.header(id)?;
-        self.at = header.end;
-        Some(Span::new(header.body, header.end))
+    pub fn primitive(&mut self, id: u8) -> Option<&'a [u8]> {
+        let element = self.element(id)?;
+        self.rest = element.after;
+        Some(element.contents)
     }
 
     /// The contents of an INTEGER.
     #[inline(always)]
-    pub fn integer(&mut self) -> Option<Span> {
-        let contents = self.primitive(INTEGER)?;
-        der::integer_good(contents.of(self.item)).then_some(contents)
+    pub fn integer(&mut self) -> Option<&'a [u8]> {
+        self.primitive(INTEGER).filter(|contents| der::integer_good(contents))
     }
 
     /// The contents of an OID.
     #[inline(always)]
-    pub fn oid(&mut self) -> Option<Span> {
-        let contents = self.primitive(OID)?;
-        der::oid_good(contents.of(self.item)).then_some(contents)
+    pub fn oid(&mut self) -> Option<&'a [u8]> {
+        self.primitive(OID).filter(|contents| der::oid_good(contents))
     }
 
     /// The contents of a BIT STRING.
     #[inline(always)]
-    pub fn bit_string(&mut self) -> Option<Span> {
-        let contents = self.primitive(BIT_STRING)?;
-        der::bit_string_good(contents.of(self.item)).then_some(contents)
+    pub fn bit_string(&mut self) -> Option<&'a [u8]> {
+        self.primitive(BIT_STRING).filter(|contents| der::bit_string_good(contents))
     }
 
     /// Any element with all below it; it stands at `depth`.
     #[inline(always)]
-    pub fn any(&mut self, depth: usize) -> Option<Header> {
-        let header = der::header(self.part, self.at)?;
-        if header.id & 0x20 != 0 {
-            der::tree(self.item, self.part, self.at, depth, &mut self.count).ok()?;
+    pub fn any(&mut self, depth: usize) -> Option<Element<'a>> {
+        let element = der::split(self.rest)?;
+        if element.id & der::CONSTRUCTED != 0 {
+            // A copy, so that the reader itself can stay in registers.
+            let mut count = self.count;
+            der::tree(self.item, self.rest, depth, &mut count).ok()?;
+            self.count = count;
         } else {
-            let good = der::identifier_good(header.id)
-                && der::contents_good(header.id, &self.item[header.body..header.end]);
-            if !good {
+            self.count += 1;
+            if !der::identifier_good(element.id) || !der::contents_good(element.id, element.contents) {
                 return None;
             }
-            self.count += 1;
         }
-        self.at = header.end;
-        Some(header)
+        self.rest = element.after;
+        Some(element)
     }
 
     /// A constructed element that is judged by its tag alone, with all below it:
     /// the whole element.
     #[inline(always)]
-    pub fn whole(&mut self, id: u8, depth: usize) -> Option<Span> {
-        let at = self.at;
+    pub fn whole(&mut self, id: u8, depth: usize) -> Option<&'a [u8]> {
+        let before = self.rest;
         if !self.next_is(id) {
             return None;
         }
-        let header = self.any(depth)?;
-        Some(Span::new(at, header.end))
+        self.any(depth)?;
+        Some(self.since(before))
     }
 
     /// An element that repeats, octet by octet, one that was read in `count`
     /// elements and stood deeper or as deep: it is not read again.
     #[inline(always)]
-    pub fn repeats(&mut self, earlier: Span, count: usize) -> bool {
-        let same = self.part[self.at..].starts_with(earlier.of(self.item));
-        if same {
-            self.at += earlier.len;
-            self.count += count;
+    pub fn repeats(&mut self, earlier: &[u8], count: usize) -> bool {
+        match self.rest.strip_prefix(earlier) {
+            Some(after) => {
+                self.rest = after;
+                self.count += count;
+                true
+            }
+            None => false,
         }
-        same
     }
 }
