@@ -1,6 +1,6 @@
 //! Certificates of each role.
 
-use crate::der::{element, integer, sequence, bit_string, push_header, SEQUENCE};
+use crate::der::{bit_string, element, integer, push_header, sequence, SEQUENCE};
 use crate::extension::{self, known, Extension};
 use crate::name;
 use crate::random::Random;
@@ -168,8 +168,16 @@ impl Certificate {
             None => element(0xA3, &extension::list(&self.extensions)),
         };
         let parts: [&[u8]; 10] = [
-            &self.version, &self.serial, &self.algorithm, &self.issuer, &validity, &self.subject, &self.key,
-            &self.unique_ids, &block, &self.after_extensions,
+            &self.version,
+            &self.serial,
+            &self.algorithm,
+            &self.issuer,
+            &validity,
+            &self.subject,
+            &self.key,
+            &self.unique_ids,
+            &block,
+            &self.after_extensions,
         ];
         signed(
             self.outermost_tag,

@@ -3,8 +3,8 @@
 use crate::certificate::{rsa_algorithm, Certificate, ANCHOR, LINK, ROLES, SIGNER};
 use crate::der::{element, integer, nested, octet_string, sequence, SEQUENCE};
 use crate::extension::{
-    self, find, known, remove, strange_oid, Extension, AUTHORITY_KEY_ID, BASIC_CONSTRAINTS, DOCUMENT_TYPES,
-    KEY_USAGE, SUBJECT_KEY_ID,
+    self, find, known, remove, strange_oid, Extension, AUTHORITY_KEY_ID, BASIC_CONSTRAINTS, DOCUMENT_TYPES, KEY_USAGE,
+    SUBJECT_KEY_ID,
 };
 use crate::name;
 use crate::random::Random;
@@ -24,8 +24,22 @@ const fn way(rule: u64, what: &'static str, roles: &'static [u64], apply: fn(&mu
 
 /// All ways, by rule.
 pub const BREAKS: &[&[Way]] = &[
-    SHAPE, SHAPE_OF_PARTS, VERSION, SERIAL, ALGORITHM, COUNTRY, UNIQUE_IDS, TIMES, EXTENSIONS, USAGE, CONSTRAINTS,
-    SUBJECT_KEY, AUTHORITY_KEY, FOUR, TYPES, CRITICAL,
+    SHAPE,
+    SHAPE_OF_PARTS,
+    VERSION,
+    SERIAL,
+    ALGORITHM,
+    COUNTRY,
+    UNIQUE_IDS,
+    TIMES,
+    EXTENSIONS,
+    USAGE,
+    CONSTRAINTS,
+    SUBJECT_KEY,
+    AUTHORITY_KEY,
+    FOUR,
+    TYPES,
+    CRITICAL,
 ];
 
 /// The ways that a role has.

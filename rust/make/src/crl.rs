@@ -149,7 +149,13 @@ impl Crl {
             None => element(0xA0, &extension::list(&self.extensions)),
         };
         let parts: [&[u8]; 8] = [
-            &self.version, &self.algorithm, &self.issuer, &self.this_update, &self.next_update, &list, &block,
+            &self.version,
+            &self.algorithm,
+            &self.issuer,
+            &self.this_update,
+            &self.next_update,
+            &list,
+            &block,
             &self.after_extensions,
         ];
         signed(

@@ -104,8 +104,7 @@ const ALGORITHM: &[Way] = &[
     }),
 ];
 
-const COUNTRY: &[Way] =
-    &[way(4, "no good country", |c, r| c.issuer = r.pick(name::BAD_COUNTRY)(c.letters))];
+const COUNTRY: &[Way] = &[way(4, "no good country", |c, r| c.issuer = r.pick(name::BAD_COUNTRY)(c.letters))];
 
 const TIMES: &[Way] = &[
     way(5, "this update of a wrong form", |c, r| c.this_update = time::bad(r)),
@@ -156,9 +155,7 @@ const CRITICAL: &[Way] = &[
         remove(&mut c.extensions, &oid);
         c.extensions.push(Extension::new(&oid, true, b"x"));
     }),
-    way(8, "issuingDistributionPoint critical", |c, _| {
-        c.extensions.push(Extension::new(&known(28), true, &[0x30, 0]))
-    }),
+    way(8, "issuingDistributionPoint critical", |c, _| c.extensions.push(Extension::new(&known(28), true, &[0x30, 0]))),
     way(8, "an entry's extension critical", |c, r| {
         let critical = entry(&[5], MOMENT, &[Extension::new(&known(21), true, &[10, 1, 1])]);
         let at = r.below(c.entries.len() + 1);

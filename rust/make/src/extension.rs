@@ -1,6 +1,6 @@
 //! Extensions of certificates and CRLs.
 
-use crate::der::{around, element, oid, octet_string, push_header, sequence, OCTET_STRING, OID, SEQUENCE};
+use crate::der::{around, element, octet_string, oid, push_header, sequence, OCTET_STRING, OID, SEQUENCE};
 use crate::random::Random;
 
 /// The OID 2.5.29.x.
@@ -38,7 +38,13 @@ impl Extension {
             return out.extend_from_slice(whole);
         }
         let value = self.value.len();
-        let header = if value < 0x80 { 2 } else if value < 0x100 { 3 } else { 4 };
+        let header = if value < 0x80 {
+            2
+        } else if value < 0x100 {
+            3
+        } else {
+            4
+        };
         let length = self.oid.len() + 2 + if self.critical { 3 } else { 0 } + header + value;
         push_header(out, SEQUENCE, length);
         push_header(out, OID, self.oid.len());

@@ -10,6 +10,12 @@ pub const ORGANIZATION: &[u8] = &[0x55, 4, 10];
 /// commonName, 2.5.4.3.
 pub const COMMON: &[u8] = &[0x55, 4, 3];
 
+/// Kinds of attributes other than the country.
+const KINDS: &[&[u8]] = &[COMMON, ORGANIZATION, &[0x55, 4, 5], &[0x55, 4, 7], &[0x2A, 0x86, 0x48, 1]];
+
+/// Makes a name from the letters that would be right.
+pub type Way = fn([u8; 2]) -> Vec<u8>;
+
 /// SEQUENCE {OID, value}.
 pub fn attribute(kind: &[u8], tag: u8, value: &[u8]) -> Vec<u8> {
     sequence(&[&oid(kind), &element(tag, value)])
@@ -51,11 +57,11 @@ pub fn letters(random: &mut Random) -> [u8; 2] {
 /// A good name of this country, with other parts as they come.
 pub fn varied(random: &mut Random, letters: [u8; 2]) -> Vec<u8> {
     if random.percent(50) {
-        return name(letters, *random.pick(&["CSCA", "Signer 1", "CSCA-LINK", ""]));
+        return name(letters, random.pick::<&str>(&["CSCA", "Signer 1", "CSCA-LINK", ""]));
     }
     let mut parts = vec![country(letters)];
     for _ in 0..random.below(4) {
-        let kind: &[u8] = *random.pick(&[COMMON, ORGANIZATION, &[0x55, 4, 5], &[0x55, 4, 7], &[0x2A, 0x86, 0x48, 1]]);
+        let kind = *random.pick(KINDS);
         let length = random.below(40);
         let text = random.octets(length);
         parts.push(match random.below(6) {
@@ -66,7 +72,10 @@ pub fn varied(random: &mut Random, letters: [u8; 2]) -> Vec<u8> {
     }
     if random.percent(10) {
         // The country inside a SET of several.
-        parts[0] = element(SET, &[attribute(COMMON, UTF8_STRING, b"x"), attribute(COUNTRY, PRINTABLE_STRING, &letters)].concat());
+        parts[0] = element(
+            SET,
+            &[attribute(COMMON, UTF8_STRING, b"x"), attribute(COUNTRY, PRINTABLE_STRING, &letters)].concat(),
+        );
     }
     random.shuffle(&mut parts);
     element(SEQUENCE, &parts.concat())
@@ -76,9 +85,8 @@ fn set_of_two(kind: &[u8], text: &[u8]) -> Vec<u8> {
     around(SET, &[&attribute(kind, UTF8_STRING, text), &attribute(COMMON, PRINTABLE_STRING, b"two")])
 }
 
-/// Names that keep the shape and have no good country: what each is, and the name
-/// from the letters that would be right.
-pub const BAD_COUNTRY: &[fn([u8; 2]) -> Vec<u8>] = &[
+/// Names that keep the shape and have no good country.
+pub const BAD_COUNTRY: &[Way] = &[
     |_| sequence(&[]),
     |_| sequence(&[&relative(COMMON, UTF8_STRING, b"none")]),
     |letters| sequence(&[&country(letters), &country(letters)]),
@@ -103,7 +111,7 @@ pub const BAD_COUNTRY: &[fn([u8; 2]) -> Vec<u8>] = &[
 ];
 
 /// Names that break the shape.
-pub const BAD_SHAPE: &[fn([u8; 2]) -> Vec<u8>] = &[
+pub const BAD_SHAPE: &[Way] = &[
     |letters| element(SET, &country(letters)),
     |_| Vec::new(),
     |letters| sequence(&[&country(letters), &[SET, 0]]),
@@ -115,7 +123,9 @@ pub const BAD_SHAPE: &[fn([u8; 2]) -> Vec<u8>] = &[
     |letters| sequence(&[&country(letters), &element(SET, &sequence(&[&oid(COMMON), &[5, 0], &[5, 0]]))]),
     |letters| sequence(&[&country(letters), &element(SET, &around(SET, &[&oid(COMMON), &[5, 0]]))]),
     |letters| sequence(&[&country(letters), &element(SET, &sequence(&[&[2, 1, 5], &[5, 0]]))]),
-    |letters| sequence(&[&country(letters), &element(SET, &[attribute(COMMON, UTF8_STRING, b"x"), vec![5, 0]].concat())]),
+    |letters| {
+        sequence(&[&country(letters), &element(SET, &[attribute(COMMON, UTF8_STRING, b"x"), vec![5, 0]].concat())])
+    },
     |letters| sequence(&[&country(letters), &[5, 0]]),
     |letters| element(0xA0, &country(letters)),
     |letters| element(4, &country(letters)),

@@ -32,8 +32,20 @@ pub enum Question {
     /// An image and a place.
     Entry(Vec<u8>, u64),
     /// The writer's arguments; `room` is the length of the lent output.
-    Write { items: Vec<u8>, kinds: Vec<u8>, flags: Vec<u8>, lengths: Vec<u32>, day: u64, room: usize },
-    Chain { image: Vec<u8>, table: Vec<u8>, moment: u64, target: u64 },
+    Write {
+        items: Vec<u8>,
+        kinds: Vec<u8>,
+        flags: Vec<u8>,
+        lengths: Vec<u32>,
+        day: u64,
+        room: usize,
+    },
+    Chain {
+        image: Vec<u8>,
+        table: Vec<u8>,
+        moment: u64,
+        target: u64,
+    },
 }
 
 /// How many items and images are kept for later questions.
@@ -182,8 +194,7 @@ impl Source {
     fn broken_certificate(&mut self, number: usize) -> (u64, Vec<u8>) {
         let random = &mut self.random;
         let role = *random.pick(&ROLES);
-        let mut made =
-            if random.percent(50) { Certificate::typical(role) } else { Certificate::varied(random, role) };
+        let mut made = if random.percent(50) { Certificate::typical(role) } else { Certificate::varied(random, role) };
         for _ in 0..number {
             let way = random.pick(&self.certificate_ways[role as usize - 1]);
             (way.apply)(&mut made, random);
@@ -351,8 +362,17 @@ fn moment(random: &mut Random, world: &World) -> u64 {
         17 => second_after(end),
         18 => second_before(end),
         _ => *random.pick(&[
-            0, 20240301, 20240230120000, 20240301240000, 20240301126000, 20240301120060, 19491231235959,
-            21000101000000, 20991231235959, 19500101000000, u64::MAX,
+            0,
+            20240301,
+            20240230120000,
+            20240301240000,
+            20240301126000,
+            20240301120060,
+            19491231235959,
+            21000101000000,
+            20991231235959,
+            19500101000000,
+            u64::MAX,
         ]),
     }
 }

@@ -51,9 +51,9 @@ pub fn scattered(random: &mut Random, n: usize, percent: usize) -> Vec<u8> {
 
 /// Puts this verdict into one of ten places.
 fn put(random: &mut Random, table: &mut [u8], verdict: u8) {
-    for at in 0..table.len() {
+    for place in table {
         if random.percent(10) {
-            table[at] = verdict;
+            *place = verdict;
         }
     }
 }

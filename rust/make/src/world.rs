@@ -58,6 +58,8 @@ pub struct Plan {
     pub crls: usize,
     /// Percent of items that break a rule or are out of their times.
     pub wrong: usize,
+    /// Some CRLs list serials, and some of these are those of items.
+    pub lists: bool,
 }
 
 impl Plan {
@@ -69,7 +71,7 @@ impl Plan {
             2 => random.between(30, 95),
             _ => random.between(5, 30),
         };
-        let wrong = *random.pick(&[0, 0, 5, 20]);
+        let (wrong, lists) = (*random.pick(&[0, 0, 5, 20]), random.percent(60));
         let mut left = items;
         let mut take = |most: usize| {
             let number = random.between(1, most).min(left);
@@ -79,7 +81,7 @@ impl Plan {
         let signers = take(3.max(items / 8));
         let crls = take(3.max(items / 10));
         let anchors = take(3.max(items / 8));
-        Plan { anchors, links: left, signers, crls, wrong }
+        Plan { anchors, links: left, signers, crls, wrong, lists }
     }
 
     pub fn items(&self) -> usize {
@@ -215,7 +217,14 @@ impl Maker<'_> {
         serial
     }
 
-    fn certificate(&mut self, kind: u8, signer: &Authority, own: &Authority, times: (u64, u64), wrong: bool) -> Vec<u8> {
+    fn certificate(
+        &mut self,
+        kind: u8,
+        signer: &Authority,
+        own: &Authority,
+        times: (u64, u64),
+        wrong: bool,
+    ) -> Vec<u8> {
         let mut made = Certificate::new(&certificate::Parameters {
             role: kind as u64,
             issuer: signer.name.clone(),
@@ -236,7 +245,7 @@ impl Maker<'_> {
     }
 
     fn crl(&mut self, signer: &Authority, first: u64, last: u64, wrong: bool) -> Vec<u8> {
-        let entries = *self.random.pick(&[0, 0, 0, 3, 20]);
+        let entries = if self.plan.lists { *self.random.pick(&[0, 0, 3, 20]) } else { 0 };
         let mut made = Crl::new(&crl::Parameters {
             issuer: signer.name.clone(),
             this_update: first.min(last),

@@ -31,6 +31,14 @@ fn chains(what: &str, world: &World, table: &[u8], target: u64) {
     });
 }
 
+/// Asks for the first signer that has a chain, if one has.
+fn chains_of_96(what: &str, world: &World, table: Vec<u8>) {
+    let has_chain = |&target: &u64| plain::chain(&world.image, &table, MOMENT, target).number == 0;
+    let signers = || world.places(SIGNER as u8).into_iter().map(|place| place as u64);
+    let target = signers().find(has_chain).or(signers().next()).unwrap_or(0);
+    chains(&format!("96 places {what}"), world, &table, target);
+}
+
 fn main() {
     for (name, role) in [("link", LINK), ("DS", SIGNER)] {
         let item = Certificate::typical(role).encode();
@@ -56,17 +64,17 @@ fn main() {
         });
     }
     let mut random = Random::new(1);
-    let plan = Plan { anchors: 4, links: 70, signers: 18, crls: 4, wrong: 0 };
+    let few = Plan { anchors: 1, links: 2, signers: 1, crls: 1, wrong: 0, lists: false };
+    let world = World::line(&mut random, few, false);
+    chains("5 places, anchor, two links, DS", &world, &world.truth, 3);
+    let plan = Plan { anchors: 4, links: 70, signers: 18, crls: 4, wrong: 0, lists: false };
     let alike = World::alike(&mut random, plan, false);
+    chains_of_96("alike, table of ones", &alike, vec![1; 96 * 96]);
     let line = World::line(&mut random, plan, false);
-    let n = alike.entries();
-    for (what, world) in [("96 places alike, table of ones", &alike), ("96 places in a line, true table", &line)] {
-        let mut table = if what.contains("ones") { vec![1; n * n] } else { world.truth.clone() };
-        table::sign_crls(&mut random, world, &mut table, 100);
-        // The first signer that has a chain, if one has.
-        let has_chain = |&target: &u64| plain::chain(&world.image, &table, MOMENT, target).number == 0;
-        chains(what, world, &table, (74..92).find(has_chain).unwrap_or(74));
-    }
+    chains_of_96("in line, true table", &line, line.truth.clone());
+    let mut scattered = table::scattered(&mut random, 96, 4);
+    table::sign_crls(&mut random, &alike, &mut scattered, 100);
+    chains_of_96("alike, 4 percent of ones", &alike, scattered);
     let mut made = 0usize;
     let start = Instant::now();
     for seed in 0..4 {

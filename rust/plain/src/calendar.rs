@@ -45,8 +45,7 @@ pub(crate) fn day_real(day: u64) -> bool {
 
 /// Whether YYYYMMDDHHMMSS is a real moment of 1950 to 2099.
 pub(crate) fn moment_real(moment: u64) -> bool {
-    let (day, hour, minute, second) =
-        (moment / 1_000_000, moment / 10_000 % 100, moment / 100 % 100, moment % 100);
+    let (day, hour, minute, second) = (moment / 1_000_000, moment / 10_000 % 100, moment / 100 % 100, moment % 100);
     day_real(day) && hour < 24 && minute < 60 && second < 60
 }
 

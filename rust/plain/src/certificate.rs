@@ -1,9 +1,7 @@
 //! The certificate profile.
 
 use crate::der::{self, split, INTEGER, OCTET_STRING, PRINTABLE_STRING, SEQUENCE, SET};
-use crate::extensions::{
-    bit, extensions, Extensions, AUTHORITY_KEY_ID, BASIC_CONSTRAINTS, KEY_USAGE, SUBJECT_KEY_ID,
-};
+use crate::extensions::{bit, extensions, Extensions, AUTHORITY_KEY_ID, BASIC_CONSTRAINTS, KEY_USAGE, SUBJECT_KEY_ID};
 use crate::name::{name, Name};
 use crate::reader::{read_item, Reader};
 use crate::refusal::Refusal;
@@ -148,18 +146,7 @@ fn shape<'a>(reader: &mut Reader<'a>) -> Option<Shape<'a>> {
     }
     reader.bit_string()?;
     reader.leave(outside)?;
-    Some(Shape {
-        version,
-        serial,
-        issuer,
-        subject,
-        start,
-        end,
-        key,
-        unique_ids,
-        algorithms_equal,
-        extensions,
-    })
+    Some(Shape { version, serial, issuer, subject, start, end, key, unique_ids, algorithms_equal, extensions })
 }
 
 /// A time element, tag 17 or 18 hex; the inner option says whether its form is

@@ -106,7 +106,7 @@ struct Question<'a> {
     links: Places,
     crls: Places,
     known: [Known; PLACES],
-    facts: [Facts<'a>; PLACES],
+    facts: Vec<Facts<'a>>,
     /// The step that a place takes towards the target.
     next: [u8; PLACES],
 }
@@ -131,7 +131,7 @@ impl<'a> Question<'a> {
             links,
             crls,
             known: [Known::Nothing; PLACES],
-            facts: [Facts::default(); PLACES],
+            facts: vec![Facts::default(); open.entries],
             next: [255; PLACES],
         }
     }
@@ -149,37 +149,39 @@ impl<'a> Question<'a> {
             return None;
         }
         let mut layer: Places = 1 << target;
-        let mut left = self.links;
+        let mut left: Vec<usize> = each(self.links).collect();
         while layer != 0 {
             for anchor in each(self.anchors) {
-                if let Some(signed) = self.step_into(anchor, Role::Anchor, layer) {
-                    self.next[anchor] = signed as u8;
+                if each(layer).any(|signed| self.step(anchor, Role::Anchor, signed)) {
                     return Some(anchor);
                 }
             }
             let mut following = 0;
-            for link in each(left) {
-                if let Some(signed) = self.step_into(link, Role::Link, layer) {
-                    self.next[link] = signed as u8;
-                    following |= 1 << link;
-                }
+            for signed in each(layer) {
+                left.retain(|&link| {
+                    let found = self.step(link, Role::Link, signed);
+                    following |= (found as Places) << link;
+                    !found
+                });
             }
-            left &= !following;
             layer = following;
         }
         None
     }
 
-    /// The smallest place of the layer to which a good step leads from this
-    /// anchor or link, if that is usable.
-    fn step_into(&mut self, signer: usize, role: Role, layer: Places) -> Option<usize> {
-        if self.known[signer] == Known::Out {
-            return None;
+    /// Whether a good step leads from this anchor or link, and it is usable; the
+    /// step is then kept.
+    #[inline(always)]
+    fn step(&mut self, signer: usize, role: Role, signed: usize) -> bool {
+        self.verdict(signer, signed) && self.good_step(signer, role, signed)
+    }
+
+    fn good_step(&mut self, signer: usize, role: Role, signed: usize) -> bool {
+        let good = self.passes(signer, role) && self.matches(signer, signed) && self.usable(signer, role);
+        if good {
+            self.next[signer] = signed as u8;
         }
-        let signed = each(layer).find(|&signed| {
-            self.verdict(signer, signed) && self.passes(signer, role) && self.matches(signer, signed)
-        })?;
-        self.usable(signer, role).then_some(signed)
+        good
     }
 
     /// Whether key identifiers and names of a step are equal; identifiers first,

@@ -74,9 +74,7 @@ pub(crate) fn split(rest: &[u8]) -> Option<Element<'_>> {
     let (contents, after) = match (first, tail) {
         (0..=0x7F, tail) => tail.split_at_checked(*first as usize)?,
         (0x81, [length @ 0x80..=0xFF, tail @ ..]) => tail.split_at_checked(*length as usize)?,
-        (0x82, [high @ 1..=0xFF, low, tail @ ..]) => {
-            tail.split_at_checked((*high as usize) << 8 | *low as usize)?
-        }
+        (0x82, [high @ 1..=0xFF, low, tail @ ..]) => tail.split_at_checked((*high as usize) << 8 | *low as usize)?,
         _ => return None,
     };
     Some(Element { id: *id, contents, after })
@@ -142,6 +140,12 @@ pub(crate) fn integer_good(contents: &[u8]) -> bool {
 /// Not empty, no sub-identifier starting with 80 hex, the last one complete.
 #[inline(always)]
 pub(crate) fn oid_good(contents: &[u8]) -> bool {
+    // Three sub-identifiers of one octet, as most OIDs here have.
+    if let [first, second, third] = contents {
+        if (first | second | third) < 0x80 {
+            return true;
+        }
+    }
     let mut starting = true;
     for &octet in contents {
         if starting && octet == 0x80 {
@@ -165,12 +169,7 @@ pub(crate) fn bit_string_good(contents: &[u8]) -> bool {
 /// Walks the first element of `rest`, which is at `depth`, and all below it,
 /// adding to `count`. Gives what stands after it, or the first fault, with
 /// offsets in `item`, of which `rest` is a part.
-pub(crate) fn tree<'a>(
-    item: &'a [u8],
-    rest: &'a [u8],
-    depth: usize,
-    count: &mut usize,
-) -> Result<&'a [u8], Refusal> {
+pub(crate) fn tree<'a>(item: &'a [u8], rest: &'a [u8], depth: usize, count: &mut usize) -> Result<&'a [u8], Refusal> {
     // What stands after each open element.
     let mut open: [&[u8]; DEPTH_LIMIT + 1] = [&[]; DEPTH_LIMIT + 1];
     let (mut rest, top, mut depth, mut read) = (rest, depth, depth, *count);
@@ -185,22 +184,23 @@ pub(crate) fn tree<'a>(
             return Err(Refusal::limit(offset(item, rest)));
         }
         read += 1;
-        if id & CONSTRUCTED != 0 {
+        if id & CONSTRUCTED != 0 && !contents.is_empty() {
             open[depth] = after;
             depth += 1;
             rest = contents;
-        } else if contents_good(id, contents) {
-            rest = after;
-        } else {
+            continue;
+        }
+        if !contents_good(id, contents) {
             return Err(Refusal::der(offset(item, rest)));
         }
-        while depth > top && rest.is_empty() {
+        rest = after;
+        while rest.is_empty() || depth == top {
+            if depth == top {
+                *count = read;
+                return Ok(rest);
+            }
             depth -= 1;
             rest = open[depth];
-        }
-        if depth == top {
-            *count = read;
-            return Ok(rest);
         }
     }
 }

@@ -194,11 +194,9 @@ pub(crate) fn read(image: &[u8]) -> Result<Open<'_>, Refusal> {
 /// Writes an image of packed items. Refusals in order: 1, 3, 9.
 pub fn write(items: &[u8], kinds: &[u8], flags: &[u8], lengths: &[u32], day: u64, out: &mut [u8]) -> Written {
     match written_length(items, kinds, flags, lengths, day) {
-        Ok(length) if length > out.len() => Written {
-            number: Refusal::OUTPUT.number,
-            detail: Refusal::OUTPUT.detail,
-            length: 0,
-        },
+        Ok(length) if length > out.len() => {
+            Written { number: Refusal::OUTPUT.number, detail: Refusal::OUTPUT.detail, length: 0 }
+        }
         Ok(length) => {
             fill(items, kinds, flags, lengths, day, &mut out[..length]);
             Written { number: 0, detail: 0, length: length as u64 }

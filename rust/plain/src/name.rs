@@ -49,9 +49,7 @@ pub(crate) fn name<'a>(reader: &mut Reader<'a>) -> Option<Name<'a>> {
 #[inline(always)]
 fn letters(id: u8, contents: &[u8]) -> Option<[u8; 2]> {
     match *contents {
-        [first, second]
-            if id == PRINTABLE_STRING && first.is_ascii_uppercase() && second.is_ascii_uppercase() =>
-        {
+        [first, second] if id == PRINTABLE_STRING && first.is_ascii_uppercase() && second.is_ascii_uppercase() => {
             Some([first, second])
         }
         _ => None,

@@ -18,10 +18,7 @@ pub(crate) struct Reader<'a> {
 
 /// Reads a whole item with `shape`. Refuses as the walk does, then rule 1.
 #[inline(always)]
-pub(crate) fn read_item<'a, T>(
-    item: &'a [u8],
-    shape: impl FnOnce(&mut Reader<'a>) -> Option<T>,
-) -> Result<T, Refusal> {
+pub(crate) fn read_item<'a, T>(item: &'a [u8], shape: impl FnOnce(&mut Reader<'a>) -> Option<T>) -> Result<T, Refusal> {
     if item.len() > ITEM_LIMIT {
         return Err(Refusal::TOO_LONG);
     }

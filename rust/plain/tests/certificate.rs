@@ -91,8 +91,7 @@ fn each_rule_alone_in_each_role() {
         for way in ways(role) {
             // Several times, since some ways choose among many.
             for time in 0..60 {
-                let mut made =
-                    if time < 40 { Made::typical(role) } else { Made::varied(&mut random, role) };
+                let mut made = if time < 40 { Made::typical(role) } else { Made::varied(&mut random, role) };
                 (way.apply)(&mut made, &mut random);
                 assert_eq!(walk(&made.encode()).number, 0, "{} in role {role}", way.what);
                 assert_eq!(rule(&made), way.rule, "{} in role {role}", way.what);

@@ -138,13 +138,9 @@ fn the_example() {
 #[test]
 fn revocation() {
     let way = [(0, 1), (0, 2), (1, 3), (2, 3)];
-    for (serials, wanted) in [
-        (&[9, 99][..], &[0, 1, 3][..]),
-        (&[11], &[0, 2, 3]),
-        (&[11, 12], &[]),
-        (&[13], &[]),
-        (&[1, 2, 13, 4], &[]),
-    ] {
+    for (serials, wanted) in
+        [(&[9, 99][..], &[0, 1, 3][..]), (&[11], &[0, 2, 3]), (&[11, 12], &[]), (&[13], &[]), (&[1, 2, 13, 4], &[])]
+    {
         let mut store = example(serials);
         store.verdicts.extend(way);
         assert_eq!(store.places(3), wanted);
@@ -216,10 +212,7 @@ fn anchors() {
 fn steps() {
     let mut good = example(&[]);
     good.verdicts.push((0, 3));
-    for change in [
-        |says: &mut Says| says.signer_key = 2,
-        |says: &mut Says| says.issuer = name::name(*b"UT", "CSCB"),
-    ] {
+    for change in [|says: &mut Says| says.signer_key = 2, |says: &mut Says| says.issuer = name::name(*b"UT", "CSCB")] {
         let mut signer = says(13);
         change(&mut signer);
         let mut store = good.clone();
@@ -350,7 +343,14 @@ fn order_of_the_question() {
     assert_eq!(chain(&image, &[], MOMENT, 3), refused(1, 0));
     // Moments.
     for moment in [
-        0, 20240301, 20240230120000, 20240301240000, 20240301126000, 20240301120060, 19491231235959, 21000101000000,
+        0,
+        20240301,
+        20240230120000,
+        20240301240000,
+        20240301126000,
+        20240301120060,
+        19491231235959,
+        21000101000000,
         u64::MAX,
     ] {
         assert_eq!(chain(&image, &table, moment, 3), refused(1, 0));

@@ -8,12 +8,9 @@ fn days(first: u64, second: u64) -> Days {
 
 #[test]
 fn the_table() {
-    for (first, second, difference) in [
-        (20240228, 20240301, 2),
-        (20230228, 20230301, 1),
-        (20210101, 20201231, -1),
-        (19500101, 20991231, 54786),
-    ] {
+    for (first, second, difference) in
+        [(20240228, 20240301, 2), (20230228, 20230301, 1), (20210101, 20201231, -1), (19500101, 20991231, 54786)]
+    {
         assert_eq!(days(first, second), Days { number: 0, detail: 0, days: difference });
         assert_eq!(days(second, first).days, -difference);
     }
