@@ -133,10 +133,9 @@ fn serials(item: &[u8]) -> Vec<&[u8]> {
         .collect()
 }
 
-/// Follows the definition of good chains, with no regard for time.
-fn slow(octets: &[u8], table: &[u8], moment: u64, target: usize) -> Chain {
-    let n = image(octets).entries as usize;
-    let items: Vec<Item> = (0..n as u64)
+/// All items of an image.
+fn items(octets: &[u8]) -> Vec<Item<'_>> {
+    (0..image(octets).entries)
         .map(|place| {
             let line = entry(octets, place);
             let item = part(octets, line.offset, line.length);
@@ -147,7 +146,13 @@ fn slow(octets: &[u8], table: &[u8], moment: u64, target: usize) -> Chain {
                 Item::Certificate { kind: line.kind, enabled: line.flags == 1, octets: item, says }
             }
         })
-        .collect();
+        .collect()
+}
+
+/// Follows the definition of good chains, with no regard for time.
+fn slow(octets: &[u8], table: &[u8], moment: u64, target: usize) -> Chain {
+    let items = items(octets);
+    let n = items.len();
     let verdict = |signer: usize, signed: usize| table[signer * n + signed] == 1;
     let within = |says: &Certificate| says.number == 0 && says.start <= moment && moment <= says.end;
     let anchor = |place: usize| match &items[place] {
