@@ -1,0 +1,189 @@
+//! CRLs.
+
+use crate::certificate::{self, algorithm, rsa_algorithm, signed};
+use crate::der::{bit_string, element, integer, sequence, SEQUENCE};
+use crate::extension::{self, known, Extension, AUTHORITY_KEY_ID, CRL_NUMBER};
+use crate::name;
+use crate::random::Random;
+use crate::time;
+
+/// What a good CRL says.
+#[derive(Clone, Debug)]
+pub struct Parameters {
+    /// A whole name.
+    pub issuer: Vec<u8>,
+    /// YYYYMMDDHHMMSS.
+    pub this_update: u64,
+    pub next_update: u64,
+    /// Contents of the serials that it lists.
+    pub serials: Vec<Vec<u8>>,
+    pub authority_key_id: Vec<u8>,
+}
+
+impl Parameters {
+    /// Those of a typical CRL of country UT with this many entries.
+    pub fn typical(entries: usize) -> Parameters {
+        Parameters {
+            issuer: name::name(*b"UT", "CSCA"),
+            this_update: 20240201000000,
+            next_update: 20240501000000,
+            serials: (0..entries).map(|entry| vec![0x2A, (entry >> 8) as u8, entry as u8, 0x11]).collect(),
+            authority_key_id: vec![1; 20],
+        }
+    }
+}
+
+/// A CRL, each part a whole element as it is written.
+#[derive(Clone, Debug)]
+pub struct Crl {
+    pub letters: [u8; 2],
+    pub version: Vec<u8>,
+    pub algorithm: Vec<u8>,
+    pub issuer: Vec<u8>,
+    pub this_update: Vec<u8>,
+    pub next_update: Vec<u8>,
+    /// The entries; no list if there is none.
+    pub entries: Vec<Vec<u8>>,
+    /// The list, if it is not to be made of the entries.
+    pub list: Option<Vec<u8>>,
+    pub extensions: Vec<Extension>,
+    /// The A0 element, if it is not to be made of the extensions.
+    pub extensions_block: Option<Vec<u8>>,
+    pub after_extensions: Vec<u8>,
+    pub outer_algorithm: Vec<u8>,
+    pub signature: Vec<u8>,
+    pub after_signature: Vec<u8>,
+    pub tbs_tag: u8,
+    pub outermost_tag: u8,
+}
+
+/// An entry: serial, time, and extensions if there are any.
+pub fn entry(serial: &[u8], moment: &[u8], extensions: &[Extension]) -> Vec<u8> {
+    if extensions.is_empty() {
+        sequence(&[&integer(serial), moment])
+    } else {
+        sequence(&[&integer(serial), moment, &extension::list(extensions)])
+    }
+}
+
+impl Crl {
+    /// A CRL that keeps every rule, for parameters that do.
+    pub fn new(parameters: &Parameters) -> Crl {
+        let mut letters = [0; 2];
+        if let Some(at) = parameters.issuer.windows(5).position(|part| part == [0x55, 4, 6, 0x13, 2]) {
+            letters.copy_from_slice(&parameters.issuer[at + 5..at + 7]);
+        }
+        let revoked = time::time(20230704101112);
+        Crl {
+            letters,
+            version: vec![2, 1, 1],
+            algorithm: algorithm(),
+            issuer: parameters.issuer.clone(),
+            this_update: time::time(parameters.this_update),
+            next_update: time::time(parameters.next_update),
+            entries: parameters.serials.iter().map(|serial| entry(serial, &revoked, &[])).collect(),
+            list: None,
+            extensions: vec![
+                Extension::new(&AUTHORITY_KEY_ID, false, &extension::authority_key_id(&parameters.authority_key_id)),
+                Extension::new(&CRL_NUMBER, false, &[2, 1, 7]),
+            ],
+            extensions_block: None,
+            after_extensions: Vec::new(),
+            outer_algorithm: algorithm(),
+            signature: bit_string(&[0x5A; 70]),
+            after_signature: Vec::new(),
+            tbs_tag: SEQUENCE,
+            outermost_tag: SEQUENCE,
+        }
+    }
+
+    /// A typical CRL with this many entries.
+    pub fn typical(entries: usize) -> Crl {
+        Crl::new(&Parameters::typical(entries))
+    }
+
+    /// A CRL that keeps every rule, its parts as they come.
+    pub fn varied(random: &mut Random) -> Crl {
+        let letters = name::letters(random);
+        let (first, last) = *random.pick(&[(1950, 2049), (2015, 2040), (2045, 2060), (2050, 9999), (2090, 2110)]);
+        let (one, other) = (time::moment(random, first, last), time::moment(random, first, last));
+        let other = if random.percent(5) { one } else { other };
+        let mut made = Crl::new(&Parameters {
+            issuer: name::varied(random, letters),
+            this_update: one.min(other),
+            next_update: one.max(other),
+            serials: Vec::new(),
+            authority_key_id: random.octets(20),
+        });
+        let most = if random.percent(3) { 200 } else { 8 };
+        for _ in 0..random.below(most) {
+            let entry = varied_entry(random);
+            made.entries.push(entry);
+        }
+        if random.percent(20) {
+            made.algorithm = rsa_algorithm();
+            made.outer_algorithm = made.algorithm.clone();
+        }
+        let from = random.below(1000);
+        for number in 0..random.below(3) {
+            let stranger = extension::stranger(random, from + number);
+            made.extensions.push(stranger);
+        }
+        if random.percent(10) {
+            // Its form is not judged in a CRL.
+            made.extensions[0].value = random.octets(5);
+        }
+        random.shuffle(&mut made.extensions);
+        made
+    }
+
+    /// The whole item.
+    pub fn encode(&self) -> Vec<u8> {
+        let list = match &self.list {
+            Some(whole) => whole.clone(),
+            None if self.entries.is_empty() => Vec::new(),
+            None => element(SEQUENCE, &self.entries.concat()),
+        };
+        let block = match &self.extensions_block {
+            Some(whole) => whole.clone(),
+            None => element(0xA0, &extension::list(&self.extensions)),
+        };
+        let parts: [&[u8]; 8] = [
+            &self.version,
+            &self.algorithm,
+            &self.issuer,
+            &self.this_update,
+            &self.next_update,
+            &list,
+            &block,
+            &self.after_extensions,
+        ];
+        signed(
+            self.outermost_tag,
+            self.tbs_tag,
+            &parts,
+            &[&self.outer_algorithm, &self.signature, &self.after_signature],
+        )
+    }
+}
+
+/// An entry with any INTEGER, a good time, and sometimes extensions, which may
+/// be none or doubled.
+fn varied_entry(random: &mut Random) -> Vec<u8> {
+    let serial = match random.below(10) {
+        0 => vec![0],
+        1 => vec![0x80],
+        2 => vec![0x7F; 30],
+        _ => certificate::serial(random),
+    };
+    let moment = time::time(time::moment(random, 2000, 2055));
+    match random.below(12) {
+        0 => sequence(&[&integer(&serial), &moment, &[0x30, 0]]),
+        1 => {
+            let reason = Extension::new(&known(21), false, &[10, 1, 1]);
+            entry(&serial, &moment, &[reason.clone(), reason])
+        }
+        2 => entry(&serial, &moment, &[Extension::new(&known(21), false, &[10, 1, 1])]),
+        _ => entry(&serial, &moment, &[]),
+    }
+}

@@ -1,0 +1,29 @@
+//! A plain reader of DER items, passport-signing certificates, CRLs, trust
+//! images and chains: one function for each question.
+//!
+//! Every function is total. An answer begins with `number` (0: passed, else
+//! the refusal's number) and `detail`; in a refusal every other field is 0,
+//! every place 255, and lent buffers keep their bytes.
+
+#![forbid(unsafe_code)]
+
+mod calendar;
+mod certificate;
+mod chain;
+mod crl;
+mod der;
+mod extensions;
+mod image;
+mod integer;
+mod name;
+mod reader;
+mod refusal;
+mod time;
+
+pub use calendar::{day_difference, Days};
+pub use certificate::{certificate, Certificate};
+pub use chain::{chain, Chain};
+pub use crl::{crl, crl_age, Crl};
+pub use der::{walk, Walk};
+pub use image::{entry, image, image_for_day, write, Entry, Image, Written};
+pub use integer::{integer, Integer};

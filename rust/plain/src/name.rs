@@ -1,0 +1,57 @@
+//! Names and their country.
+
+use crate::der::{PRINTABLE_STRING, SEQUENCE, SET};
+use crate::reader::Reader;
+
+/// countryName, 2.5.4.6.
+const COUNTRY_NAME: [u8; 3] = [0x55, 0x04, 0x06];
+
+/// A name: a SEQUENCE of non-empty SETs of SEQUENCE {OID, one element}.
+#[derive(Clone, Copy)]
+pub(crate) struct Name<'a> {
+    /// The whole element.
+    pub whole: &'a [u8],
+    /// The two letters, if countryName stands once, as a PrintableString of two
+    /// letters A to Z.
+    pub country: Option<[u8; 2]>,
+}
+
+/// Reads a name that stands at depth 3.
+#[inline]
+pub(crate) fn name<'a>(reader: &mut Reader<'a>) -> Option<Name<'a>> {
+    let before = reader.rest();
+    let (mut countries, mut country) = (0, None);
+    let outer = reader.enter(SEQUENCE)?;
+    while !reader.at_end() {
+        let in_name = reader.enter(SET)?;
+        loop {
+            // At least one: a SET that is empty has nothing to enter.
+            let in_set = reader.enter(SEQUENCE)?;
+            let oid = reader.oid()?;
+            let value = reader.any(6)?;
+            reader.leave(in_set)?;
+            if oid == COUNTRY_NAME {
+                countries += 1;
+                country = letters(value.id, value.contents);
+            }
+            if reader.at_end() {
+                break;
+            }
+        }
+        reader.leave(in_name)?;
+    }
+    reader.leave(outer)?;
+    let country = if countries == 1 { country } else { None };
+    Some(Name { whole: reader.since(before), country })
+}
+
+/// The letters of a PrintableString of two letters A to Z.
+#[inline(always)]
+fn letters(id: u8, contents: &[u8]) -> Option<[u8; 2]> {
+    match *contents {
+        [first, second] if id == PRINTABLE_STRING && first.is_ascii_uppercase() && second.is_ascii_uppercase() => {
+            Some([first, second])
+        }
+        _ => None,
+    }
+}
