@@ -23,6 +23,7 @@ import cases_limits
 import cases_listed
 import cases_member
 import cases_write
+import mended
 from record import CERTIFICATE, CRL, IMAGE, NO_KIND, ROOM, WALK, Case, head
 
 PARTS = (cases_der, cases_contents, cases_limits, cases_integer, cases_member, cases_days, cases_certificate,
@@ -42,6 +43,9 @@ def cases():
         for rule in range(1, rules + 1):
             if sum(case.kind == kind and case.broken == (rule,) for case in found) < 2:
                 sys.exit('kind %d: fewer than two cases break rule %d alone' % (kind, rule))
+    for kind, rules in ((CERTIFICATE, 14), (CRL, 8)):
+        for fault in mended.faults(found, kind, rules):
+            sys.exit(fault)
     return found
 
 

@@ -24,8 +24,11 @@ class Case:
         self.answer = answer
         self.item = item
         self.numbers = numbers
-        # every rule of a profile that the item breaks
+        # every rule of a profile that the item breaks, and the same item without its faults
         self.broken = ()
+        self.mended = None
+        # the rules that the item broke before it was mended
+        self.mends = ()
 
     def record(self):
         label = self.label.encode('ascii')
