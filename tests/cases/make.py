@@ -13,6 +13,7 @@ import cases_certificate
 import cases_certificate_extensions
 import cases_certificate_parts
 import cases_certificate_shape
+import cases_chain
 import cases_contents
 import cases_crl
 import cases_days
@@ -28,7 +29,7 @@ from record import CERTIFICATE, CRL, IMAGE, NO_KIND, ROOM, WALK, Case, head
 
 PARTS = (cases_der, cases_contents, cases_limits, cases_integer, cases_member, cases_days, cases_certificate,
          cases_certificate_shape, cases_certificate_parts, cases_certificate_extensions, cases_crl, cases_listed,
-         cases_image, cases_write)
+         cases_image, cases_write, cases_chain)
 FOLDER = pathlib.Path(__file__).resolve().parents[2] / 'crates' / 'cases'
 
 

@@ -7,7 +7,7 @@ import struct
 
 WALK, INTEGER, REAL_DAY, REAL_MOMENT, ANY_DAY, ANY_MOMENT, DIFFERENCE, MEMBER = range(1, 9)
 CERTIFICATE, CRL, LISTED, AGE = range(9, 13)
-IMAGE, IMAGE_FOR, ENTRY, ITEM, WRITE, WRITE_FILLED = range(13, 19)
+IMAGE, IMAGE_FOR, ENTRY, ITEM, WRITE, WRITE_FILLED, CHAIN = range(13, 20)
 NO_KIND = 255
 
 # the octets that the program has room for, label and bytes together
