@@ -1,4 +1,5 @@
 """Cases of certificates: the good ones, roles, DER and limits, fields, and several broken rules at once."""
+import mended
 import oracle_certificate
 from certificate_build import (ANCHOR, CONSTRAINTS, KEY_USAGE, LAST_AUTHORITY, LINK, NO_MEANING, ROLES,
                                SIGNER, SIGNS_CERTIFICATES, authority_key, certificate, document_types,
@@ -22,21 +23,26 @@ def told(fields):
     return FIELDS % (fields.start, fields.end, fields.letters, *numbers)
 
 
-def asked(label, role, item, stated=None):
+def answer(item, role):
     try:
-        answer = told(oracle_certificate.judge(item, role))
+        return told(oracle_certificate.judge(item, role))
     except Refused as refusal:
-        answer = refusal.words()
-    return Case('certificate: %s (built)' % label, CERTIFICATE, answer, item, (role,), stated)
+        return refusal.words()
 
 
-def breaks(rules, label, role, item):
-    """A case of an item that breaks those rules and no others."""
+def asked(label, role, item, stated=None):
+    return Case('certificate: %s (built)' % label, CERTIFICATE, answer(item, role), item, (role,), stated)
+
+
+def breaks(rules, label, role, item, good=None):
+    """A case of an item that breaks those rules and no others. Mended, it is that good item, or the one that a role
+    begins with."""
     label = '%s, %s' % (ROLES[role], label)
     broken = oracle_certificate.broken_rules(item, role)
     assert broken == list(rules), (label, broken)
     case = asked(label, role, item, 'refused 4, rule %d' % rules[0])
     case.broken = rules
+    case.mended = good or certificate(role)
     return case
 
 
@@ -60,13 +66,20 @@ def octets_of(item, part):
 
 
 def rows(role, *table):
-    """A case for each row: what it shows, the rules that are broken or none, the parts that are changed."""
-    for label, rules, changed in table:
+    """A case for each row: what it shows, the rules that are broken or none, the parts that are changed, and the parts
+    that stay changed in the mended item, if any do."""
+    for label, rules, changed, *left in table:
         parts = parts_of(role, **changed)
         if rules:
-            yield breaks(rules, label, role, put_together(parts))
+            yield breaks(rules, label, role, put_together(parts), certificate(role, **(left[0] if left else {})))
         else:
             yield keeps(label, role, parts)
+
+
+def with_mended(*parts):
+    """The cases of some parts, with the rows of mended items beside them."""
+    for part in parts:
+        yield from mended.beside(part(), lambda case: answer(case.mended, *case.numbers))
 
 
 def good():
@@ -103,7 +116,8 @@ def roles():
         yield asked('role %d, not DER' % role, role, octets('30 80'), 'refused 1')
         yield asked('role %d, 16385 octets' % role, role, bytes(16385), 'refused 1')
         yield asked('role %d, a signer of over 16384 octets' % role, role, long, 'refused 1')
-    yield breaks((11,), 'a good anchor', LINK, certificate(ANCHOR))
+    yield breaks((11,), 'a good anchor', LINK, certificate(ANCHOR),
+                 certificate(ANCHOR, extensions=extensions(ANCHOR, authority_key=authority_key())))
     yield breaks((9, 10, 11, 13), 'a good anchor', SIGNER, certificate(ANCHOR))
     yield keeps('a good link', ANCHOR, parts_of(LINK))
     yield breaks((9, 10, 13), 'a good link', SIGNER, certificate(LINK))
@@ -150,9 +164,9 @@ def limits():
     many = [extension('1.3.6.1.4.1.99999.%d' % number, b'') for number in range(2, 402)]
     yield from rows(SIGNER, ('400 extensions more', (), {'extensions': extensions(SIGNER, *many)}),
                     ('400 extensions more, the last of them twice', (8,),
-                     {'extensions': extensions(SIGNER, *many, many[-1])}),
+                     {'extensions': extensions(SIGNER, *many, many[-1])}, {'extensions': extensions(SIGNER, *many)}),
                     ('400 extensions more, the first of them twice', (8,),
-                     {'extensions': extensions(SIGNER, *many, many[0])}))
+                     {'extensions': extensions(SIGNER, *many, many[0])}, {'extensions': extensions(SIGNER, *many)}))
 
 
 # of a signer, for each rule from 2 on what breaks it alone
@@ -194,9 +208,9 @@ def several():
         yield breaks(rules, 'every rule from %d on' % first, SIGNER, with_faults(rules))
     yield breaks((1,), 'rules 1 and 3', SIGNER, certificate(SIGNER, version=b'', serial=integer(0)))
     yield breaks((1,), 'rules 1 and 14, the first in the last part', SIGNER, certificate(
-        SIGNER, extensions=extensions(SIGNER, extension(NO_MEANING, b'', critical=True)), after=NULL))
+        SIGNER, extensions=extensions(SIGNER, extension(NO_MEANING, b'', critical=True)), after=NULL),
+                 certificate(SIGNER, extensions=extensions(SIGNER, extension(NO_MEANING, b''))))
 
 
 def cases():
-    for part in (good, roles, not_der, limits, several):
-        yield from part()
+    yield from with_mended(good, roles, not_der, limits, several)

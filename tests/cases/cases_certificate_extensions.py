@@ -1,5 +1,5 @@
 """Cases of certificates: rules 8 to 14, each clause from both sides."""
-from cases_certificate import NULL, rows
+from cases_certificate import NULL, rows, with_mended
 from certificate_build import (ANCHOR, CONSTRAINTS, ISSUER_NAMES, KEY_USAGE, LAST_AUTHORITY,
                                LINK, NO_MEANING, POINTS, POLICIES, PRIVATE_PERIOD, ROLES, SIGNER, SIGNS_CERTIFICATES,
                                SIGNS_DOCUMENTS, SUBJECT_NAMES, authority_key, document_types, extensions,
@@ -11,13 +11,16 @@ KEY = bytes(range(1, 21))
 
 
 def lists(role, *table):
-    """Rows of a list of extensions: a label, the rules that are broken or none, the list."""
-    yield from rows(role, *[(label, rules, {'extensions': list(members)}) for label, rules, members in table])
+    """Rows of a list of extensions: a label, the rules that are broken or none, the list, and the mended list where it
+    is not the one that a role begins with."""
+    yield from rows(role, *[(label, rules, *[{'extensions': list(members)} for members in both])
+                            for label, rules, *both in table])
 
 
 def changed(role, *table):
-    """Rows of a list with one extension replaced, by its name."""
-    yield from lists(role, *[(label, rules, extensions(role, **{part: value})) for label, rules, part, value in table])
+    """Rows of a list with one extension replaced, by its name, and what stands there in the mended list."""
+    yield from lists(role, *[(label, rules, *[extensions(role, **{part: value}) for value in both])
+                             for label, rules, part, *both in table])
 
 
 def doubled():
@@ -34,10 +37,11 @@ def doubled():
     one, other = extension(NO_MEANING, b''), extension('1.3.6.1.4.1.99999.2', b'')
     yield from lists(
         SIGNER,
-        ('an extension that means nothing twice', (8,), extensions(SIGNER, one, one)),
+        ('an extension that means nothing twice', (8,), extensions(SIGNER, one, one), extensions(SIGNER, one)),
         ('two extensions that mean nothing', (), extensions(SIGNER, one, other)),
-        ('three times the same extension', (8,), extensions(SIGNER, one, one, one)),
-        ('twice with different contents', (8,), extensions(SIGNER, one, extension(NO_MEANING, b'\1'))),
+        ('three times the same extension', (8,), extensions(SIGNER, one, one, one), extensions(SIGNER, one)),
+        ('twice with different contents', (8,), extensions(SIGNER, one, extension(NO_MEANING, b'\1')),
+         extensions(SIGNER, one)),
         ('keyUsage twice, the second with other bits', (8,),
          extensions(SIGNER, extension(KEY_USAGE, SIGNS_CERTIFICATES, critical=True))),
         ('keyUsage twice, the second not critical', (8,), extensions(SIGNER, extension(KEY_USAGE, SIGNS_DOCUMENTS))),
@@ -47,8 +51,8 @@ def doubled():
          extensions(SIGNER, extension('1.3.6.1', b''), extension('1.3.6.1.1', b''), extension('1.3.6', b''))),
         ('the start of the number of keyUsage, and one that goes on', (),
          extensions(SIGNER, extension('2.5.29', b''), extension('2.5.29.15.1', b''))),
-        ('one extension and no more', (9, 11, 12, 13), [one]),
-        ('one extension twice and no more', (8, 9, 11, 12, 13), [one, one]))
+        ('one extension and no more', (9, 11, 12, 13), [one], extensions(SIGNER, one)),
+        ('one extension twice and no more', (8, 9, 11, 12, 13), [one, one], extensions(SIGNER, one)))
 
 
 def key_usage():
@@ -120,16 +124,18 @@ def key_identifiers():
                        ('subject key identifier there', (), 'subject_key', subject_key()))
     for role in ROLES:
         yield from changed(
-            role, ('subject key identifier critical', (11, 14), 'subject_key', subject_key(critical=True)),
-            ('authority key identifier critical', (11, 14), 'authority_key', authority_key(critical=True)))
+            role,
+            ('subject key identifier critical', (11, 14), 'subject_key', subject_key(critical=True), subject_key()),
+            ('authority key identifier critical', (11, 14), 'authority_key', authority_key(critical=True),
+             authority_key()))
         for rules, subject_keys, authority_keys in (((11,), WRONG_SUBJECT_KEYS, WRONG_AUTHORITY_KEYS),
                                                     ((), RIGHT_SUBJECT_KEYS, RIGHT_AUTHORITY_KEYS)):
             for label, contents in subject_keys:
                 label = 'subject key identifier ' + label
-                yield from changed(role, (label, rules, 'subject_key', subject_key(contents)))
+                yield from changed(role, (label, rules, 'subject_key', subject_key(contents), subject_key()))
             for label, contents in authority_keys:
                 label = 'authority key identifier ' + label
-                yield from changed(role, (label, rules, 'authority_key', authority_key(contents)))
+                yield from changed(role, (label, rules, 'authority_key', authority_key(contents), authority_key()))
 
 
 WRONG_SUBJECT_KEYS = (
@@ -183,15 +189,24 @@ RIGHT_AUTHORITY_KEYS = (
 
 def inner_limits():
     """Depth and count begin anew in the contents of an extension, and their limits are the walk's."""
-    for depth, rules in ((15, ()), (16, (11,))):
-        yield from changed(SIGNER, ('depth %d in the authority key identifier' % (depth + 1), rules, 'authority_key',
-                                    authority_key(sequence(element(0x80, KEY), nested(depth)))))
+    def deep(depth):
+        return authority_key(sequence(element(0x80, KEY), nested(depth - 1)))
+
+    def wide(count):
+        return authority_key(sequence(element(0x80, KEY), NULL * (count - 2)))
+
+    def many(count):
+        return document_types(type_list(printable('P') * (count - 3)))
+
+    for depth, rules in ((16, ()), (17, (11,))):
+        yield from changed(SIGNER, ('depth %d in the authority key identifier' % depth, rules, 'authority_key',
+                                    deep(depth), deep(16)))
     for count, rules in ((4096, ()), (4097, (11,))):
         yield from changed(LINK, ('%d elements in the authority key identifier' % count, rules, 'authority_key',
-                                  authority_key(sequence(element(0x80, KEY), NULL * (count - 2)))))
+                                  wide(count), wide(4096)))
     for count, rules in ((4096, ()), (4097, (13,))):
         yield from changed(SIGNER, ('%d elements in the document type list' % count, rules, 'document_types',
-                                    document_types(type_list(printable('P') * (count - 3)))))
+                                    many(count), many(4096)))
 
 
 def plain_four():
@@ -202,7 +217,8 @@ def plain_four():
             yield from changed(
                 role,
                 ('%s missing' % number, (12,), part, b''),
-                ('%s critical' % number, (12, 14), part, extension(number, sequence(), critical=True)),
+                ('%s critical' % number, (12, 14), part, extension(number, sequence(), critical=True),
+                 extension(number, sequence())),
                 ('%s with empty contents' % number, (), part, extension(number, b'')),
                 ('%s with contents that are not DER' % number, (), part, extension(number, octets('30 80'))))
     none = {part: b'' for part, _ in four}
@@ -262,17 +278,21 @@ def types():
             role,
             ('a document type list', (), 'document_types', document_types()),
             ('a document type list that is not one', (), 'document_types', document_types(octets('30 80'))),
-            ('a document type list, critical', (14,), 'document_types', document_types(critical=True)))
+            ('a document type list, critical', (14,), 'document_types', document_types(critical=True),
+             document_types()))
 
 
 def critical():
     for role in ROLES:
         yield from lists(
             role,
-            ('an unknown critical extension', (14,), extensions(role, extension(NO_MEANING, b'', True))),
-            ('an unknown critical extension first', (14,), [extension(NO_MEANING, b'', True)] + extensions(role)),
+            ('an unknown critical extension', (14,), extensions(role, extension(NO_MEANING, b'', True)),
+             extensions(role, extension(NO_MEANING, b''))),
+            ('an unknown critical extension first', (14,), [extension(NO_MEANING, b'', True)] + extensions(role),
+             [extension(NO_MEANING, b'')] + extensions(role)),
             ('an unknown extension that is not critical', (), extensions(role, extension(NO_MEANING, b''))),
-            ('critical certificate policies', (14,), extensions(role, extension(POLICIES, sequence(), True))),
+            ('critical certificate policies', (14,), extensions(role, extension(POLICIES, sequence(), True)),
+             extensions(role, extension(POLICIES, sequence()))),
             ('certificate policies that are not critical', (), extensions(role, extension(POLICIES, sequence()))))
     numbers = (
         ('the number of keyUsage and one more', '2.5.29.15.1'),
@@ -281,9 +301,9 @@ def critical():
         ('extended key usage', '2.5.29.37'),
     )
     for label, number in numbers:
-        yield from lists(LINK, ('critical: ' + label, (14,), extensions(LINK, extension(number, b'', True))))
+        yield from lists(LINK, ('critical: ' + label, (14,), extensions(LINK, extension(number, b'', True)),
+                                extensions(LINK, extension(number, b''))))
 
 
 def cases():
-    for part in (doubled, key_usage, constraints, key_identifiers, inner_limits, plain_four, types, critical):
-        yield from part()
+    yield from with_mended(doubled, key_usage, constraints, key_identifiers, inner_limits, plain_four, types, critical)

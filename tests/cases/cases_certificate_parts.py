@@ -1,5 +1,5 @@
 """Cases of certificates: rules 2 to 7, each clause from both sides."""
-from cases_certificate import NULL, rows
+from cases_certificate import NULL, rows, with_mended
 from certificate_build import ANCHOR, LINK, SIGNER, algorithm, issuer_name, subject_name
 from der_build import (COUNTRY, ORGANIZATION, attribute, common, context, country, generalized, integer, name, oid,
                        printable, sequence, set_of, utc, utf8)
@@ -65,8 +65,10 @@ def algorithms():
         ('the inner algorithm empty', (4,), {'algorithm': sequence()}),
         ('the outer algorithm empty', (4,), {'outer': sequence()}),
         ('algorithms of 300 octets', (), {'algorithm': wide(b'\0'), 'outer': wide(b'\0')}),
-        ('algorithms of 300 octets that differ in the last', (4,), {'algorithm': wide(b'\0'), 'outer': wide(b'\1')}),
-        ('an algorithm of 300 octets and its start', (4,), {'algorithm': wide(b'\0'), 'outer': wide(b'')}))
+        ('algorithms of 300 octets that differ in the last', (4,), {'algorithm': wide(b'\0'), 'outer': wide(b'\1')},
+         {'algorithm': wide(b'\0'), 'outer': wide(b'\0')}),
+        ('an algorithm of 300 octets and its start', (4,), {'algorithm': wide(b'\0'), 'outer': wide(b'')},
+         {'algorithm': wide(b'\0'), 'outer': wide(b'\0')}))
     yield from rows(ANCHOR, ('algorithms differ in the last octet', (4,), {'outer': last}))
     yield from rows(LINK, ('algorithms differ in the last octet', (4,), {'outer': last}))
 
@@ -98,13 +100,14 @@ def letters():
         ('an attribute whose number starts like it', attribute('2.5.4.6.1', printable('UT'))),
         ('an attribute whose number is its start', attribute('2.5.4', printable('UT'))),
     )
+    right = name(country('UT'), common('CSCA'))
     for label, odd in wrong:
         both = name(odd, common('CSCA'))
         yield from rows(
             SIGNER,
-            ('country of the issuer: ' + label, (5,), {'issuer': both}),
-            ('country of the subject: ' + label, (5,), {'subject': both}),
-            ('country of both: ' + label, (5,), {'issuer': both, 'subject': both}))
+            ('country of the issuer: ' + label, (5,), {'issuer': both}, {'issuer': right}),
+            ('country of the subject: ' + label, (5,), {'subject': both}, {'subject': right}),
+            ('country of both: ' + label, (5,), {'issuer': both, 'subject': both}, {'issuer': right, 'subject': right}))
     for first, second, rules in (('AA', 'AA', ()), ('ZZ', 'ZZ', ()), ('AZ', 'AZ', ()), ('UT', 'UU', (5,)),
                                  ('UT', 'AT', (5,)), ('UT', 'TU', (5,)), ('UT', 'ut', (5,))):
         yield from rows(LINK, ('countries %s and %s' % (first, second), rules,
@@ -195,8 +198,9 @@ def moments():
                                      ('GeneralizedTime', generalized, WIDE_FORMS, WIDE_MOMENTS)):
         for label, text, holds in [(label, text, False) for label, text in forms] + list(table):
             rules = () if holds else (7,)
-            yield from rows(SIGNER, ('start a %s %s' % (kind, label), rules, {'start': make(text), 'end': far}),
-                            ('end a %s %s' % (kind, label), rules, {'start': early, 'end': make(text)}))
+            yield from rows(
+                SIGNER, ('start a %s %s' % (kind, label), rules, {'start': make(text), 'end': far}, {'end': far}),
+                ('end a %s %s' % (kind, label), rules, {'start': early, 'end': make(text)}, {'start': early}))
 
 
 def order():
@@ -216,12 +220,13 @@ def order():
         ('neither time of its form', utc(''), generalized(''), (7,)),
     )
     for label, start, end, rules in table:
-        yield from rows(LINK, (label, rules, {'start': start, 'end': end}))
+        left = {} if end == generalized('') else {'start': end, 'end': end}
+        yield from rows(LINK, (label, rules, {'start': start, 'end': end}, left))
     yield from rows(ANCHOR,
-                    ('start one second after end', (7,), {'start': utc('240101000001Z'), 'end': utc('240101000000Z')}),
+                    ('start one second after end', (7,), {'start': utc('240101000001Z'), 'end': utc('240101000000Z')},
+                     {'start': utc('240101000000Z'), 'end': utc('240101000000Z')}),
                     ('start and end equal', (), {'start': utc('240101000001Z'), 'end': utc('240101000001Z')}))
 
 
 def cases():
-    for part in (version, serial, algorithms, letters, countries, unique, moments, order):
-        yield from part()
+    yield from with_mended(version, serial, algorithms, letters, countries, unique, moments, order)

@@ -1,6 +1,6 @@
 """Cases of certificates: rule 1, the shape, part after part."""
 import crl_build
-from cases_certificate import NULL, breaks, rows
+from cases_certificate import NULL, breaks, rows, with_mended
 from certificate_build import (ANCHOR, KEY_USAGE, LINK, NO_MEANING, SIGNER, SIGNS_CERTIFICATES, algorithm, certificate,
                                extensions, issuer_name, public_key, signature, subject_name, times)
 from der_build import (COMMON_NAME, attribute, bit_string, boolean, common, context, extension, generalized,
@@ -12,8 +12,8 @@ START, END = utc('240101000000Z'), utc('341231235959Z')
 
 
 def shapes(role, *table):
-    """Rows that break rule 1, each a label and the parts that are changed."""
-    yield from rows(role, *[(label, (1,), changed) for label, changed in table])
+    """Rows that break rule 1, each a label, the parts that are changed, and those that stay so when it is mended."""
+    yield from rows(role, *[(label, (1,), *changed) for label, *changed in table])
 
 
 def outermost():
@@ -131,9 +131,10 @@ def one_extension():
         ('with an INTEGER for TRUE', sequence(number, integer(-1), value)),
         ('with an 81 for TRUE', sequence(number, element(0x81, b'\xff'), value)),
         ('with an 86 for its OBJECT IDENTIFIER', sequence(element(0x86, b'\x2a'), value)))
-    for label, odd in wrong:
-        yield from shapes(SIGNER, ('an extension more, ' + label, {'extensions': extensions(SIGNER, odd)}))
     plain = sequence(number, value)
+    for label, odd in wrong:
+        yield from shapes(SIGNER, ('an extension more, ' + label, {'extensions': extensions(SIGNER, odd)},
+                                   {'extensions': extensions(SIGNER, plain)}))
     yield from shapes(
         LINK, ('the first of the extensions empty', {'extensions': [sequence()] + extensions(LINK)}),
         ('a list of one empty extension', {'extensions': [sequence()]}),
@@ -170,12 +171,12 @@ def names():
     for part, whole in (('issuer', issuer_name()), ('subject', subject_name(SIGNER))):
         inside = tree(whole).contents()
         for label, more in wrong:
-            yield from shapes(SIGNER, ('%s with %s' % (part, label), {part: sequence(inside, more)}))
+            yield from shapes(SIGNER, ('%s with %s' % (part, label), {part: sequence(inside, more)},
+                                       {part: sequence(inside, set_of(common('x')))}))
         for label, more in right:
             yield from rows(SIGNER, ('%s with %s' % (part, label), (), {part: sequence(inside, more)}))
         yield from shapes(ANCHOR, ('%s with an empty SET first' % part, {part: sequence(set_of(), inside)}))
 
 
 def cases():
-    for part in (outermost, first_parts, middle_parts, unique_parts, block, one_extension, names):
-        yield from part()
+    yield from with_mended(outermost, first_parts, middle_parts, unique_parts, block, one_extension, names)

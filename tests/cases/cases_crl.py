@@ -1,4 +1,5 @@
 """Cases of CRLs: the good ones, each rule from both sides, and several broken rules at once."""
+import mended
 import oracle_crl
 from cases_certificate import NULL, octets_of
 from certificate_build import (NO_MEANING, algorithm, authority_key, certificate, issuer_name, signature)
@@ -15,22 +16,27 @@ from refused import Refused
 FIELDS = 'passed, %d to %d, %s, %d entries, issuer %d+%d'
 
 
-def asked(label, item, stated=None):
+def answer(item):
     try:
         fields = oracle_crl.judge(item)
-        answer = FIELDS % (*fields[:4], *fields.issuer)
+        return FIELDS % (*fields[:4], *fields.issuer)
     except Refused as refusal:
-        answer = refusal.words()
-    return Case('crl: %s (built)' % label, CRL, answer, item, (), stated)
+        return refusal.words()
 
 
-def judged(label, rules, item, count=None):
-    """A case of an item that breaks those rules and no others, or none and has that many entries."""
+def asked(label, item, stated=None):
+    return Case('crl: %s (built)' % label, CRL, answer(item), item, (), stated)
+
+
+def judged(label, rules, item, count=None, left=()):
+    """A case of an item that breaks those rules and no others, or none and has that many entries; and the parts of the
+    good CRL that are changed when it is mended, if any are."""
     broken = oracle_crl.broken_rules(item)
     assert broken == list(rules), (label, broken)
     if rules:
         case = asked(label, item, 'refused 4, rule %d' % rules[0])
         case.broken = rules
+        case.mended = crl(**dict(left))
         return case
     fields = oracle_crl.judge(item)
     assert count in (None, fields.entries), (label, fields.entries)
@@ -40,8 +46,10 @@ def judged(label, rules, item, count=None):
 
 
 def rows(*table):
-    for label, rules, changed in table:
-        yield judged(label, rules, crl(**changed))
+    """A case for each row: what it shows, the rules that are broken or none, the parts that are changed, and the parts
+    that stay changed in the mended CRL, if any do."""
+    for label, rules, changed, *left in table:
+        yield judged(label, rules, crl(**changed), left=left[0] if left else {})
 
 
 def good():
@@ -96,7 +104,8 @@ def limits():
     listing = [entry((300 + place).to_bytes(2, 'big')) for place in range(700)]
     yield judged('700 entries', (), crl(entries=sequence(*listing)), 700)
     yield judged('700 entries, the last with a wrong time', (5,), crl(
-        entries=sequence(*listing[:-1], entry(b'\5', utc('241301000000Z')))))
+        entries=sequence(*listing[:-1], entry(b'\5', utc('241301000000Z')))),
+                 left={'entries': sequence(*listing[:-1], entry(b'\5'))})
 
 
 def outermost():
@@ -109,6 +118,8 @@ def outermost():
             ('the tbs a SET', item[:4] + b'\x31' + item[5:]),
             ('an empty tbs', sequence(sequence(), algorithm(), signature()))):
         yield judged(label, (1,), odd)
+    short = {'issuer': name(country('UT'))}
+    more = {'extensions': extensions() + [extension(NO_MEANING, b'')]}
     wrong = (
         ('no signature', {'signature': b''}),
         ('the signature an OCTET STRING', {'signature': octet_string(b'\0')}),
@@ -125,7 +136,7 @@ def outermost():
         ('the issuer a SET', {'issuer': element(0x31, tree(issuer_name()).contents())}),
         ('no times', {'this': b'', 'next': b''}),
         ('no next update', {'next': b''}),
-        ('no next update and no entries', {'next': b'', 'entries': b''}),
+        ('no next update and no entries', {'next': b'', 'entries': b''}, {'entries': b''}),
         ('three times', {'next': utc('240530235959Z') * 2}),
         ('this update a PrintableString', {'this': printable('240301000000Z')}),
         ('next update a PrintableString', {'next': printable('240530235959Z')}),
@@ -135,7 +146,7 @@ def outermost():
         ('the entries in an A1', {'entries': context(1, entry(FIRST))}),
         ('a NULL for the entries', {'entries': NULL}),
         ('no block of extensions', {'block': b''}),
-        ('neither entries nor block', {'entries': b'', 'block': b''}),
+        ('neither entries nor block', {'entries': b'', 'block': b''}, {'entries': b''}),
         ('an A0 with nothing in it', {'block': context(0)}),
         ('an A0 with two lists', {'block': context(0, sequence(*extensions()), sequence())}),
         ('an A0 with a SET of extensions', {'block': context(0, set_of(*extensions()))}),
@@ -145,18 +156,18 @@ def outermost():
         ('two blocks', {'block': context(0, sequence(*extensions())) * 2}),
         ('a NULL after the block', {'block': context(0, sequence(*extensions())) + NULL}),
         ('the block before the entries', {'entries': context(0, sequence(*extensions())), 'block': entries()}),
-        ('an empty SET in the issuer', {'issuer': sequence(set_of(country('UT')), set_of())}),
+        ('an empty SET in the issuer', {'issuer': sequence(set_of(country('UT')), set_of())}, short),
         ('an attribute of three members in the issuer',
-         {'issuer': name(country('UT'), sequence(oid('2.5.4.3'), NULL, NULL))}),
-        ('a SEQUENCE for a SET in the issuer', {'issuer': sequence(sequence(country('UT')))}),
+         {'issuer': name(country('UT'), sequence(oid('2.5.4.3'), NULL, NULL))}, short),
+        ('a SEQUENCE for a SET in the issuer', {'issuer': sequence(sequence(country('UT')))}, short),
         ('an extension with an explicit FALSE', {'extensions': extensions() + [sequence(
-            oid(NO_MEANING), boolean(False), octet_string(b''))]}),
-        ('an extension without a value', {'extensions': extensions() + [sequence(oid(NO_MEANING))]}),
-        ('an empty extension', {'extensions': extensions() + [sequence()]}),
+            oid(NO_MEANING), boolean(False), octet_string(b''))]}, more),
+        ('an extension without a value', {'extensions': extensions() + [sequence(oid(NO_MEANING))]}, more),
+        ('an empty extension', {'extensions': extensions() + [sequence()]}, more),
         ('an extension of four members', {'extensions': extensions() + [sequence(
-            oid(NO_MEANING), boolean(True), octet_string(b''), NULL)]}),
+            oid(NO_MEANING), boolean(True), octet_string(b''), NULL)]}, more),
     )
-    yield from rows(*[(label, (1,), changed) for label, changed in wrong])
+    yield from rows(*[(label, (1,), *changed) for label, *changed in wrong])
 
 
 def entry_shapes():
@@ -183,11 +194,14 @@ def entry_shapes():
             sequence(oid(NO_MEANING), boolean(False), octet_string(b''))))),
         ('with an extension without a value', sequence(integer(5), time, sequence(sequence(oid(NO_MEANING))))),
     )
+    mend = entry(b'\5')
     for label, odd in wrong:
-        yield from rows(('an entry %s, alone' % label, (1,), {'entries': sequence(odd)}),
+        yield from rows(('an entry %s, alone' % label, (1,), {'entries': sequence(odd)}, {'entries': sequence(mend)}),
                         ('an entry %s, after good ones' % label, (1,),
-                         {'entries': sequence(entry(FIRST), entry(SECOND), odd)}),
-                        ('an entry %s, before a good one' % label, (1,), {'entries': sequence(odd, entry(FIRST))}))
+                         {'entries': sequence(entry(FIRST), entry(SECOND), odd)},
+                         {'entries': sequence(entry(FIRST), entry(SECOND), mend)}),
+                        ('an entry %s, before a good one' % label, (1,), {'entries': sequence(odd, entry(FIRST))},
+                         {'entries': sequence(mend, entry(FIRST))}))
     right = (
         ('with an empty list of extensions', entry(FIRST, extensions=[])),
         ('with an extension twice', entry(FIRST, extensions=[reason(), reason()])),
@@ -265,23 +279,25 @@ def times():
         ('GeneralizedTime with a fraction', generalized('20600301000000.5Z'), False),
         ('GeneralizedTime on 29 February 2100', generalized('21000229000000Z'), False),
     )
+    two = {'entries': sequence(entry(FIRST), entry(SECOND))}
     for label, time, holds in table:
         rules = () if holds else (5,)
-        yield from rows(('this update a ' + label, rules, {'this': time, 'next': far}),
-                        ('next update a ' + label, rules, {'this': early, 'next': time}),
+        yield from rows(('this update a ' + label, rules, {'this': time, 'next': far}, {'next': far}),
+                        ('next update a ' + label, rules, {'this': early, 'next': time}, {'this': early}),
                         ('an entry\'s time a ' + label, rules,
-                         {'entries': sequence(entry(FIRST), entry(SECOND, time))}),
+                         {'entries': sequence(entry(FIRST), entry(SECOND, time))}, two),
                         ('the first entry\'s time a ' + label, rules,
-                         {'entries': sequence(entry(FIRST, time), entry(SECOND))}))
+                         {'entries': sequence(entry(FIRST, time), entry(SECOND))}, two))
     same = utc('240301000000Z')
     yield from rows(
         ('both updates equal', (), {'this': same, 'next': same}),
-        ('this update one second after the next', (5,), {'this': utc('240301000001Z'), 'next': same}),
+        ('this update one second after the next', (5,), {'this': utc('240301000001Z'), 'next': same}, {'next': same}),
         ('this update one second before the next', (), {'this': same, 'next': utc('240301000001Z')}),
-        ('this update of year 49, the next of year 50', (5,), {'this': utc('491231235959Z'), 'next': early}),
+        ('this update of year 49, the next of year 50', (5,), {'this': utc('491231235959Z'), 'next': early},
+         {'this': early, 'next': early}),
         ('this update of year 50, the next of year 49', (), {'this': early, 'next': utc('491231235959Z')}),
         ('this update of 2050, the next of 2049', (5,),
-         {'this': generalized('20500101000000Z'), 'next': utc('491231235959Z')}))
+         {'this': generalized('20500101000000Z'), 'next': utc('491231235959Z')}, {'next': utc('491231235959Z')}))
 
 
 def lists():
@@ -290,7 +306,7 @@ def lists():
     yield from rows(
         ('an empty list of entries', (6,), {'entries': octets('30 00')}),
         ('an empty list of entries under other times', (6,),
-         {'entries': octets('30 00'), 'this': utc('230301000000Z')}),
+         {'entries': octets('30 00'), 'this': utc('230301000000Z')}, {'this': utc('230301000000Z')}),
         ('an empty list of extensions', (7,), {'extensions': []}),
         ('no authority key identifier', (7,), {'extensions': [count]}),
         ('no CRL number', (7,), {'extensions': [own]}),
@@ -298,9 +314,9 @@ def lists():
         ('both, and another', (), {'extensions': [own, other, count]}),
         ('the authority key identifier twice', (7,), {'extensions': [own, own, count]}),
         ('the CRL number twice', (7,), {'extensions': [count, own, count]}),
-        ('another twice', (7,), {'extensions': [other, own, count, other]}),
+        ('another twice', (7,), {'extensions': [other, own, count, other]}, {'extensions': [other, own, count]}),
         ('another twice with different contents', (7,),
-         {'extensions': [own, other, count, extension(NO_MEANING, b'\1')]}),
+         {'extensions': [own, other, count, extension(NO_MEANING, b'\1')]}, {'extensions': [own, other, count]}),
         ('numbers that start each other', (),
          {'extensions': [own, count, extension('2.5.29', b''), extension('2.5.29.20.1', b'')]}),
         ('the CRL number under a number that goes on', (7,),
@@ -314,16 +330,22 @@ def lists():
         ('a CRL number that is negative', (), {'extensions': [own, extension(NUMBER, integer(-1))]}),
         ('a critical authority key identifier', (8,), {'extensions': [authority_key(critical=True), count]}),
         ('a critical CRL number', (8,), {'extensions': [own, number(critical=True)]}),
-        ('another extension, critical', (8,), {'extensions': [own, count, extension(NO_MEANING, b'', True)]}),
-        ('another extension first, critical', (8,), {'extensions': [extension(NO_MEANING, b'', True), own, count]}),
+        ('another extension, critical', (8,), {'extensions': [own, count, extension(NO_MEANING, b'', True)]},
+         {'extensions': [own, count, other]}),
+        ('another extension first, critical', (8,), {'extensions': [extension(NO_MEANING, b'', True), own, count]},
+         {'extensions': [other, own, count]}),
         ('a critical issuing distribution point', (8,),
-         {'extensions': [own, count, extension('2.5.29.28', sequence(), True)]}),
+         {'extensions': [own, count, extension('2.5.29.28', sequence(), True)]},
+         {'extensions': [own, count, extension('2.5.29.28', sequence())]}),
         ('a critical extension in the first entry', (8,), {'entries': sequence(
-            entry(FIRST, extensions=[reason(critical=True)]), entry(SECOND))}),
+            entry(FIRST, extensions=[reason(critical=True)]), entry(SECOND))},
+         {'entries': sequence(entry(FIRST, extensions=[reason()]), entry(SECOND))}),
         ('a critical extension in the last entry', (8,), {'entries': sequence(
-            entry(FIRST), entry(SECOND, extensions=[reason(critical=True)]))}),
+            entry(FIRST), entry(SECOND, extensions=[reason(critical=True)]))},
+         {'entries': sequence(entry(FIRST), entry(SECOND, extensions=[reason()]))}),
         ('a critical extension second in an entry', (8,), {'entries': sequence(
-            entry(FIRST, extensions=[reason(), extension(CERTIFICATE_ISSUER, sequence(), True)]))}),
+            entry(FIRST, extensions=[reason(), extension(CERTIFICATE_ISSUER, sequence(), True)]))},
+         {'entries': sequence(entry(FIRST, extensions=[reason(), extension(CERTIFICATE_ISSUER, sequence())]))}),
         ('no critical extension in an entry', (), {'entries': sequence(
             entry(FIRST, extensions=[reason(), extension(CERTIFICATE_ISSUER, sequence())]))}))
 
@@ -357,11 +379,12 @@ def several():
     yield from rows(
         ('rules 1 and 2', (1,), {'version': integer(0), 'after': NULL}),
         ('an entry that breaks rule 1, another that breaks 5', (1,), {'entries': sequence(
-            entry(FIRST, utc('')), sequence(integer(5)))}),
+            entry(FIRST, utc('')), sequence(integer(5)))}, {'entries': sequence(entry(FIRST), entry(b'\5'))}),
         ('an entry that breaks rule 5, another that breaks 8', (5, 8), {'entries': sequence(
-            entry(FIRST, extensions=[reason(critical=True)]), entry(SECOND, utc('')))}))
+            entry(FIRST, extensions=[reason(critical=True)]), entry(SECOND, utc('')))},
+         {'entries': sequence(entry(FIRST, extensions=[reason()]), entry(SECOND))}))
 
 
 def cases():
     for part in (good, not_der, limits, outermost, entry_shapes, parts, times, lists, several):
-        yield from part()
+        yield from mended.beside(part(), lambda case: answer(case.mended))

@@ -13,6 +13,7 @@ import cases_certificate
 import cases_certificate_extensions
 import cases_certificate_parts
 import cases_certificate_shape
+import cases_chain
 import cases_contents
 import cases_crl
 import cases_days
@@ -23,11 +24,12 @@ import cases_limits
 import cases_listed
 import cases_member
 import cases_write
+import mended
 from record import CERTIFICATE, CRL, IMAGE, NO_KIND, ROOM, WALK, Case, head
 
 PARTS = (cases_der, cases_contents, cases_limits, cases_integer, cases_member, cases_days, cases_certificate,
          cases_certificate_shape, cases_certificate_parts, cases_certificate_extensions, cases_crl, cases_listed,
-         cases_image, cases_write)
+         cases_image, cases_write, cases_chain)
 FOLDER = pathlib.Path(__file__).resolve().parents[2] / 'crates' / 'cases'
 
 
@@ -42,6 +44,9 @@ def cases():
         for rule in range(1, rules + 1):
             if sum(case.kind == kind and case.broken == (rule,) for case in found) < 2:
                 sys.exit('kind %d: fewer than two cases break rule %d alone' % (kind, rule))
+    for kind, rules in ((CERTIFICATE, 14), (CRL, 8)):
+        for fault in mended.faults(found, kind, rules):
+            sys.exit(fault)
     return found
 
 

@@ -7,7 +7,7 @@ import struct
 
 WALK, INTEGER, REAL_DAY, REAL_MOMENT, ANY_DAY, ANY_MOMENT, DIFFERENCE, MEMBER = range(1, 9)
 CERTIFICATE, CRL, LISTED, AGE = range(9, 13)
-IMAGE, IMAGE_FOR, ENTRY, ITEM, WRITE, WRITE_FILLED = range(13, 19)
+IMAGE, IMAGE_FOR, ENTRY, ITEM, WRITE, WRITE_FILLED, CHAIN = range(13, 20)
 NO_KIND = 255
 
 # the octets that the program has room for, label and bytes together
@@ -24,8 +24,11 @@ class Case:
         self.answer = answer
         self.item = item
         self.numbers = numbers
-        # every rule of a profile that the item breaks
+        # every rule of a profile that the item breaks, and the same item without its faults
         self.broken = ()
+        self.mended = None
+        # the rules that the item broke before it was mended
+        self.mends = ()
 
     def record(self):
         label = self.label.encode('ascii')

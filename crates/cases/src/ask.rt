@@ -1,5 +1,6 @@
 // Each kind of question by its number.
 use crate::certificates;
+use crate::chains;
 use crate::days;
 use crate::images;
 use crate::items;
@@ -32,6 +33,7 @@ pub(crate) fn answer(question: Question, bytes: &[u8]) {
         16 => images::item(bytes, first),
         17 => writing::write(bytes, first, second, third),
         18 => writing::write_filled(bytes, first, second, third),
+        19 => chains::best(bytes, first, second, third),
         _ => say::text(b"no such question"),
     }
 }

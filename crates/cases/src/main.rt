@@ -1,6 +1,7 @@
 // Answers the questions on standard input, a line of text for each.
 mod ask;
 mod certificates;
+mod chains;
 mod days;
 mod images;
 mod items;
