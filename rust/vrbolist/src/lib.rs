@@ -1,0 +1,156 @@
+//! The proved library for Rust: every answer is a `Result`, and parts come back as slices of what was lent.
+//!
+//! No call asks for anything to be checked first, and none panics.
+
+#![deny(unsafe_code)]
+
+pub mod answers;
+#[allow(unsafe_code)]
+mod raw;
+mod refusal;
+
+pub use refusal::Refusal;
+
+/// What is told of a certificate that passes.
+#[derive(Clone, Copy, Debug, PartialEq, Eq)]
+pub struct Certificate<'a> {
+    /// Start and end as the numbers YYYYMMDDHHMMSS.
+    pub start: u64,
+    pub end: u64,
+    pub country: [u8; 2],
+    /// The whole elements.
+    pub issuer: &'a [u8],
+    pub subject: &'a [u8],
+    pub key: &'a [u8],
+    /// The contents alone.
+    pub serial: &'a [u8],
+    pub subject_key_id: Option<&'a [u8]>,
+    pub authority_key_id: Option<&'a [u8]>,
+}
+
+/// What is told of a revocation list that passes.
+#[derive(Clone, Copy, Debug, PartialEq, Eq)]
+pub struct Crl<'a> {
+    pub this_update: u64,
+    pub next_update: u64,
+    pub country: [u8; 2],
+    pub entries: u64,
+    pub issuer: &'a [u8],
+}
+
+/// The number of entries of a good trust image, and its day as the number YYYYMMDD.
+#[derive(Clone, Copy, Debug, PartialEq, Eq)]
+pub struct Image {
+    pub entries: u64,
+    pub day: u64,
+}
+
+/// One entry of an image. Kinds: 1 anchor, 2 link, 3 document signer, 4 CRL.
+#[derive(Clone, Copy, Debug, PartialEq, Eq)]
+pub struct Entry<'a> {
+    pub kind: u64,
+    pub flags: u64,
+    pub item: &'a [u8],
+}
+
+/// The number of elements of an item that is DER.
+pub fn walk(item: &[u8]) -> Result<u64, Refusal> {
+    let told = answers::walk(item);
+    passed(told.number, told.detail, told.count)
+}
+
+/// An INTEGER as a number.
+pub fn integer(item: &[u8]) -> Result<i64, Refusal> {
+    let told = answers::integer(item);
+    passed(told.number, told.detail, told.value)
+}
+
+/// Roles: 1 anchor, 2 link, 3 document signer.
+pub fn certificate(item: &[u8], role: u64) -> Result<Certificate<'_>, Refusal> {
+    let told = answers::certificate(item, role);
+    let key = |at: u64, len: u64| (at != 0).then(|| part(item, at, len));
+    let fields = Certificate {
+        start: told.start,
+        end: told.end,
+        country: told.country,
+        issuer: part(item, told.issuer_at, told.issuer_len),
+        subject: part(item, told.subject_at, told.subject_len),
+        key: part(item, told.key_at, told.key_len),
+        serial: part(item, told.serial_at, told.serial_len),
+        subject_key_id: key(told.subject_key_id_at, told.subject_key_id_len),
+        authority_key_id: key(told.authority_key_id_at, told.authority_key_id_len),
+    };
+    passed(told.number, told.detail, fields)
+}
+
+pub fn crl(item: &[u8]) -> Result<Crl<'_>, Refusal> {
+    let told = answers::crl(item);
+    let fields = Crl {
+        this_update: told.this_update,
+        next_update: told.next_update,
+        country: told.country,
+        entries: told.entries,
+        issuer: part(item, told.issuer_at, told.issuer_len),
+    };
+    passed(told.number, told.detail, fields)
+}
+
+/// Days from the first day to the second, negative when the second is earlier. Days are numbers YYYYMMDD.
+pub fn day_difference(first: u64, second: u64) -> Result<i64, Refusal> {
+    let told = answers::day_difference(first, second);
+    passed(told.number, told.detail, told.days)
+}
+
+/// Days from a CRL's this-update day to a day.
+pub fn crl_age(item: &[u8], day: u64) -> Result<i64, Refusal> {
+    let told = answers::crl_age(item, day);
+    passed(told.number, told.detail, told.days)
+}
+
+pub fn image(bytes: &[u8]) -> Result<Image, Refusal> {
+    let told = answers::image(bytes);
+    passed(told.number, told.detail, Image { entries: told.entries, day: told.day })
+}
+
+/// The same for a wanted day: a stale image is refused.
+pub fn image_for_day(bytes: &[u8], wanted: u64) -> Result<Image, Refusal> {
+    let told = answers::image_for_day(bytes, wanted);
+    passed(told.number, told.detail, Image { entries: told.entries, day: told.day })
+}
+
+pub fn entry(bytes: &[u8], place: u64) -> Result<Entry<'_>, Refusal> {
+    let told = answers::entry(bytes, place);
+    let found = Entry { kind: told.kind, flags: told.flags, item: part(bytes, told.offset, told.length) };
+    passed(told.number, told.detail, found)
+}
+
+/// Writes an image and gives the part of the output that it takes; the rest of the output stays.
+pub fn write<'a>(
+    items: &[u8],
+    kinds: &[u8],
+    flags: &[u8],
+    lengths: &[u32],
+    day: u64,
+    out: &'a mut [u8],
+) -> Result<&'a [u8], Refusal> {
+    let told = answers::write(items, kinds, flags, lengths, day, out);
+    passed(told.number, told.detail, ()).map(|()| part(out, 0, told.length))
+}
+
+/// The places of the best chain to a document signer, from the anchor on.
+pub fn chain(image: &[u8], table: &[u8], moment: u64, target: u64) -> Result<Vec<u8>, Refusal> {
+    let told = answers::chain(image, table, moment, target);
+    passed(told.number, told.detail, ()).map(|()| part(&told.places, 0, told.length).to_vec())
+}
+
+fn passed<T>(number: u64, detail: u64, fields: T) -> Result<T, Refusal> {
+    match number {
+        0 => Ok(fields),
+        _ => Err(Refusal { number, detail }),
+    }
+}
+
+// What is told of a pass lies in what was lent; a part that did not would be empty.
+fn part(bytes: &[u8], at: u64, len: u64) -> &[u8] {
+    bytes.get(at as usize..at.saturating_add(len) as usize).unwrap_or_default()
+}
