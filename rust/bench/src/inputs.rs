@@ -2,7 +2,7 @@
 
 use make::certificate::{Certificate, ANCHOR, LINK, SIGNER};
 use make::crl::{Crl, Parameters};
-use make::extension::{strange_oid, Extension};
+use make::extension::Extension;
 use make::image::Image;
 use make::random::Random;
 use make::world::{Plan, World, MOMENT};
@@ -37,9 +37,9 @@ pub const GROWTH: &[&str] = &[
     "walk-bytes-8192",
     "walk-bytes-16384",
     "signer-extensions-8",
-    "signer-extensions-16",
-    "signer-extensions-32",
     "signer-extensions-64",
+    "signer-extensions-256",
+    "signer-extensions-1000",
     "crl-entries-85",
     "crl-entries-170",
     "crl-entries-340",
@@ -125,11 +125,12 @@ fn crl_of_16k() -> Vec<u8> {
     items.take_while(|item| item.len() <= ITEM).last().unwrap_or_default()
 }
 
-/// A document signer with so many extensions.
+/// A document signer with so many extensions, no OID twice.
 fn extended(number: usize) -> Vec<u8> {
     let mut made = Certificate::typical(SIGNER);
     for stranger in made.extensions.len()..number {
-        made.extensions.push(Extension::new(&strange_oid(stranger), false, &[5, 0]));
+        let oid = [0x2B, 14, (stranger / 100) as u8, (stranger % 100) as u8];
+        made.extensions.push(Extension::new(&oid, false, &[5, 0]));
     }
     made.encode()
 }
