@@ -173,3 +173,85 @@ fn empty_slices() {
         }
     }
 }
+
+/// An OCTET STRING that is this long with its header.
+fn octets(length: usize) -> Vec<u8> {
+    let contents = length - 4;
+    let mut item = vec![4, 0x82, (contents >> 8) as u8, contents as u8];
+    item.resize(length, 0);
+    item
+}
+
+/// A SEQUENCE of this many NULLs.
+fn nulls(number: usize) -> Vec<u8> {
+    let contents = 2 * number;
+    let mut item = vec![0x30, 0x82, (contents >> 8) as u8, contents as u8];
+    item.resize(4 + contents, 0);
+    item[4..].iter_mut().step_by(2).for_each(|octet| *octet = 5);
+    item
+}
+
+/// SEQUENCEs in each other.
+fn nested(depth: usize) -> Vec<u8> {
+    (0..depth).rev().flat_map(|inside| [0x30, 2 * inside as u8]).collect()
+}
+
+/// An image of 16 items that has this many bytes.
+fn large(bytes: usize) -> Image {
+    let mut made = Image::new(DAY as u32);
+    for _ in 0..15 {
+        made.add(4, 0, vec![1; 16_384]);
+    }
+    made.add(4, 0, vec![2; bytes - 12 - 8 * 16 - 15 * 16_384]);
+    made
+}
+
+#[test]
+fn lengths_around_the_limits() {
+    for (item, head) in [
+        (octets(16_383), (0, 0)),
+        (octets(16_384), (0, 0)),
+        (octets(16_385), (3, 0)),
+        (vec![0; 65_536], (3, 0)),
+        (nulls(4_095), (0, 0)),
+        (nulls(4_096), (3, 4 + 2 * 4_095)),
+        (nested(16), (0, 0)),
+        (nested(17), (3, 32)),
+    ] {
+        assert_eq!(ask(Question::Walk(item.clone())).head(), head);
+        ask(Question::Integer(item.clone()));
+        ask(Question::Crl(item.clone()));
+        ask(Question::Age(item.clone(), DAY));
+        ask(Question::Age(item.clone(), 0));
+        for role in 0..=4 {
+            ask(Question::Certificate(item.clone(), role));
+        }
+    }
+}
+
+#[test]
+fn images_around_the_limits() {
+    for (bytes, read, write) in [(262_143, 0, 0), (262_144, 0, 0), (262_145, 5, 3)] {
+        let made = large(bytes);
+        let image = made.encode();
+        assert_eq!(image.len(), bytes);
+        assert_eq!(ask(Question::Image(image.clone())).head().0, read);
+        ask(Question::Entry(image.clone(), 15));
+        ask(Question::Chain { image, table: vec![0; 256], moment: MOMENT, target: 0 });
+        for (room, number) in [(bytes - 1, if write == 0 { 9 } else { write }), (bytes, write), (bytes + 1, write)] {
+            let (items, lengths) = (made.items.concat(), made.lengths());
+            let (kinds, flags) = (made.kinds.clone(), made.flags.clone());
+            let question = Question::Write { items, kinds, flags, lengths, day: DAY, room };
+            assert_eq!(ask(question).head().0, number);
+        }
+    }
+    for (entries, read, write) in [(95, 0, 0), (96, 0, 0), (97, 5, 1), (255, 5, 1), (256, 5, 1), (65_535, 5, 1)] {
+        let mut made = Image::new(DAY as u32);
+        (0..entries).for_each(|_| made.add(2, 0, vec![5]));
+        let (items, room) = (made.items.concat(), 9 * entries + 12);
+        assert_eq!(ask(Question::Image(made.encode())).head().0, read);
+        let lengths = made.lengths();
+        let question = Question::Write { items, kinds: made.kinds, flags: made.flags, lengths, day: DAY, room };
+        assert_eq!(ask(question).head().0, write);
+    }
+}

@@ -237,10 +237,10 @@ fn the_image_is_judged_before_the_wanted_day() {
 }
 
 #[test]
-fn a_place_is_cut_to_32_bits() {
+fn a_place_is_cut_to_an_octet() {
     found(
         |question, output| match question {
-            Question::Entry(image, place) => plain::entry(image, *place as u32 as u64).into(),
+            Question::Entry(image, place) => plain::entry(image, *place & 0xFF).into(),
             _ => plain(question, output),
         },
         |question| matches!(question, Question::Entry(..)),
@@ -291,4 +291,17 @@ fn reading_changes_a_lent_byte() {
         },
         |question| matches!(question, Question::Crl(_)),
     );
+}
+
+#[test]
+fn a_difference_is_told_in_full() {
+    let cut = Planted(|question, output| match plain(question, output) {
+        Answer::Integer(told) => Answer::Integer(plain::Integer { value: told.value & 0x7F, ..told }),
+        told => told,
+    });
+    let question = Question::Integer(vec![2, 1, 0x85]);
+    let text = compare(&Library, &cut, &question).expect_err("a difference").to_string();
+    for part in ["seed 0, question 0: integer", "value: -123", "value: 5", "item 020185"] {
+        assert!(text.contains(part), "{part} is missing in {text}");
+    }
 }

@@ -1,16 +1,18 @@
-//! The library against the plain reader, on questions from a fixed seed.
+//! The library against the plain reader, on questions from a fixed seed. A
+//! program without a harness, so that it runs on the main thread.
 
 #![forbid(unsafe_code)]
 
 use std::collections::BTreeMap;
+use std::time::Instant;
 
 use differ::{kind, run, Library, Limits, Plain};
 
 const SEED: u64 = 1;
 const COUNT: u64 = 200_000;
 
-#[test]
-fn two_hundred_thousand_questions() {
+fn main() {
+    let start = Instant::now();
     let mut reached = BTreeMap::new();
     let limits = Limits { count: Some(COUNT), time: None };
     let asked = run(&Library, &Plain, SEED, limits, |question, answer| {
@@ -39,4 +41,5 @@ fn two_hundred_thousand_questions() {
             assert!(reached.contains_key(&(kind, number)), "no {kind} with number {number}: {reached:?}");
         }
     }
+    println!("seed {SEED}: {COUNT} questions in {:.1} s, no difference", start.elapsed().as_secs_f64());
 }
