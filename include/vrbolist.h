@@ -1,0 +1,184 @@
+/*
+ * The C interface of libvrbolist.a (x86-64): C99, and usable from C++.
+ *
+ * Every function is total: nothing has to be checked before a call, and any number may be passed for any number. Only two
+ * things are the caller's, since no call can test them: a pointer is not null and points to as many elements as the length
+ * beside it says, unless that length is 0; and buffers lent to one call do not overlap.
+ *
+ * Every answer is a struct returned by value. Its first fields are `number`, 0 where the call passed and else the number of
+ * the refusal, and `detail`, which belongs to the refusal and is 0 in a pass. In a refusal every other field is 0, every
+ * place of a chain is VRBOLIST_NO_PLACE, and lent buffers keep their bytes.
+ *
+ * A part of an item or image is told as an offset (`_at`) from its first byte and a length (`_len`). Days are numbers
+ * YYYYMMDD, moments YYYYMMDDHHMMSS.
+ */
+#ifndef VRBOLIST_H
+#define VRBOLIST_H
+
+#include <stddef.h>
+#include <stdint.h>
+
+#ifdef __cplusplus
+extern "C" {
+#endif
+
+/* What `number` says, with the detail told beside it. */
+#define VRBOLIST_PASSED 0   /* passed; 0 */
+#define VRBOLIST_ARGUMENT 1 /* an argument is out of its range; 0 */
+#define VRBOLIST_DER 2      /* a DER rule is broken; offset of the element that breaks it */
+#define VRBOLIST_LIMIT 3    /* a limit is passed; offset of the element that passes it, 0 for a whole that is too long */
+#define VRBOLIST_PROFILE 4  /* a rule of the profile is broken; the smallest such rule */
+#define VRBOLIST_IMAGE 5    /* a rule of the trust image is broken; the smallest such rule */
+#define VRBOLIST_DAY 6      /* the image is not of the wanted day; 0 */
+#define VRBOLIST_CHAIN 7    /* there is no good chain; 0 */
+#define VRBOLIST_WIDE 8     /* an INTEGER asked for as a number has more than 8 octets; 0 */
+#define VRBOLIST_SHORT 9    /* the lent output is shorter than what would be written; 0 */
+
+/* Roles of certificates are the first three of the kinds of entries. */
+#define VRBOLIST_KIND_ANCHOR 1
+#define VRBOLIST_KIND_LINK 2
+#define VRBOLIST_KIND_SIGNER 3
+#define VRBOLIST_KIND_CRL 4
+
+#define VRBOLIST_ITEM_LIMIT 16384   /* most bytes of an item */
+#define VRBOLIST_IMAGE_LIMIT 262144 /* most bytes of an image */
+#define VRBOLIST_PLACES 96          /* most entries of an image, and places of a chain */
+#define VRBOLIST_NO_PLACE 255       /* in a slot that is not used */
+
+typedef struct {
+    uint64_t number;
+    uint64_t detail;
+    uint64_t count; /* elements in the tree */
+} vrbolist_walk_answer;
+
+typedef struct {
+    uint64_t number;
+    uint64_t detail;
+    int64_t value;
+} vrbolist_integer_answer;
+
+/* Issuer, subject and key are whole elements; serial and key identifiers are contents alone. A key identifier that the
+ * certificate does not have is told as 0 and 0, an empty one with its real offset. */
+typedef struct {
+    uint64_t number;
+    uint64_t detail;
+    uint64_t start;
+    uint64_t end;
+    uint64_t issuer_at;
+    uint64_t issuer_len;
+    uint64_t subject_at;
+    uint64_t subject_len;
+    uint64_t key_at;
+    uint64_t key_len;
+    uint64_t serial_at;
+    uint64_t serial_len;
+    uint64_t subject_key_id_at;
+    uint64_t subject_key_id_len;
+    uint64_t authority_key_id_at;
+    uint64_t authority_key_id_len;
+    uint8_t country[2];
+} vrbolist_certificate_answer;
+
+typedef struct {
+    uint64_t number;
+    uint64_t detail;
+    uint64_t this_update;
+    uint64_t next_update;
+    uint64_t entries;
+    uint64_t issuer_at;
+    uint64_t issuer_len;
+    uint8_t country[2];
+} vrbolist_crl_answer;
+
+typedef struct {
+    uint64_t number;
+    uint64_t detail;
+    int64_t days;
+} vrbolist_days_answer;
+
+typedef struct {
+    uint64_t number;
+    uint64_t detail;
+    uint64_t entries;
+    uint64_t day;
+} vrbolist_image_answer;
+
+typedef struct {
+    uint64_t number;
+    uint64_t detail;
+    uint64_t kind;
+    uint64_t flags;
+    uint64_t length;
+    uint64_t offset;
+} vrbolist_entry_answer;
+
+typedef struct {
+    uint64_t number;
+    uint64_t detail;
+    uint64_t length;
+} vrbolist_write_answer;
+
+typedef struct {
+    uint64_t number;
+    uint64_t detail;
+    uint64_t length; /* how many places are used */
+    uint8_t places[VRBOLIST_PLACES];
+} vrbolist_chain_answer;
+
+/* Walks an item and counts its elements.
+ * Refusals: 3 at 0 for more than VRBOLIST_ITEM_LIMIT bytes, then 2 and 3 as the walk meets them. */
+vrbolist_walk_answer vrbolist_walk(const uint8_t *item, size_t item_len);
+
+/* Reads an item that is one INTEGER of at most 8 octets as a number.
+ * Refusals: those of the walk, then 1 for another element, then 8. */
+vrbolist_integer_answer vrbolist_integer(const uint8_t *item, size_t item_len);
+
+/* Judges a certificate in a role: VRBOLIST_KIND_ANCHOR, VRBOLIST_KIND_LINK or VRBOLIST_KIND_SIGNER.
+ * Refusals: 1 for another role, then those of the walk, then 4 with a rule of 1 to 14. */
+vrbolist_certificate_answer vrbolist_certificate(const uint8_t *item, size_t item_len, uint64_t role);
+
+/* Judges a revocation list.
+ * Refusals: those of the walk, then 4 with a rule of 1 to 8. */
+vrbolist_crl_answer vrbolist_crl(const uint8_t *item, size_t item_len);
+
+/* Counts the days from the first day to the second, below zero where the second is earlier.
+ * Refusals: 1 for a day that is not real or not of 1950 to 2099. */
+vrbolist_days_answer vrbolist_day_difference(uint64_t first, uint64_t second);
+
+/* Counts the days from the day of a revocation list's this-update to a day.
+ * Refusals: 1 for the day as above, then those of vrbolist_crl, then 1 for a this-update after 2099. */
+vrbolist_days_answer vrbolist_crl_age(const uint8_t *item, size_t item_len, uint64_t day);
+
+/* Judges a trust image and tells its number of entries and its day; items are not opened.
+ * Refusals: 5 with a rule of 1 to 7. */
+vrbolist_image_answer vrbolist_image(const uint8_t *image, size_t image_len);
+
+/* Judges a trust image that must be of a wanted day.
+ * Refusals: 1 for a wanted day that is not real or not of 1950 to 2099, then 5, then 6. */
+vrbolist_image_answer vrbolist_image_for_day(const uint8_t *image, size_t image_len, uint64_t wanted);
+
+/* Tells the entry of a trust image at a place, counted from 0.
+ * Refusals: 5, then 1 for a place that is not there. */
+vrbolist_entry_answer vrbolist_entry(const uint8_t *image, size_t image_len, uint64_t place);
+
+/* Writes a trust image of items that stand packed in `items`, with a kind, flags and a length for each, to the first bytes
+ * of `out`; its other bytes stay.
+ * Refusals: 1 where a kind, flags, length or the day is out of its range, there are more than VRBOLIST_PLACES items, the
+ * columns are not equally long or the lengths do not add up to items_len; then 3 at 0 for an image of more than
+ * VRBOLIST_IMAGE_LIMIT bytes; then 9. */
+vrbolist_write_answer vrbolist_write(const uint8_t *items, size_t items_len, const uint8_t *kinds, size_t kinds_len,
+                                     const uint8_t *flags, size_t flags_len, const uint32_t *lengths, size_t lengths_len,
+                                     uint64_t day, uint8_t *out, size_t out_len);
+
+/* Finds the best good chain from an enabled anchor to the document signer at the place `target`; `table` has a byte, 0 or 1,
+ * for each pair of entries, row by row: whether the entry of the row signed that of the column.
+ * Refusals: 5 for the image, then 1 for a table that is not of that form, a moment that is not real or not of 1950 to 2099
+ * or a place that has no document signer, then 7. */
+vrbolist_chain_answer vrbolist_chain(const uint8_t *image, size_t image_len, const uint8_t *table, size_t table_len,
+                                     uint64_t moment, uint64_t target);
+
+#ifdef __cplusplus
+}
+#endif
+
+#endif

@@ -1,0 +1,14 @@
+//! Asks two readers the same questions and compares number, detail, every
+//! other field and every lent byte.
+
+#![forbid(unsafe_code)]
+
+mod answer;
+mod compare;
+mod reader;
+mod show;
+
+pub use answer::Answer;
+pub use compare::{compare, run, Difference, Limits};
+pub use reader::{Library, Plain, Reader};
+pub use show::{hex, kind, show};

@@ -1,0 +1,47 @@
+//! Those who answer questions.
+
+use make::questions::Question;
+use vrbolist::answers;
+
+use crate::answer::Answer;
+
+/// Answers a question. `output` is what is lent to the writer, of the length that
+/// the question says. A reader keeps the question as it is.
+pub trait Reader {
+    fn answer(&self, question: &mut Question, output: &mut [u8]) -> Answer;
+}
+
+/// The proved library.
+pub struct Library;
+
+/// The plain reader.
+pub struct Plain;
+
+macro_rules! reader {
+    ($name:ident, $of:ident) => {
+        impl Reader for $name {
+            fn answer(&self, question: &mut Question, output: &mut [u8]) -> Answer {
+                match question {
+                    Question::Walk(item) => $of::walk(item).into(),
+                    Question::Integer(item) => $of::integer(item).into(),
+                    Question::Certificate(item, role) => $of::certificate(item, *role).into(),
+                    Question::Crl(item) => $of::crl(item).into(),
+                    Question::Days(first, second) => $of::day_difference(*first, *second).into(),
+                    Question::Age(item, day) => $of::crl_age(item, *day).into(),
+                    Question::Image(image) => $of::image(image).into(),
+                    Question::ImageForDay(image, wanted) => $of::image_for_day(image, *wanted).into(),
+                    Question::Entry(image, place) => $of::entry(image, *place).into(),
+                    Question::Write { items, kinds, flags, lengths, day, .. } => {
+                        $of::write(items, kinds, flags, lengths, *day, output).into()
+                    }
+                    Question::Chain { image, table, moment, target } => {
+                        $of::chain(image, table, *moment, *target).into()
+                    }
+                }
+            }
+        }
+    };
+}
+
+reader!(Library, answers);
+reader!(Plain, plain);

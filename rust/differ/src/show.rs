@@ -1,0 +1,53 @@
+//! Questions as text.
+
+use std::fmt::Write;
+
+use make::questions::Question;
+
+/// The kind of a question.
+pub fn kind(question: &Question) -> &'static str {
+    match question {
+        Question::Walk(_) => "walk",
+        Question::Integer(_) => "integer",
+        Question::Certificate(..) => "certificate",
+        Question::Crl(_) => "crl",
+        Question::Days(..) => "day difference",
+        Question::Age(..) => "crl age",
+        Question::Image(_) => "image",
+        Question::ImageForDay(..) => "image for day",
+        Question::Entry(..) => "entry",
+        Question::Write { .. } => "write",
+        Question::Chain { .. } => "chain",
+    }
+}
+
+/// Octets in hexadecimal.
+pub fn hex(octets: &[u8]) -> String {
+    let mut text = String::with_capacity(2 * octets.len());
+    for octet in octets {
+        let _ = write!(text, "{octet:02x}");
+    }
+    text
+}
+
+/// All arguments of a question, octets in hexadecimal.
+pub fn show(question: &Question) -> String {
+    match question {
+        Question::Walk(item) | Question::Integer(item) | Question::Crl(item) => format!("item {}", hex(item)),
+        Question::Certificate(item, role) => format!("role {role}, item {}", hex(item)),
+        Question::Days(first, second) => format!("first {first}, second {second}"),
+        Question::Age(item, day) => format!("day {day}, item {}", hex(item)),
+        Question::Image(image) => format!("image {}", hex(image)),
+        Question::ImageForDay(image, wanted) => format!("wanted {wanted}, image {}", hex(image)),
+        Question::Entry(image, place) => format!("place {place}, image {}", hex(image)),
+        Question::Write { items, kinds, flags, lengths, day, room } => format!(
+            "day {day}, room {room}, kinds {}, flags {}, lengths {lengths:?}, items {}",
+            hex(kinds),
+            hex(flags),
+            hex(items)
+        ),
+        Question::Chain { image, table, moment, target } => {
+            format!("moment {moment}, target {target}, table {}, image {}", hex(table), hex(image))
+        }
+    }
+}

@@ -1,0 +1,307 @@
+//! The comparison finds mistakes: each of these readers is the plain reader with
+//! one mistake, and is found out within the questions of one seed.
+
+#![forbid(unsafe_code)]
+
+use differ::{compare, run, Answer, Library, Limits, Plain, Reader};
+use make::questions::Question;
+use make::time::second_after;
+
+const SEED: u64 = 1;
+const COUNT: u64 = 60_000;
+
+/// The plain reader with a mistake.
+struct Planted(fn(&mut Question, &mut [u8]) -> Answer);
+
+impl Reader for Planted {
+    fn answer(&self, question: &mut Question, output: &mut [u8]) -> Answer {
+        (self.0)(question, output)
+    }
+}
+
+fn plain(question: &mut Question, output: &mut [u8]) -> Answer {
+    Plain.answer(question, output)
+}
+
+/// The library has to differ from the reader, in a question that `fits`.
+fn found(mistake: fn(&mut Question, &mut [u8]) -> Answer, fits: fn(&Question) -> bool) {
+    let limits = Limits { count: Some(COUNT), time: None };
+    let difference = run(&Library, &Planted(mistake), SEED, limits, |_, _| {}).expect_err("the mistake is not found");
+    assert!(fits(&difference.question), "{difference}");
+    assert_eq!(difference.seed, SEED);
+    println!("found at question {}", difference.index);
+    // The same question finds it again, and no mistake in the reader without it.
+    assert!(compare(&Library, &Planted(mistake), &difference.question).is_err());
+    assert!(compare(&Library, &Plain, &difference.question).is_ok());
+}
+
+#[test]
+fn serial_of_21_octets_passes() {
+    found(
+        |question, output| {
+            let told = plain(question, output);
+            match (&question, told) {
+                (Question::Certificate(item, role), Answer::Certificate(refused)) if told.head() == (4, 3) => {
+                    // The same certificate with one octet of its serial less.
+                    match without_an_octet(item) {
+                        Some(shorter) => plain(&mut Question::Certificate(shorter, *role), output),
+                        None => Answer::Certificate(refused),
+                    }
+                }
+                _ => told,
+            }
+        },
+        |question| matches!(question, Question::Certificate(..)),
+    );
+}
+
+/// Takes the last octet of a serial of 21 octets away, where both outer lengths have two octets.
+fn without_an_octet(item: &[u8]) -> Option<Vec<u8>> {
+    let mut item = item.to_vec();
+    let serial = item.get(13..15)?;
+    if item[1] != 0x82 || item[5] != 0x82 || serial != [2, 21] {
+        return None;
+    }
+    item.remove(35);
+    item[14] = 20;
+    for at in [2, 6] {
+        let length = u16::from_be_bytes([item[at], item[at + 1]]) - 1;
+        item[at..at + 2].copy_from_slice(&length.to_be_bytes());
+    }
+    Some(item)
+}
+
+#[test]
+fn the_last_of_equally_short_chains() {
+    found(
+        |question, output| match question {
+            Question::Chain { image, table, moment, target } => backwards(image, table, *moment, *target)
+                .map_or_else(|| plain::chain(image, table, *moment, *target).into(), Answer::Chain),
+            _ => plain(question, output),
+        },
+        |question| matches!(question, Question::Chain { .. }),
+    );
+}
+
+/// The chain in the image with its entries in the other order.
+fn backwards(image: &[u8], table: &[u8], moment: u64, target: u64) -> Option<plain::Chain> {
+    if plain::chain(image, table, moment, target).number != 0 {
+        return None;
+    }
+    let head = plain::image(image);
+    let n = head.entries as usize;
+    let (mut items, mut kinds, mut flags, mut lengths) = (Vec::new(), Vec::new(), Vec::new(), Vec::new());
+    for place in (0..head.entries).rev() {
+        let entry = plain::entry(image, place);
+        items.extend_from_slice(&image[entry.offset as usize..(entry.offset + entry.length) as usize]);
+        kinds.push(entry.kind as u8);
+        flags.push(entry.flags as u8);
+        lengths.push(entry.length as u32);
+    }
+    let mut turned = vec![0; image.len()];
+    plain::write(&items, &kinds, &flags, &lengths, head.day, &mut turned);
+    let table: Vec<u8> = table.iter().rev().copied().collect();
+    let mut told = plain::chain(&turned, &table, moment, (n - 1) as u64 - target);
+    for place in &mut told.places[..told.length as usize] {
+        *place = (n - 1) as u8 - *place;
+    }
+    Some(told)
+}
+
+#[test]
+fn the_last_moment_is_not_counted() {
+    found(
+        |question, output| match question {
+            Question::Chain { image, table, moment, target } => {
+                let told = plain::chain(image, table, *moment, *target);
+                match told.number {
+                    0 => plain::chain(image, table, second_after(*moment), *target).into(),
+                    _ => told.into(),
+                }
+            }
+            _ => plain(question, output),
+        },
+        |question| matches!(question, Question::Chain { .. }),
+    );
+}
+
+#[test]
+fn age_before_this_update_is_off_by_one() {
+    found(
+        |question, output| match (plain(question, output), question) {
+            (Answer::Days(told), Question::Age(..)) if told.days < 0 => {
+                Answer::Days(plain::Days { days: told.days + 1, ..told })
+            }
+            (told, _) => told,
+        },
+        |question| matches!(question, Question::Age(..)),
+    );
+}
+
+#[test]
+fn days_without_the_leap_day_of_2000() {
+    found(
+        |question, output| match (plain(question, output), question) {
+            (Answer::Days(told), Question::Days(first, second))
+                if told.number == 0 && *first < 20000229 && *second > 20000229 =>
+            {
+                Answer::Days(plain::Days { days: told.days - 1, ..told })
+            }
+            (told, _) => told,
+        },
+        |question| matches!(question, Question::Days(..)),
+    );
+}
+
+#[test]
+fn octets_after_the_item_are_told_at_the_last() {
+    found(
+        |question, output| match (plain(question, output), question) {
+            (Answer::Walk(told), Question::Walk(item))
+                if told.number == 2 && plain::walk(&item[..told.detail as usize]).number == 0 =>
+            {
+                Answer::Walk(plain::Walk { detail: item.len() as u64 - 1, ..told })
+            }
+            (told, _) => told,
+        },
+        |question| matches!(question, Question::Walk(_)),
+    );
+}
+
+#[test]
+fn a_refusal_tells_a_count() {
+    found(
+        |question, output| match plain(question, output) {
+            Answer::Walk(told) if told.number == 3 => Answer::Walk(plain::Walk { count: 1, ..told }),
+            told => told,
+        },
+        |question| matches!(question, Question::Walk(_)),
+    );
+}
+
+#[test]
+fn eight_octets_are_too_wide() {
+    found(
+        |question, output| match (plain(question, output), question) {
+            (Answer::Integer(told), Question::Integer(item)) if told.number == 0 && item.len() == 10 => {
+                Answer::Integer(plain::Integer { number: 8, detail: 0, value: 0 })
+            }
+            (told, _) => told,
+        },
+        |question| matches!(question, Question::Integer(_)),
+    );
+}
+
+#[test]
+fn a_role_is_cut_to_an_octet() {
+    found(
+        |question, output| match question {
+            Question::Certificate(item, role) => plain::certificate(item, *role & 0xFF).into(),
+            _ => plain(question, output),
+        },
+        |question| matches!(question, Question::Certificate(..)),
+    );
+}
+
+#[test]
+fn an_empty_key_identifier_is_told_as_absent() {
+    found(
+        |question, output| match plain(question, output) {
+            Answer::Certificate(mut told) => {
+                if told.subject_key_id_len == 0 {
+                    told.subject_key_id_at = 0;
+                }
+                if told.authority_key_id_len == 0 {
+                    told.authority_key_id_at = 0;
+                }
+                Answer::Certificate(told)
+            }
+            told => told,
+        },
+        |question| matches!(question, Question::Certificate(..)),
+    );
+}
+
+#[test]
+fn the_image_is_judged_before_the_wanted_day() {
+    found(
+        |question, output| match question {
+            Question::ImageForDay(image, wanted) => match plain::image(image) {
+                refused if refused.number != 0 => refused.into(),
+                _ => plain::image_for_day(image, *wanted).into(),
+            },
+            _ => plain(question, output),
+        },
+        |question| matches!(question, Question::ImageForDay(..)),
+    );
+}
+
+#[test]
+fn a_place_is_cut_to_an_octet() {
+    found(
+        |question, output| match question {
+            Question::Entry(image, place) => plain::entry(image, *place & 0xFF).into(),
+            _ => plain(question, output),
+        },
+        |question| matches!(question, Question::Entry(..)),
+    );
+}
+
+#[test]
+fn writing_touches_a_byte_beyond() {
+    found(
+        |question, output| {
+            let told = plain(question, output);
+            if let Answer::Write(plain::Written { number: 0, length, .. }) = told {
+                if let Some(beyond) = output.get_mut(length as usize) {
+                    *beyond ^= 1;
+                }
+            }
+            told
+        },
+        |question| matches!(question, Question::Write { .. }),
+    );
+}
+
+#[test]
+fn a_refused_writer_writes_what_fits() {
+    found(
+        |question, output| {
+            let told = plain(question, output);
+            if let (Answer::Write(plain::Written { number: 9, .. }), Question::Write { items, .. }) = (told, question) {
+                for (to, from) in output.iter_mut().zip(items) {
+                    *to = *from;
+                }
+            }
+            told
+        },
+        |question| matches!(question, Question::Write { .. }),
+    );
+}
+
+#[test]
+fn reading_changes_a_lent_byte() {
+    found(
+        |question, output| {
+            let told = plain(question, output);
+            if let (Question::Crl(item), (0, 0)) = (question, told.head()) {
+                item[0] ^= 1;
+            }
+            told
+        },
+        |question| matches!(question, Question::Crl(_)),
+    );
+}
+
+#[test]
+fn a_difference_is_told_in_full() {
+    let cut = Planted(|question, output| match plain(question, output) {
+        Answer::Integer(told) => Answer::Integer(plain::Integer { value: told.value & 0x7F, ..told }),
+        told => told,
+    });
+    let question = Question::Integer(vec![2, 1, 0x85]);
+    let text = compare(&Library, &cut, &question).expect_err("a difference").to_string();
+    for part in ["seed 0, question 0: integer", "value: -123", "value: 5", "item 020185"] {
+        assert!(text.contains(part), "{part} is missing in {text}");
+    }
+}

@@ -1,0 +1,522 @@
+/*
+ * Calls every function of libvrbolist.a, passing and refused, and checks every field of each answer.
+ *
+ *   vrbolist_test DATA    where DATA is the folder tests/data/made
+ *
+ * Prints a line for each check that failed, then `N passed, M failed`; exit status 1 if any failed. Every buffer lent to
+ * the library ends where a page begins that may not be touched, so that a byte read or written beyond it stops the test.
+ */
+#define _DEFAULT_SOURCE
+#include <stdio.h>
+#include <stdlib.h>
+#include <string.h>
+#include <sys/mman.h>
+#include <unistd.h>
+
+#include "vrbolist.h"
+
+#define MOMENT 20261115120000u
+#define DAY 20261115u
+#define FILL 0xA5
+#define LENT 512 /* most buffers lent in one run */
+
+static unsigned long passed, failed;
+
+static void check(int line, const char *what, long long is, long long wanted) {
+    if (is == wanted) {
+        passed++;
+    } else {
+        failed++;
+        printf("line %d: %s is %lld, not %lld\n", line, what, is, wanted);
+    }
+}
+
+#define FIELD(answer, field, wanted) check(line, #field, (long long)(answer).field, (long long)(wanted))
+#define HEAD(answer, number_wanted, detail_wanted) \
+    (FIELD(answer, number, number_wanted), FIELD(answer, detail, detail_wanted))
+#define CHECK(what) check(__LINE__, #what, (what) ? 1 : 0, 1)
+
+/* Buffers. */
+
+struct lent {
+    uint8_t *at;
+    uint8_t *copy;
+    size_t len;
+};
+static struct lent lent[LENT];
+static size_t lent_count;
+
+static void stop(const char *what) {
+    perror(what);
+    exit(2);
+}
+
+/* Room for `len` bytes that ends at a page that may not be touched. */
+static uint8_t *guarded(size_t len) {
+    size_t page = (size_t)sysconf(_SC_PAGESIZE);
+    size_t size = (len + page - 1) / page * page;
+    uint8_t *start = mmap(NULL, size + page, PROT_READ | PROT_WRITE, MAP_PRIVATE | MAP_ANONYMOUS, -1, 0);
+    if (start == MAP_FAILED || mprotect(start + size, page, PROT_NONE) != 0) {
+        stop("guarded");
+    }
+    return start + size - len;
+}
+
+/* A guarded copy that the library may read; `all_kept` says whether it stayed as it is. */
+static const uint8_t *lend(const void *bytes, size_t len) {
+    struct lent *one = &lent[lent_count++];
+    if (lent_count > LENT || (one->copy = malloc(len + 1)) == NULL) {
+        stop("lend");
+    }
+    one->at = guarded(len);
+    one->len = len;
+    if (len > 0) {
+        memcpy(one->at, bytes, len);
+        memcpy(one->copy, bytes, len);
+    }
+    return one->at;
+}
+
+static int all_kept(void) {
+    size_t i;
+    for (i = 0; i < lent_count; i++) {
+        if (memcmp(lent[i].at, lent[i].copy, lent[i].len) != 0) {
+            return 0;
+        }
+    }
+    return 1;
+}
+
+static uint8_t *output(size_t len) {
+    uint8_t *out = guarded(len);
+    memset(out, FILL, len);
+    return out;
+}
+
+static int filled(const uint8_t *from, size_t len) {
+    size_t i;
+    for (i = 0; i < len; i++) {
+        if (from[i] != FILL) {
+            return 0;
+        }
+    }
+    return 1;
+}
+
+struct item {
+    const uint8_t *at;
+    size_t len;
+};
+
+static struct item read_item(const char *folder, const char *name) {
+    static uint8_t bytes[VRBOLIST_ITEM_LIMIT];
+    char path[4096];
+    struct item item;
+    FILE *file;
+    snprintf(path, sizeof path, "%s/%s", folder, name);
+    file = fopen(path, "rb");
+    if (file == NULL) {
+        stop(path);
+    }
+    item.len = fread(bytes, 1, sizeof bytes, file);
+    fclose(file);
+    item.at = lend(bytes, item.len);
+    return item;
+}
+
+/* Whether a part of an item is these bytes. */
+static int part_is(struct item item, uint64_t at, uint64_t len, const void *wanted, size_t wanted_len) {
+    return len == wanted_len && at <= item.len && len <= item.len - at && memcmp(item.at + at, wanted, wanted_len) == 0;
+}
+
+/* Walk. */
+
+static void walk_is(int line, vrbolist_walk_answer answer, uint64_t number, uint64_t detail, uint64_t count) {
+    HEAD(answer, number, detail);
+    FIELD(answer, count, count);
+}
+
+#define WALK(bytes, number, detail, count) \
+    walk_is(__LINE__, vrbolist_walk(lend(bytes, sizeof bytes), sizeof bytes), number, detail, count)
+
+static void walks(void) {
+    static const uint8_t two[] = {0x30, 3, 2, 1, 5}, after[] = {5, 0, 0}, inside[] = {0x30, 3, 2, 1, 5, 0xFF},
+                         boolean[] = {0x30, 3, 1, 1, 1}, missing[] = {0x30};
+    static uint8_t deep[34], big[VRBOLIST_ITEM_LIMIT + 1];
+    size_t i;
+    WALK(two, 0, 0, 2);
+    WALK(after, VRBOLIST_DER, 2, 0);
+    WALK(inside, VRBOLIST_DER, 5, 0);
+    WALK(boolean, VRBOLIST_DER, 2, 0);
+    WALK(missing, VRBOLIST_DER, 0, 0);
+    walk_is(__LINE__, vrbolist_walk(NULL, 0), VRBOLIST_DER, 0, 0);
+    for (i = 0; i < 17; i++) {
+        deep[2 * i] = 0x30;
+        deep[2 * i + 1] = (uint8_t)(32 - 2 * i);
+    }
+    WALK(deep, VRBOLIST_LIMIT, 32, 0);
+    WALK(big, VRBOLIST_LIMIT, 0, 0);
+}
+
+/* Numbers. */
+
+static void integer_is(int line, vrbolist_integer_answer answer, uint64_t number, uint64_t detail, int64_t value) {
+    HEAD(answer, number, detail);
+    FIELD(answer, value, value);
+}
+
+#define INTEGER(bytes, number, detail, value) \
+    integer_is(__LINE__, vrbolist_integer(lend(bytes, sizeof bytes), sizeof bytes), number, detail, value)
+
+static void integers(void) {
+    static const uint8_t positive[] = {2, 2, 0, 0x80}, negative[] = {2, 1, 0x80},
+                         most[] = {2, 8, 0x7F, 0xFF, 0xFF, 0xFF, 0xFF, 0xFF, 0xFF, 0xFF},
+                         least[] = {2, 8, 0x80, 0, 0, 0, 0, 0, 0, 0}, wide[] = {2, 9, 0, 0x80, 0, 0, 0, 0, 0, 0, 0},
+                         other[] = {0x30, 0}, padded[] = {2, 2, 0, 1};
+    INTEGER(positive, 0, 0, 128);
+    INTEGER(negative, 0, 0, -128);
+    INTEGER(most, 0, 0, INT64_MAX);
+    INTEGER(least, 0, 0, INT64_MIN);
+    INTEGER(wide, VRBOLIST_WIDE, 0, 0);
+    INTEGER(other, VRBOLIST_ARGUMENT, 0, 0);
+    INTEGER(padded, VRBOLIST_DER, 0, 0);
+    integer_is(__LINE__, vrbolist_integer(NULL, 0), VRBOLIST_DER, 0, 0);
+}
+
+/* Days. */
+
+static void days_are(int line, vrbolist_days_answer answer, uint64_t number, uint64_t detail, int64_t days) {
+    HEAD(answer, number, detail);
+    FIELD(answer, days, days);
+}
+
+static void days(struct item crl, struct item anchor) {
+    days_are(__LINE__, vrbolist_day_difference(20201231, 20210101), 0, 0, 1);
+    days_are(__LINE__, vrbolist_day_difference(20210101, 20201231), 0, 0, -1);
+    days_are(__LINE__, vrbolist_day_difference(19500101, 20991231), 0, 0, 54786);
+    days_are(__LINE__, vrbolist_day_difference(20230229, 20230301), VRBOLIST_ARGUMENT, 0, 0);
+    days_are(__LINE__, vrbolist_day_difference(20230301, 21000101), VRBOLIST_ARGUMENT, 0, 0);
+    days_are(__LINE__, vrbolist_day_difference(0, UINT64_MAX), VRBOLIST_ARGUMENT, 0, 0);
+    days_are(__LINE__, vrbolist_crl_age(crl.at, crl.len, DAY), 0, 0, 14);
+    days_are(__LINE__, vrbolist_crl_age(crl.at, crl.len, 20261031), 0, 0, -1);
+    days_are(__LINE__, vrbolist_crl_age(crl.at, crl.len, 20261131), VRBOLIST_ARGUMENT, 0, 0);
+    days_are(__LINE__, vrbolist_crl_age(NULL, 0, UINT64_MAX), VRBOLIST_ARGUMENT, 0, 0);
+    days_are(__LINE__, vrbolist_crl_age(anchor.at, anchor.len, DAY), VRBOLIST_PROFILE, 1, 0);
+    days_are(__LINE__, vrbolist_crl_age(NULL, 0, DAY), VRBOLIST_DER, 0, 0);
+}
+
+/* Certificates and revocation lists. */
+
+/* The name of the country UT's authority. */
+static const uint8_t authority[] =
+    "\x30\x4c\x31\x0b\x30\x09\x06\x03\x55\x04\x06\x13\x02UT\x31\x0f\x30\x0d\x06\x03\x55\x04\x0a\x0c\x06Utopia"
+    "\x31\x2c\x30\x2a\x06\x03\x55\x04\x03\x0c\x23" "Country Signing Authority of Utopia";
+#define AUTHORITY_LEN (sizeof authority - 1)
+
+static void certificate_refused(int line, vrbolist_certificate_answer answer, uint64_t number, uint64_t detail) {
+    HEAD(answer, number, detail);
+    FIELD(answer, start, 0);
+    FIELD(answer, end, 0);
+    FIELD(answer, issuer_at, 0);
+    FIELD(answer, issuer_len, 0);
+    FIELD(answer, subject_at, 0);
+    FIELD(answer, subject_len, 0);
+    FIELD(answer, key_at, 0);
+    FIELD(answer, key_len, 0);
+    FIELD(answer, serial_at, 0);
+    FIELD(answer, serial_len, 0);
+    FIELD(answer, subject_key_id_at, 0);
+    FIELD(answer, subject_key_id_len, 0);
+    FIELD(answer, authority_key_id_at, 0);
+    FIELD(answer, authority_key_id_len, 0);
+    FIELD(answer, country[0], 0);
+    FIELD(answer, country[1], 0);
+}
+
+/* What both certificates have in common: the order of their parts, and the anchor's key identifier. */
+static void certificate_parts(int line, vrbolist_certificate_answer answer, struct item item, const uint8_t *anchor_id) {
+    HEAD(answer, 0, 0);
+    FIELD(answer, country[0], 'U');
+    FIELD(answer, country[1], 'T');
+    /* Two headers of 4 octets, the version's 5, the serial's header. */
+    FIELD(answer, serial_at, 4 + 4 + 5 + 2);
+    check(line, "issuer", part_is(item, answer.issuer_at, answer.issuer_len, authority, AUTHORITY_LEN), 1);
+    /* Between issuer and subject stand two UTCTimes, each of 15 octets, in a SEQUENCE. */
+    FIELD(answer, subject_at, answer.issuer_at + answer.issuer_len + 32);
+    FIELD(answer, key_at, answer.subject_at + answer.subject_len);
+    check(line, "key", answer.key_at < item.len && item.at[answer.key_at] == 0x30, 1);
+    check(line, "authority_key_id",
+          part_is(item, answer.authority_key_id_at, answer.authority_key_id_len, anchor_id, 20), 1);
+}
+
+static void certificates(struct item anchor, struct item signer) {
+    int line = __LINE__;
+    vrbolist_certificate_answer a = vrbolist_certificate(anchor.at, anchor.len, VRBOLIST_KIND_ANCHOR);
+    vrbolist_certificate_answer s = vrbolist_certificate(signer.at, signer.len, VRBOLIST_KIND_SIGNER);
+    const uint8_t *anchor_id = anchor.at + (a.subject_key_id_at < anchor.len ? a.subject_key_id_at : 0);
+    certificate_parts(line, a, anchor, anchor_id);
+    FIELD(a, start, 20161201000000);
+    FIELD(a, end, 20261130235959);
+    CHECK(part_is(anchor, a.serial_at, a.serial_len, "\x01", 1));
+    CHECK(part_is(anchor, a.subject_at, a.subject_len, authority, AUTHORITY_LEN));
+    /* A key of RSA with 3,072 bits: its length in 2 octets, 4 octets of header. */
+    CHECK(part_is(anchor, a.key_at, 4, "\x30\x82\x01\xa2", 4));
+    FIELD(a, key_len, 0x1a2 + 4);
+    FIELD(a, subject_key_id_len, 20);
+    CHECK(part_is(anchor, a.subject_key_id_at - 2, 2, "\x04\x14", 2));
+    certificate_parts(line, s, signer, anchor_id);
+    FIELD(s, start, 20210301000000);
+    FIELD(s, end, 20310228235959);
+    CHECK(s.serial_len > 0 && signer.at[s.serial_at - 1] == s.serial_len);
+    CHECK(signer.at[s.subject_at] == 0x30 && signer.at[s.subject_at + 1] + 2u == s.subject_len);
+    /* A key of P-256: 2 octets of header. */
+    CHECK(part_is(signer, s.key_at, 2, "\x30\x59", 2));
+    FIELD(s, key_len, 0x59 + 2);
+    CHECK(s.subject_key_id_len == 0 || part_is(signer, s.subject_key_id_at - 2, 2, "\x04\x14", 2));
+
+    certificate_refused(__LINE__, vrbolist_certificate(signer.at, signer.len, VRBOLIST_KIND_ANCHOR), VRBOLIST_PROFILE, 9);
+    certificate_refused(__LINE__, vrbolist_certificate(anchor.at, anchor.len, VRBOLIST_KIND_SIGNER), VRBOLIST_PROFILE, 9);
+    certificate_refused(__LINE__, vrbolist_certificate(anchor.at, anchor.len - 1, VRBOLIST_KIND_ANCHOR), VRBOLIST_DER, 0);
+    certificate_refused(__LINE__, vrbolist_certificate(anchor.at, anchor.len, 0), VRBOLIST_ARGUMENT, 0);
+    certificate_refused(__LINE__, vrbolist_certificate(anchor.at, anchor.len, VRBOLIST_KIND_CRL), VRBOLIST_ARGUMENT, 0);
+    certificate_refused(__LINE__, vrbolist_certificate(anchor.at, anchor.len, UINT64_MAX), VRBOLIST_ARGUMENT, 0);
+    certificate_refused(__LINE__, vrbolist_certificate(NULL, 0, UINT64_MAX), VRBOLIST_ARGUMENT, 0);
+    certificate_refused(__LINE__, vrbolist_certificate(NULL, 0, VRBOLIST_KIND_LINK), VRBOLIST_DER, 0);
+}
+
+static void crl_refused(int line, vrbolist_crl_answer answer, uint64_t number, uint64_t detail) {
+    HEAD(answer, number, detail);
+    FIELD(answer, this_update, 0);
+    FIELD(answer, next_update, 0);
+    FIELD(answer, entries, 0);
+    FIELD(answer, issuer_at, 0);
+    FIELD(answer, issuer_len, 0);
+    FIELD(answer, country[0], 0);
+    FIELD(answer, country[1], 0);
+}
+
+static void crls(struct item crl, struct item anchor) {
+    int line = __LINE__;
+    vrbolist_crl_answer answer = vrbolist_crl(crl.at, crl.len);
+    HEAD(answer, 0, 0);
+    FIELD(answer, this_update, 20261101060000);
+    FIELD(answer, next_update, 20261201060000);
+    FIELD(answer, entries, 2);
+    CHECK(part_is(crl, answer.issuer_at, answer.issuer_len, authority, AUTHORITY_LEN));
+    FIELD(answer, country[0], 'U');
+    FIELD(answer, country[1], 'T');
+    crl_refused(__LINE__, vrbolist_crl(anchor.at, anchor.len), VRBOLIST_PROFILE, 1);
+    crl_refused(__LINE__, vrbolist_crl(crl.at, crl.len - 1), VRBOLIST_DER, 0);
+    crl_refused(__LINE__, vrbolist_crl(NULL, 0), VRBOLIST_DER, 0);
+}
+
+/* Images. */
+
+static void image_is(int line, vrbolist_image_answer answer, uint64_t number, uint64_t detail, uint64_t entries,
+                     uint64_t day) {
+    HEAD(answer, number, detail);
+    FIELD(answer, entries, entries);
+    FIELD(answer, day, day);
+}
+
+static void entry_is(int line, vrbolist_entry_answer answer, uint64_t kind, uint64_t flags, uint64_t length,
+                     uint64_t offset) {
+    HEAD(answer, 0, 0);
+    FIELD(answer, kind, kind);
+    FIELD(answer, flags, flags);
+    FIELD(answer, length, length);
+    FIELD(answer, offset, offset);
+}
+
+static void entry_refused(int line, vrbolist_entry_answer answer, uint64_t number, uint64_t detail) {
+    HEAD(answer, number, detail);
+    FIELD(answer, kind, 0);
+    FIELD(answer, flags, 0);
+    FIELD(answer, length, 0);
+    FIELD(answer, offset, 0);
+}
+
+static void write_is(int line, vrbolist_write_answer answer, uint64_t number, uint64_t detail, uint64_t length) {
+    HEAD(answer, number, detail);
+    FIELD(answer, length, length);
+}
+
+static void small_images(void) {
+    static const uint8_t empty[] = {0, 0, 0, 0, 0, 0, 0, 1, 0x01, 0x35, 0x28, 0xfb};
+    static const uint8_t version[] = {0, 0, 0, 0, 0, 0, 0, 2, 0x01, 0x35, 0x28, 0xfb};
+    const uint8_t *good = lend(empty, sizeof empty), *bad = lend(version, sizeof version);
+    uint8_t *out = output(20);
+    image_is(__LINE__, vrbolist_image(good, 12), 0, 0, 0, DAY);
+    image_is(__LINE__, vrbolist_image(good, 11), VRBOLIST_IMAGE, 1, 0, 0);
+    image_is(__LINE__, vrbolist_image(bad, 12), VRBOLIST_IMAGE, 2, 0, 0);
+    image_is(__LINE__, vrbolist_image(NULL, 0), VRBOLIST_IMAGE, 1, 0, 0);
+    image_is(__LINE__, vrbolist_image_for_day(good, 12, DAY), 0, 0, 0, DAY);
+    image_is(__LINE__, vrbolist_image_for_day(good, 12, DAY - 1), VRBOLIST_DAY, 0, 0, 0);
+    image_is(__LINE__, vrbolist_image_for_day(good, 12, 20261131), VRBOLIST_ARGUMENT, 0, 0, 0);
+    image_is(__LINE__, vrbolist_image_for_day(bad, 12, UINT64_MAX), VRBOLIST_ARGUMENT, 0, 0, 0);
+    image_is(__LINE__, vrbolist_image_for_day(bad, 12, DAY), VRBOLIST_IMAGE, 2, 0, 0);
+    image_is(__LINE__, vrbolist_image_for_day(NULL, 0, DAY), VRBOLIST_IMAGE, 1, 0, 0);
+    entry_refused(__LINE__, vrbolist_entry(good, 12, 0), VRBOLIST_ARGUMENT, 0);
+    entry_refused(__LINE__, vrbolist_entry(bad, 12, 0), VRBOLIST_IMAGE, 2);
+    entry_refused(__LINE__, vrbolist_entry(NULL, 0, UINT64_MAX), VRBOLIST_IMAGE, 1);
+    write_is(__LINE__, vrbolist_write(NULL, 0, NULL, 0, NULL, 0, NULL, 0, DAY, NULL, 0), VRBOLIST_SHORT, 0, 0);
+    write_is(__LINE__, vrbolist_write(NULL, 0, NULL, 0, NULL, 0, NULL, 0, UINT64_MAX, NULL, 0), VRBOLIST_ARGUMENT, 0, 0);
+    write_is(__LINE__, vrbolist_write(NULL, 0, NULL, 0, NULL, 0, NULL, 0, DAY, out, 11), VRBOLIST_SHORT, 0, 0);
+    CHECK(filled(out, 20));
+    write_is(__LINE__, vrbolist_write(NULL, 0, NULL, 0, NULL, 0, NULL, 0, DAY, out, 20), 0, 0, 12);
+    CHECK(memcmp(out, empty, 12) == 0);
+    CHECK(filled(out + 12, 8));
+}
+
+/* An image that would have more than 262,144 bytes. */
+static void long_image(void) {
+    static uint8_t bytes[16 * VRBOLIST_ITEM_LIMIT];
+    static const uint8_t none[16];
+    uint8_t kind[16];
+    uint32_t length[16];
+    const uint8_t *items = lend(bytes, sizeof bytes), *kinds, *flags = lend(none, 16);
+    const uint32_t *lengths;
+    uint8_t *out = output(VRBOLIST_IMAGE_LIMIT + 1024);
+    size_t i;
+    for (i = 0; i < 16; i++) {
+        kind[i] = VRBOLIST_KIND_CRL;
+        length[i] = VRBOLIST_ITEM_LIMIT;
+    }
+    kinds = lend(kind, 16);
+    lengths = (const uint32_t *)(const void *)lend(length, sizeof length);
+    write_is(__LINE__,
+             vrbolist_write(items, sizeof bytes, kinds, 16, flags, 16, lengths, 16, DAY, out, VRBOLIST_IMAGE_LIMIT + 1024),
+             VRBOLIST_LIMIT, 0, 0);
+    CHECK(filled(out, VRBOLIST_IMAGE_LIMIT + 1024));
+    length[15] = VRBOLIST_ITEM_LIMIT - 8 * 16 - 12;
+    lengths = (const uint32_t *)(const void *)lend(length, sizeof length);
+    write_is(__LINE__,
+             vrbolist_write(items, sizeof bytes - 8 * 16 - 12, kinds, 16, flags, 16, lengths, 16, DAY, out,
+                            VRBOLIST_IMAGE_LIMIT + 1024),
+             0, 0, VRBOLIST_IMAGE_LIMIT);
+    CHECK(filled(out + VRBOLIST_IMAGE_LIMIT, 1024));
+    image_is(__LINE__, vrbolist_image(out, VRBOLIST_IMAGE_LIMIT), 0, 0, 16, DAY);
+}
+
+/* Writes the image of anchor, signer and CRL, with every refusal on the way, and gives a lent copy of it. */
+static struct item three(struct item anchor, struct item signer, struct item crl) {
+    static uint8_t packed[3 * VRBOLIST_ITEM_LIMIT];
+    static const uint8_t kind[] = {1, 3, 4}, flag[] = {1, 0, 0}, kind_wrong[] = {1, 3, 5}, flag_wrong[] = {1, 1, 0};
+    const uint8_t *items, *kinds = lend(kind, 3), *flags = lend(flag, 3), *kinds_wrong = lend(kind_wrong, 3),
+                          *flags_wrong = lend(flag_wrong, 3);
+    const uint32_t *lengths, *lengths_wrong;
+    uint32_t length[3], length_wrong[3];
+    size_t items_len = anchor.len + signer.len + crl.len, image_len = items_len + 3 * 8 + 12, room = image_len + 50;
+    uint8_t *out = output(room);
+    struct item image;
+    memcpy(packed, anchor.at, anchor.len);
+    memcpy(packed + anchor.len, signer.at, signer.len);
+    memcpy(packed + anchor.len + signer.len, crl.at, crl.len);
+    items = lend(packed, items_len);
+    length[0] = (uint32_t)anchor.len;
+    length[1] = (uint32_t)signer.len;
+    length[2] = (uint32_t)crl.len;
+    lengths = (const uint32_t *)(const void *)lend(length, sizeof length);
+    memcpy(length_wrong, length, sizeof length);
+    length_wrong[2] += 65536;
+    lengths_wrong = (const uint32_t *)(const void *)lend(length_wrong, sizeof length_wrong);
+
+#define WRITE(items_n, kinds, kinds_n, flags, flags_n, lengths, lengths_n, day, room, number, length) \
+    write_is(__LINE__, vrbolist_write(items, items_n, kinds, kinds_n, flags, flags_n, lengths, lengths_n, day, out, room), \
+             number, 0, length)
+    WRITE(items_len, kinds_wrong, 3, flags, 3, lengths, 3, DAY, room, VRBOLIST_ARGUMENT, 0);
+    WRITE(items_len, kinds, 3, flags_wrong, 3, lengths, 3, DAY, room, VRBOLIST_ARGUMENT, 0);
+    WRITE(items_len, kinds, 3, flags, 3, lengths_wrong, 3, DAY, room, VRBOLIST_ARGUMENT, 0);
+    WRITE(items_len, kinds, 3, flags, 3, lengths, 3, 20260229, room, VRBOLIST_ARGUMENT, 0);
+    WRITE(items_len, kinds, 3, flags, 3, lengths, 3, UINT64_MAX, room, VRBOLIST_ARGUMENT, 0);
+    WRITE(items_len, kinds, 2, flags, 3, lengths, 3, DAY, room, VRBOLIST_ARGUMENT, 0);
+    WRITE(items_len, kinds, 3, flags, 2, lengths, 3, DAY, room, VRBOLIST_ARGUMENT, 0);
+    WRITE(items_len, kinds, 3, flags, 3, lengths, 2, DAY, room, VRBOLIST_ARGUMENT, 0);
+    WRITE(items_len - 1, kinds, 3, flags, 3, lengths, 3, DAY, room, VRBOLIST_ARGUMENT, 0);
+    WRITE(items_len, kinds, 3, flags, 3, lengths, 3, DAY, image_len - 1, VRBOLIST_SHORT, 0);
+    WRITE(items_len, kinds, 3, flags, 3, lengths, 3, DAY, 0, VRBOLIST_SHORT, 0);
+    CHECK(filled(out, room));
+    WRITE(items_len, kinds, 3, flags, 3, lengths, 3, DAY, room, 0, image_len);
+    CHECK(memcmp(out, packed, items_len) == 0);
+    CHECK(filled(out + image_len, room - image_len));
+    memset(out, FILL, room);
+    /* The image fills the output to its last byte. */
+    out += room - image_len;
+    WRITE(items_len, kinds, 3, flags, 3, lengths, 3, DAY, image_len, 0, image_len);
+    image.at = lend(out, image_len);
+    image.len = image_len;
+    return image;
+}
+
+static void entries(struct item image, struct item anchor, struct item signer, struct item crl) {
+    image_is(__LINE__, vrbolist_image(image.at, image.len), 0, 0, 3, DAY);
+    image_is(__LINE__, vrbolist_image_for_day(image.at, image.len, DAY), 0, 0, 3, DAY);
+    image_is(__LINE__, vrbolist_image_for_day(image.at, image.len, DAY + 1), VRBOLIST_DAY, 0, 0, 0);
+    image_is(__LINE__, vrbolist_image(image.at, image.len - 1), VRBOLIST_IMAGE, 2, 0, 0);
+    image_is(__LINE__, vrbolist_image(image.at + 1, image.len - 1), VRBOLIST_IMAGE, 5, 0, 0);
+    entry_is(__LINE__, vrbolist_entry(image.at, image.len, 0), VRBOLIST_KIND_ANCHOR, 1, anchor.len, 0);
+    entry_is(__LINE__, vrbolist_entry(image.at, image.len, 1), VRBOLIST_KIND_SIGNER, 0, signer.len, anchor.len);
+    entry_is(__LINE__, vrbolist_entry(image.at, image.len, 2), VRBOLIST_KIND_CRL, 0, crl.len, anchor.len + signer.len);
+    entry_refused(__LINE__, vrbolist_entry(image.at, image.len, 3), VRBOLIST_ARGUMENT, 0);
+    entry_refused(__LINE__, vrbolist_entry(image.at, image.len, UINT64_MAX), VRBOLIST_ARGUMENT, 0);
+    entry_refused(__LINE__, vrbolist_entry(image.at + 1, image.len - 1, 3), VRBOLIST_IMAGE, 5);
+}
+
+/* Chains. */
+
+static void chain_is(int line, vrbolist_chain_answer answer, uint64_t number, uint64_t detail, uint64_t length,
+                     const uint8_t *places) {
+    size_t i;
+    HEAD(answer, number, detail);
+    FIELD(answer, length, length);
+    for (i = 0; i < VRBOLIST_PLACES; i++) {
+        FIELD(answer, places[i], i < length ? places[i] : VRBOLIST_NO_PLACE);
+    }
+}
+
+static void chains(struct item image) {
+    static const uint8_t both[] = {1, 1, 1, 0, 0, 0, 0, 0, 0}, no_crl[] = {1, 1, 0, 0, 0, 0, 0, 0, 0},
+                         no_signer[] = {1, 0, 1, 0, 0, 0, 0, 0, 0}, two[] = {1, 1, 1, 0, 0, 0, 0, 0, 2}, places[] = {0, 1};
+    const uint8_t *table = lend(both, 9);
+#define CHAIN(image, image_n, table, table_n, moment, target, number, detail, length) \
+    chain_is(__LINE__, vrbolist_chain(image, image_n, table, table_n, moment, target), number, detail, length, places)
+    CHAIN(image.at, image.len, table, 9, MOMENT, 1, 0, 0, 2);
+    CHAIN(image.at, image.len, table, 9, 20261101060000, 1, 0, 0, 2);
+    CHAIN(image.at, image.len, table, 9, 20261101055959, 1, VRBOLIST_CHAIN, 0, 0);
+    CHAIN(image.at, image.len, lend(no_crl, 9), 9, MOMENT, 1, VRBOLIST_CHAIN, 0, 0);
+    CHAIN(image.at, image.len, lend(no_signer, 9), 9, MOMENT, 1, VRBOLIST_CHAIN, 0, 0);
+    CHAIN(image.at, image.len, lend(two, 9), 9, MOMENT, 1, VRBOLIST_ARGUMENT, 0, 0);
+    CHAIN(image.at, image.len, table, 8, MOMENT, 1, VRBOLIST_ARGUMENT, 0, 0);
+    CHAIN(image.at, image.len, NULL, 0, MOMENT, 1, VRBOLIST_ARGUMENT, 0, 0);
+    CHAIN(image.at, image.len, table, 9, 20261115126000, 1, VRBOLIST_ARGUMENT, 0, 0);
+    CHAIN(image.at, image.len, table, 9, UINT64_MAX, 1, VRBOLIST_ARGUMENT, 0, 0);
+    CHAIN(image.at, image.len, table, 9, MOMENT, 0, VRBOLIST_ARGUMENT, 0, 0);
+    CHAIN(image.at, image.len, table, 9, MOMENT, 3, VRBOLIST_ARGUMENT, 0, 0);
+    CHAIN(image.at, image.len, table, 9, MOMENT, UINT64_MAX, VRBOLIST_ARGUMENT, 0, 0);
+    CHAIN(image.at + 1, image.len - 1, table, 9, UINT64_MAX, 3, VRBOLIST_IMAGE, 5, 0);
+    CHAIN(NULL, 0, NULL, 0, 0, 0, VRBOLIST_IMAGE, 1, 0);
+}
+
+int main(int argc, char **argv) {
+    struct item anchor, signer, crl, image;
+    if (argc != 2) {
+        fprintf(stderr, "usage: vrbolist_test DATA\n");
+        return 2;
+    }
+    anchor = read_item(argv[1], "ut-anchor-1.der");
+    signer = read_item(argv[1], "ut-signer-1.der");
+    crl = read_item(argv[1], "ut-crl-yesterday.der");
+    walks();
+    integers();
+    days(crl, anchor);
+    certificates(anchor, signer);
+    crls(crl, anchor);
+    small_images();
+    long_image();
+    image = three(anchor, signer, crl);
+    entries(image, anchor, signer, crl);
+    chains(image);
+    CHECK(all_kept());
+    printf("%lu passed, %lu failed\n", passed, failed);
+    return failed > 0;
+}
