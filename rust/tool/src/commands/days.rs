@@ -1,0 +1,47 @@
+//! `vrbolist days`: days from one day to another.
+
+use super::Command;
+use crate::answer::{status, Answer, Stop};
+use crate::args::{self, Given, Takes};
+use crate::explain;
+use crate::json::object;
+use crate::text::day;
+
+pub const COMMAND: Command = Command {
+    name: "days",
+    help: "\
+vrbolist days A B [--json]
+
+The number of days from day A to day B, below zero where B is earlier. Days are YYYYMMDD, of 1950 to
+2099.
+
+Example:
+  vrbolist days 20240228 20240301
+",
+    takes: Takes { alone: &["A", "B"], options: &[], switches: &[] },
+    run,
+};
+
+fn run(given: &Given) -> Result<Answer, Stop> {
+    let first = args::number(given.word(0), "day YYYYMMDD")?;
+    let second = args::number(given.word(1), "day YYYYMMDD")?;
+    let base = object! { "command": "days", "first": first, "second": second };
+    Ok(match vrbolist::day_difference(first, second) {
+        Ok(days) => Answer {
+            status: 0,
+            text: format!("{days}  days from {} to {}\n", day(first), day(second)),
+            json: base.with(object! { "passed": true, "days": days }),
+        },
+        Err(refusal) => {
+            let words = unreal(&[first, second]);
+            let json = base.with(object! { "passed": false, "refusal": explain::json(refusal, &words) });
+            Answer { status: status(refusal), text: explain::text(refusal, &words), json }
+        }
+    })
+}
+
+/// A sentence for each number that the library takes for no day.
+pub fn unreal(days: &[u64]) -> Vec<String> {
+    let wrong = days.iter().filter(|day| vrbolist::day_difference(**day, **day).is_err());
+    wrong.map(|day| format!("{day} is not a real day of 1950 to 2099.")).collect()
+}
