@@ -56,7 +56,7 @@ pub fn read(words: &[OsString], takes: &Takes) -> Result<Given, Stop> {
             given.alone.extend(rest.by_ref().cloned());
         } else if shown == "-h" {
             given.switches.push("--help");
-        } else if !shown.starts_with("--") {
+        } else if !shown.starts_with('-') || shown == "-" {
             given.alone.push(word.clone());
         } else if let Some(name) = known(&shown, takes.switches).or_else(|| known(&shown, ALWAYS)) {
             given.switches.push(name);

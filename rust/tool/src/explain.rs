@@ -93,7 +93,10 @@ pub fn short(refusal: Refusal) -> String {
 pub fn paragraphs(judged: Judged, refusal: Refusal, bytes: &[u8]) -> Vec<String> {
     match refusal.number {
         2 | 3 => at_byte(refusal, bytes),
-        4 => vec![format!("Broken is rule {} of the {} profile.", refusal.detail, profile(judged)), said(judged, refusal)],
+        4 => vec![
+            format!("Broken is rule {} of the {} profile.", refusal.detail, profile(judged)),
+            said(judged, refusal),
+        ],
         5 => vec![format!("Broken is rule {} of the trust image.", refusal.detail), said(judged, refusal)],
         _ => vec![refusal.to_string()],
     }

@@ -77,7 +77,8 @@ fn length(held: &[u8]) -> Option<String> {
         [form, ..] => return Some(format!("length form {form:02X} is not taken: 81 and 82 are the longest")),
     };
     let left = held.len().saturating_sub(header);
-    (length > left).then(|| format!("its length is {length}, but what holds it has only {} left", counted(left, "byte")))
+    (length > left)
+        .then(|| format!("its length is {length}, but what holds it has only {} left", counted(left, "byte")))
 }
 
 fn contents(tag: u8, held: &[u8]) -> Option<String> {

@@ -62,7 +62,12 @@ pub fn write(path: &Path, bytes: &[u8], force: bool) -> Result<(), Stop> {
     let place = target(path, force)?;
     let folder = place.parent().filter(|p| !p.as_os_str().is_empty()).unwrap_or(Path::new("."));
     let beside = folder.join(temporary());
-    let done = filled(&beside, bytes).and_then(|()| moved(&beside, &place, force));
+    let file = OpenOptions::new()
+        .write(true)
+        .create_new(true)
+        .open(&beside)
+        .map_err(|error| blocked(path, &beside, &error))?;
+    let done = filled(file, bytes).and_then(|()| moved(&beside, &place, force));
     if done.is_err() {
         let _ = fs::remove_file(&beside);
     }
@@ -93,8 +98,17 @@ fn refused(path: &Path, error: &io::Error) -> Stop {
     Stop::cannot_write(format!("{}: {why}", shown(path.as_os_str())))
 }
 
-fn filled(path: &Path, bytes: &[u8]) -> io::Result<()> {
-    let mut file = OpenOptions::new().write(true).create_new(true).open(path)?;
+/// The temporary file cannot be made.
+fn blocked(path: &Path, beside: &Path, error: &io::Error) -> Stop {
+    match error.kind() {
+        ErrorKind::AlreadyExists => {
+            Stop::cannot_write(format!("{}: is in the way: remove it first", shown(beside.as_os_str())))
+        }
+        _ => refused(path, error),
+    }
+}
+
+fn filled(mut file: File, bytes: &[u8]) -> io::Result<()> {
     file.write_all(bytes)?;
     file.sync_all()
 }
@@ -116,8 +130,8 @@ fn moved(from: &Path, to: &Path, force: bool) -> io::Result<()> {
 pub fn write_folder(folder: &Path, files: &[(String, &[u8])]) -> Result<(), Stop> {
     let parent = folder.parent().filter(|p| !p.as_os_str().is_empty()).unwrap_or(Path::new("."));
     let beside = parent.join(temporary());
-    fs::create_dir(&beside).map_err(|error| refused(folder, &error))?;
-    let each = files.iter().try_for_each(|(name, bytes)| filled(&beside.join(name), bytes));
+    fs::create_dir(&beside).map_err(|error| blocked(folder, &beside, &error))?;
+    let each = files.iter().try_for_each(|(name, bytes)| filled(File::create_new(beside.join(name))?, bytes));
     let done = each.and_then(|()| fs::rename(&beside, folder));
     if done.is_err() {
         let _ = fs::remove_dir_all(&beside);

@@ -6,13 +6,16 @@ use crate::places::{Place, Told};
 use crate::text::{hex, letters, moment};
 use crate::tree::{members, root};
 
+/// The items of an image, the table and the moment, and for each place what keeps it from being used.
 pub struct World<'a> {
     pub places: Vec<Place<'a>>,
-    pub table: &'a [u8],
-    pub moment: u64,
+    pub unusable: Vec<Vec<Reason>>,
+    table: &'a [u8],
+    moment: u64,
 }
 
 /// A condition that fails: a short name for programs, and words.
+#[derive(Clone)]
 pub struct Reason {
     pub code: &'static str,
     pub text: String,
@@ -31,20 +34,32 @@ fn reason(code: &'static str, text: impl Into<String>) -> Reason {
 }
 
 impl<'a> World<'a> {
+    pub fn new(places: Vec<Place<'a>>, table: &'a [u8], moment: u64) -> World<'a> {
+        let mut world = World { places, unusable: Vec::new(), table, moment };
+        let uncounted: Vec<Vec<Reason>> = (0..world.places.len()).map(|place| world.uncounted(place)).collect();
+        world.unusable = world.places.iter().map(|place| world.faults(place, &uncounted)).collect();
+        world
+    }
+
     fn verdict(&self, from: usize, to: usize) -> bool {
         let at = from.checked_mul(self.places.len()).and_then(|row| row.checked_add(to));
         at.and_then(|at| self.table.get(at)) == Some(&1)
     }
 
     /// What keeps a place from being used, apart from the steps to it.
-    pub fn unusable(&self, place: usize) -> Vec<Reason> {
-        let Some(found) = self.places.get(place) else { return Vec::new() };
-        let mut out = self.profile_and_times(found);
-        if !found.enabled() {
-            out.push(reason("disabled", "the anchor is not enabled"));
+    fn faults(&self, place: &Place<'a>, uncounted: &[Vec<Reason>]) -> Vec<Reason> {
+        let mut out = self.plain_faults(place);
+        if matches!(place.entry.kind, 2 | 3) {
+            out.extend(self.revocation(place, uncounted));
         }
-        if matches!(found.entry.kind, 2 | 3) {
-            out.extend(self.revocation(found));
+        out
+    }
+
+    /// The faults that have nothing to do with CRLs.
+    fn plain_faults(&self, place: &Place<'a>) -> Vec<Reason> {
+        let mut out = self.profile_and_times(place);
+        if !place.enabled() {
+            out.push(reason("disabled", "the anchor is not enabled"));
         }
         out
     }
@@ -67,30 +82,22 @@ impl<'a> World<'a> {
     }
 
     /// No counting CRL covers it, or one that does lists it.
-    fn revocation(&self, place: &Place<'a>) -> Vec<Reason> {
+    fn revocation(&self, place: &Place<'a>, uncounted: &[Vec<Reason>]) -> Vec<Reason> {
         let Some(told) = place.certificate() else { return Vec::new() };
         let of_issuer: Vec<usize> = (0..self.places.len()).filter(|crl| self.names_issuer(*crl, told.issuer)).collect();
-        let counting: Vec<usize> = of_issuer.iter().copied().filter(|crl| self.uncounted(*crl).is_empty()).collect();
+        let counts = |crl: &usize| uncounted.get(*crl).is_some_and(Vec::is_empty);
+        let counting: Vec<usize> = of_issuer.iter().copied().filter(counts).collect();
         if counting.is_empty() {
-            return vec![reason("uncovered", format!("no CRL covers it: {}", self.why_uncovered(&of_issuer)))];
+            return vec![reason("uncovered", format!("no CRL covers it: {}", why_uncovered(&of_issuer, uncounted)))];
         }
         let listing = counting.into_iter().filter(|crl| self.lists(*crl, told.serial));
-        listing.map(|crl| reason("listed", format!("its serial {} is listed by the CRL at place {crl}", hex(told.serial)))).collect()
+        listing
+            .map(|crl| reason("listed", format!("its serial {} is listed by the CRL at place {crl}", hex(told.serial))))
+            .collect()
     }
 
     fn names_issuer(&self, place: usize, issuer: &[u8]) -> bool {
         self.places.get(place).and_then(Place::crl).is_some_and(|crl| crl.issuer == issuer)
-    }
-
-    fn why_uncovered(&self, of_issuer: &[usize]) -> String {
-        if of_issuer.is_empty() {
-            return "none in the image that passes has its issuer's name".to_string();
-        }
-        let one = |crl: &usize| {
-            let faults: Vec<String> = self.uncounted(*crl).into_iter().map(|fault| fault.text).collect();
-            format!("the one at place {crl} does not count ({})", faults.join("; "))
-        };
-        of_issuer.iter().map(one).collect::<Vec<_>>().join(", ")
     }
 
     /// Why a CRL does not count.
@@ -108,7 +115,7 @@ impl<'a> World<'a> {
     fn usable_anchor_of(&self, place: usize, country: [u8; 2]) -> bool {
         let Some(found) = self.places.get(place) else { return false };
         let of_country = found.certificate().is_some_and(|told| told.country == country);
-        found.entry.kind == 1 && of_country && self.unusable(place).is_empty()
+        found.entry.kind == 1 && of_country && self.plain_faults(found).is_empty()
     }
 
     fn lists(&self, crl: usize, serial: &[u8]) -> bool {
@@ -146,7 +153,7 @@ impl<'a> World<'a> {
             for from in (0..self.places.len()).filter(|from| *from != to) {
                 let kind = self.places.get(from).map(|place| place.entry.kind);
                 let Some(step) = self.step(from, to).filter(|_| matches!(kind, Some(1 | 2))) else { continue };
-                let own = self.unusable(from);
+                let own = self.unusable.get(from).cloned().unwrap_or_default();
                 if kind == Some(2) && own.is_empty() && step.is_empty() && !waiting.contains(&from) {
                     waiting.push(from);
                 }
@@ -155,6 +162,18 @@ impl<'a> World<'a> {
         }
         out
     }
+}
+
+fn why_uncovered(of_issuer: &[usize], uncounted: &[Vec<Reason>]) -> String {
+    if of_issuer.is_empty() {
+        return "none that passes its profile has its issuer's name".to_string();
+    }
+    let one = |crl: &usize| {
+        let faults = uncounted.get(*crl).map(Vec::as_slice).unwrap_or_default();
+        let texts: Vec<&str> = faults.iter().map(|fault| fault.text.as_str()).collect();
+        format!("the one at place {crl} does not count ({})", texts.join("; "))
+    };
+    of_issuer.iter().map(one).collect::<Vec<_>>().join(", ")
 }
 
 /// The serials of a CRL that passed: the entries are the sixth field of its signed part, where they are there.

@@ -12,9 +12,8 @@ pub fn read(file: Vec<u8>) -> Result<Vec<u8>, Stop> {
     let rows: Vec<&[u8]> = lines.collect();
     for (n, row) in rows.iter().enumerate() {
         if row.len() != rows.len() || !row.iter().all(u8::is_ascii_digit) {
-            let text = "the table has {} lines, but line {} is not as many digits: give n lines of n digits";
-            let text = text.replacen("{}", &rows.len().to_string(), 1).replacen("{}", &(n + 1).to_string(), 1);
-            return Err(Stop::usage(text));
+            let (lines, line) = (rows.len(), n + 1);
+            return Err(Stop::usage(format!("the table has {lines} lines, but line {line} has not {lines} digits")));
         }
     }
     Ok(rows.concat().iter().map(|digit| digit - b'0').collect())

@@ -56,7 +56,7 @@ fn run(given: &Given) -> Result<Answer, Stop> {
         Ok(told) => told.entries,
         Err(refusal) => return Ok(refused(base, refusal, &image_words(refusal, &image, None))),
     };
-    let world = World { places: places::all(&image, entries), table: &table, moment: at };
+    let world = World::new(places::all(&image, entries), &table, at);
     let question = Question { image: &image, table: &table, at };
     Ok(answer(base, &question, &world, asked))
 }
@@ -77,7 +77,9 @@ fn answer(base: Json, question: &Question<'_>, world: &World<'_>, asked: Option<
     let mut worst = 0;
     for target in targets {
         match vrbolist::chain(question.image, question.table, question.at, target) {
-            Err(refusal) if refusal.number != 7 => return refused(base, refusal, &arguments(question, world, target, asked)),
+            Err(refusal) if refusal.number != 7 => {
+                return refused(base, refusal, &arguments(question, world, target, asked))
+            }
             told => {
                 worst = worst.max(told.as_ref().err().map_or(0, |refusal| status(*refusal)));
                 let (said, json) = one(world, target, told);
@@ -96,7 +98,10 @@ fn arguments(question: &Question<'_>, world: &World<'_>, target: u64, asked: Opt
     let mut out = Vec::new();
     if question.table.len() != count.saturating_mul(count) {
         let wanted = count.saturating_mul(count);
-        out.push(format!("The table has {} verdicts; the image has {count} places, so {wanted} are wanted.", question.table.len()));
+        out.push(format!(
+            "The table has {} verdicts; the image has {count} places, so {wanted} are wanted.",
+            question.table.len()
+        ));
     }
     if question.table.iter().any(|verdict| *verdict > 1) {
         out.push("The table has a verdict that is neither 0 nor 1.".to_string());
@@ -155,13 +160,22 @@ fn certificate_json(world: &World<'_>, place: usize) -> Json {
 
 fn none(world: &World<'_>, target: u64, refusal: Refusal) -> (String, Json) {
     let place = usize::try_from(target).unwrap_or(usize::MAX);
-    let own = world.unusable(place);
+    let own = world.unusable.get(place).cloned().unwrap_or_default();
     let sources = world.sources(place);
-    let head = format!("signer {target}  REFUSED  {}, detail {}: {}\n", refusal.number, refusal.detail, explain::name(refusal));
+    let head = format!(
+        "signer {target}  REFUSED  {}, detail {}: {}\n",
+        refusal.number,
+        refusal.detail,
+        explain::name(refusal)
+    );
     let (subject, _) = subject_and_key(world, place);
     let mut text = head + &clip(&format!("  {place:>3}  signer  {subject}"), WIDTH) + "\n";
-    text.push_str(&reasons_text(&own, "nothing fails at the signer itself"));
-    text.push_str(if sources.is_empty() { "  Nothing could have led to it.\n" } else { "  What could have led to it:\n" });
+    text.push_str(&signer_text(&own));
+    text.push_str(if sources.is_empty() {
+        "  Nothing could have led to it.\n"
+    } else {
+        "  What could have led to it:\n"
+    });
     sources.iter().for_each(|source| text.push_str(&source_text(world, source)));
     let json = object! {
         "signer": target, "passed": false, "refusal": explain::json(refusal, &[]), "reasons": reasons_json(&own),
@@ -170,22 +184,19 @@ fn none(world: &World<'_>, target: u64, refusal: Refusal) -> (String, Json) {
     (text, json)
 }
 
-fn reasons_text(reasons: &[Reason], otherwise: &str) -> String {
+fn signer_text(reasons: &[Reason]) -> String {
     match reasons {
-        [] => wrapped(otherwise, 15),
+        [] => wrapped("nothing fails at the signer itself", 15),
         _ => reasons.iter().map(|reason| wrapped(&reason.text, 15)).collect(),
     }
 }
 
 fn source_text(world: &World<'_>, source: &Source) -> String {
-    let head = format!("  {:>3}  {:<6}  to {}\n", source.from, kind_of(world, source.from), source.to);
-    let own = reasons_text(&source.own, "");
-    let step = reasons_text(&source.step, "");
-    match (source.own.is_empty(), source.step.is_empty()) {
-        (true, true) => head + &wrapped("nothing fails here", 15),
-        (false, true) => head + &own,
-        (true, false) => head + &step,
-        (false, false) => head + &own + &step,
+    let head = format!("  {:>3}  {:<6}  to {}", source.from, kind_of(world, source.from), source.to);
+    let faults: String = source.own.iter().chain(&source.step).map(|reason| wrapped(&reason.text, 15)).collect();
+    match faults.is_empty() {
+        true => head + ": nothing fails here\n",
+        false => head + "\n" + &faults,
     }
 }
 

@@ -82,7 +82,7 @@ fn packed(name: &str) -> Option<Packed> {
 
 impl Packed {
     fn world(&self) -> World<'_> {
-        World { places: places::all(&self.image, self.entries), table: &self.table, moment: NOON }
+        World::new(places::all(&self.image, self.entries), &self.table, NOON)
     }
 
     fn told(&self) -> String {
@@ -124,7 +124,7 @@ fn told_json(packed: &Packed) -> Json {
 fn chain_text(packed: &Packed, signer: u64) -> String {
     match packed.chain(signer) {
         Ok(chain) => chain.iter().map(|place| certificate_lines(&packed.world(), usize::from(*place))).collect(),
-        Err(refusal) => format!("  REFUSED  {}: {}\n", refusal.number, explain::name(refusal)),
+        Err(refusal) => format!("               REFUSED {}: {}\n", refusal.number, explain::name(refusal)),
     }
 }
 
@@ -147,7 +147,8 @@ fn bench(old: &Packed, new: &Packed) -> String {
 
 fn after(new: &Packed) -> String {
     let world = new.world();
-    let why: String = world.unusable(SIGNER as usize).iter().map(|reason| wrapped(&reason.text, 15)).collect();
+    let faults = world.unusable.get(SIGNER as usize).cloned().unwrap_or_default();
+    let why: String = faults.iter().map(|reason| wrapped(&reason.text, 15)).collect();
     format!("3. The same passport on a reader with today's image: {}.\n", new.told())
         + &certificate_lines(&world, SIGNER as usize)
         + &chain_text(new, SIGNER)

@@ -41,7 +41,10 @@ fn run(given: &Given) -> Result<Answer, Stop> {
     };
     Ok(match told {
         Ok(image) => passed(head, base, &bytes, image, wanted),
-        Err(refusal) => refused(head, base, refusal, &words(refusal, &bytes, wanted)),
+        Err(refusal) => {
+            let day = vrbolist::image(&bytes).ok().map(|image| image.day);
+            refused(head, base.with(object! { "day": day }), refusal, &words(refusal, &bytes, wanted))
+        }
     })
 }
 
@@ -63,14 +66,18 @@ pub fn words(refusal: Refusal, bytes: &[u8], wanted: Option<u64>) -> Vec<String>
     let wanted = wanted.unwrap_or_default();
     match (refusal.number, vrbolist::image(bytes)) {
         (1, _) => vec![format!("The wanted day {wanted} is not a real day of 1950 to 2099.")],
-        (6, Ok(image)) => vec![format!("The image is of {}, wanted is {}{}.", day(image.day), day(wanted), older(image.day, wanted))],
+        (6, Ok(image)) => {
+            vec![format!("The image is of {}, wanted is {}{}.", day(image.day), day(wanted), older(image.day, wanted))]
+        }
         _ => explain::paragraphs(Judged::Image, refusal, bytes),
     }
 }
 
 fn older(from: u64, to: u64) -> String {
     match vrbolist::day_difference(from, to) {
-        Ok(days) if days > 0 => format!(": it is older by {}. Do not flash it; fetch the image of the day", spell(days)),
+        Ok(days) if days > 0 => {
+            format!(": it is older by {}. Do not flash it; fetch the image of the day", spell(days))
+        }
         Ok(days) if days < 0 => format!(": it is of a later day, by {}. Check the day", spell(days)),
         _ => String::new(),
     }
@@ -90,7 +97,11 @@ pub fn listing(places: &[Place<'_>]) -> String {
     let bad = places.iter().filter(|place| matches!(place.told, Told::Refused(_))).count();
     let note = match bad {
         0 => String::new(),
-        _ => format!("Note: {} of {} do not pass; no chain uses them. See vrbolist item.\n", bad, counted(places.len(), "item")),
+        _ => format!(
+            "Note: {} of {} do not pass; no chain uses them. See vrbolist item.\n",
+            bad,
+            counted(places.len(), "item")
+        ),
     };
     head + &lines + &note
 }
@@ -101,12 +112,15 @@ fn line(place: &Place<'_>) -> String {
         (1, false) => "disabled",
         _ => "",
     };
-    let left = format!("{:>5}  {:<6}  {:<8}  {:>5}", place.number, kind_name(place.entry.kind), state, place.entry.item.len());
+    let left =
+        format!("{:>5}  {:<6}  {:<8}  {:>5}", place.number, kind_name(place.entry.kind), state, place.entry.item.len());
     let row = |country, from, to| format!("{left}  {:<7}  {}  {}  passes\n", letters(country), date(from), date(to));
     match &place.told {
         Told::Certificate(told) => row(told.country, told.start, told.end),
         Told::Crl(told) => row(told.country, told.this_update, told.next_update),
-        Told::Refused(refusal) => format!("{left}  {:<7}  {:<10}  {:<10}  {}\n", "-", "-", "-", explain::short(*refusal)),
+        Told::Refused(refusal) => {
+            format!("{left}  {:<7}  {:<10}  {:<10}  {}\n", "-", "-", "-", explain::short(*refusal))
+        }
     }
 }
 
@@ -126,7 +140,9 @@ fn place_json(place: &Place<'_>) -> Json {
     base.with(match &place.told {
         Told::Certificate(told) => certificate_json(told),
         Told::Crl(told) => crl_json(told),
-        Told::Refused(refusal) => object! { "passed": false, "refusal": explain::json(*refusal, &judged(place, *refusal)) },
+        Told::Refused(refusal) => {
+            object! { "passed": false, "refusal": explain::json(*refusal, &judged(place, *refusal)) }
+        }
     })
 }
 

@@ -33,7 +33,8 @@ fn run(given: &Given) -> Result<Answer, Stop> {
     let kind = kind_number(&word)
         .ok_or_else(|| Stop::usage(format!("--as {}: give anchor, link, signer or crl", printable(&word))))?;
     let item = files::read_item(given.word(0))?;
-    let head = format!("{}  as {}, {}, {} bytes\n", files::shown(given.word(0)), kind_name(kind), item.form, item.bytes.len());
+    let head =
+        format!("{}  as {}, {}, {} bytes\n", files::shown(given.word(0)), kind_name(kind), item.form, item.bytes.len());
     let base = object! {
         "command": "item", "file": files::shown(given.word(0)), "as": kind_name(kind), "form": item.form.as_str(),
         "size": item.bytes.len(),

@@ -33,7 +33,8 @@ Example:
 
 fn run(given: &Given) -> Result<Answer, Stop> {
     let bytes = files::read(given.word(0))?;
-    let base = object! { "command": "unpack", "file": files::shown(given.word(0)), "folder": files::shown(given.word(1)) };
+    let base =
+        object! { "command": "unpack", "file": files::shown(given.word(0)), "folder": files::shown(given.word(1)) };
     let image = match vrbolist::image(&bytes) {
         Ok(image) => image,
         Err(refusal) => {
@@ -53,7 +54,8 @@ fn run(given: &Given) -> Result<Answer, Stop> {
         day(image.day)
     );
     let lines: String = items.iter().map(|(name, item)| format!("{:>7}  {name}\n", item.len())).collect();
-    let names: Vec<Json> = items.iter().map(|(name, item)| object! { "file": name.as_str(), "size": item.len() }).collect();
+    let names: Vec<Json> =
+        items.iter().map(|(name, item)| object! { "file": name.as_str(), "size": item.len() }).collect();
     let json = base.with(object! { "passed": true, "day": image.day, "files": names });
     Ok(Answer { status: 0, text: said + &lines, json })
 }
@@ -69,7 +71,10 @@ fn write(folder: &OsStr, items: &[(String, &[u8])], force: bool) -> Result<(), S
         return files::write_folder(folder, items);
     }
     if !fs::metadata(folder).map(|found| found.is_dir()).unwrap_or(false) {
-        return Err(Stop::cannot_write(format!("{}: is no folder: give another name", files::shown(folder.as_os_str()))));
+        return Err(Stop::cannot_write(format!(
+            "{}: is no folder: give another name",
+            files::shown(folder.as_os_str())
+        )));
     }
     items.iter().try_for_each(|(name, item)| files::write(&folder.join(name), item, true))
 }
