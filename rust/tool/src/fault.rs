@@ -38,7 +38,7 @@ fn der(bytes: &[u8], at: usize, reading: &Reading) -> String {
         return "the file is empty: there is no element".to_string();
     };
     identifier(tag)
-        .or_else(|| length(held))
+        .or_else(|| length(held, reading.depth == 1))
         .or_else(|| contents(tag, held))
         .unwrap_or_else(|| "this element is not DER".to_string())
 }
@@ -64,7 +64,7 @@ fn identifier(tag: u8) -> Option<String> {
 }
 
 /// The length octets, then whether the element ends within what holds it.
-fn length(held: &[u8]) -> Option<String> {
+fn length(held: &[u8], outermost: bool) -> Option<String> {
     let (header, length) = match held.get(1..).unwrap_or_default() {
         [] => return Some("the length octet is missing".to_string()),
         [short @ 0..=0x7f, ..] => (2, usize::from(*short)),
@@ -77,8 +77,11 @@ fn length(held: &[u8]) -> Option<String> {
         [form, ..] => return Some(format!("length form {form:02X} is not taken: 81 and 82 are the longest")),
     };
     let left = held.len().saturating_sub(header);
-    (length > left)
-        .then(|| format!("its length is {length}, but what holds it has only {} left", counted(left, "byte")))
+    let left_words = match outermost {
+        true => format!("only {}: the file may be cut short", follow(left)),
+        false => format!("what holds it has only {} left", counted(left, "byte")),
+    };
+    (length > left).then(|| format!("its length is {length}, but {left_words}"))
 }
 
 fn contents(tag: u8, held: &[u8]) -> Option<String> {

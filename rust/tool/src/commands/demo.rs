@@ -16,8 +16,8 @@ pub const COMMAND: Command = Command {
     help: "\
 vrbolist demo [--json]
 
-Packs two trust images from items inside the program, of yesterday and of today, and asks for the chain
-to a signer that was revoked in between. Needs no files.
+Packs two trust images from items inside the program, of yesterday and of today, and asks for the
+chain to a signer that was revoked in between. Needs no files.
 
 Example:
   vrbolist demo

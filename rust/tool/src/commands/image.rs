@@ -16,12 +16,12 @@ pub const COMMAND: Command = Command {
     help: "\
 vrbolist image FILE [--day YYYYMMDD] [--json]
 
-Reads a trust image: its day, and a line for each place with what the library says of the item. With
---day an image of another day is refused with 6: run this before flashing. An item that does not pass
-its profile is told and does not refuse the image: no chain ever uses it.
+Reads a trust image: its day, and a line for each place with what the library says of the item.
+With --day an image of another day is refused with 6: run this before flashing. An item that does
+not pass its profile is told and does not refuse the image: no chain ever uses it.
 
 Example:
-  vrbolist pack /tmp/small.image --day 20261115 --anchor tests/data/made/ut-anchor-1.der
+  vrbolist pack /tmp/small.image --day 20261115 --anchor tests/data/made/ut-anchor-1.der --force
   vrbolist image /tmp/small.image --day 20261115
 ",
     takes: Takes { alone: &["FILE"], options: &["--day"], switches: &[] },

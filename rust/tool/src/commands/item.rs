@@ -17,8 +17,8 @@ pub const COMMAND: Command = Command {
     help: "\
 vrbolist item FILE --as anchor|link|signer|crl [--json]
 
-Judges one item against the profile of its kind. Passed: its fields. Refused: the rule of the profile
-that is broken, with what the item says, or the byte that is not DER. FILE is DER or PEM.
+Judges one item against the profile of its kind. Passed: its fields. Refused: the rule of the
+profile that is broken, with what the item says, or the byte that is not DER. FILE is DER or PEM.
 
 Examples:
   vrbolist item tests/data/made/ut-signer-1.der --as signer

@@ -48,9 +48,9 @@ vrbolist: judges passport-signing certificates, CRLs, trust images and chains
   vrbolist age CRL DAY                             how old a CRL is on a day
   vrbolist demo                                    a first look, with the items of the repository
 
-Items are DER or PEM; of a PEM file the first block is taken. FILE - is standard input. Every command
-takes --json and --help. Exit status: 0 passed, 1 to 9 the number of the refusal, 64 wrong usage,
-66 no such input, 73 cannot write.
+Items are DER or PEM; of a PEM file the first block is taken. FILE - is standard input. Every
+command takes --json and --help. Exit status: 0 passed, 1 to 9 the number of the refusal, 64 wrong
+usage, 66 no such input, 73 cannot write.
 
 Example:
   vrbolist item tests/data/made/ut-signer-1.der --as signer

@@ -15,11 +15,11 @@ use vrbolist::Refusal;
 pub const COMMAND: Command = Command {
     name: "pack",
     help: "\
-vrbolist pack OUT --day YYYYMMDD [--anchor F] [--disabled-anchor F] [--link F] [--signer F] [--crl F] ..
-              [--force] [--json]
+vrbolist pack OUT --day YYYYMMDD [--anchor F] [--disabled-anchor F] [--link F] [--signer F]
+              [--crl F] .. [--force] [--json]
 
-Writes a trust image of the given items, any number of each; their places are in the order given. OUT
-is written whole or not at all, and is not written over without --force. Items are DER or PEM.
+Writes a trust image of the given items, any number of each; their places are in the order given.
+OUT is written whole or not at all, and is not written over without --force. Items are DER or PEM.
 
 Example:
   vrbolist pack /tmp/ut.image --day 20261115 --anchor tests/data/made/ut-anchor-1.der \\

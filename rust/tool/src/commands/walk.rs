@@ -15,8 +15,9 @@ pub const COMMAND: Command = Command {
     help: "\
 vrbolist walk FILE [--json]
 
-Prints the elements of a DER item: offset, offset in hex, length of the contents, tag and value. Where
-the item is not DER the tree goes up to the element at fault, which is marked. FILE is DER or PEM.
+Prints the elements of a DER item: offset, offset in hex, length of the contents, tag and value.
+Where the item is not DER the tree goes up to the element at fault, which is marked. FILE is DER or
+PEM.
 
 Example:
   vrbolist walk tests/data/made/ut-crl-today.der
