@@ -1,6 +1,7 @@
 //! What a command gives: text and JSON for standard output with an exit status, or a stop with words for standard error.
 
-use crate::json::Json;
+use crate::explain;
+use crate::json::{object, Json};
 use std::io::{ErrorKind, Write};
 use vrbolist::Refusal;
 
@@ -12,6 +13,19 @@ pub struct Answer {
     pub status: u8,
     pub text: String,
     pub json: Json,
+}
+
+impl Answer {
+    /// A pass: the fields are added to the object.
+    pub fn passed(text: String, base: Json, fields: Json) -> Answer {
+        Answer { status: 0, text, json: base.with(object! { "passed": true }).with(fields) }
+    }
+
+    /// A refusal with its words, under a heading.
+    pub fn refused(head: String, base: Json, refusal: Refusal, words: &[String]) -> Answer {
+        let json = base.with(object! { "passed": false, "refusal": explain::json(refusal, words) });
+        Answer { status: status(refusal), text: head + &explain::text(refusal, words), json }
+    }
 }
 
 pub struct Stop {

@@ -1,6 +1,7 @@
 //! A refusal in words: which rule is broken, or which byte.
 
 use crate::fault;
+use crate::files::Item;
 use crate::json::{object, Json};
 use crate::text::wrapped;
 use crate::tree;
@@ -100,6 +101,13 @@ pub fn paragraphs(judged: Judged, refusal: Refusal, bytes: &[u8]) -> Vec<String>
         5 => vec![format!("Broken is rule {} of the trust image.", refusal.detail), said(judged, refusal)],
         _ => vec![refusal.to_string()],
     }
+}
+
+/// The same, with the note of a file that was read as DER and looks like PEM.
+pub fn of_item(judged: Judged, refusal: Refusal, item: &Item) -> Vec<String> {
+    let mut words = paragraphs(judged, refusal, &item.bytes);
+    words.extend(item.note.map(|note| format!("Note: {note}.")));
+    words
 }
 
 fn said(judged: Judged, refusal: Refusal) -> String {

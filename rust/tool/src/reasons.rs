@@ -183,3 +183,6 @@ fn serials(crl: &[u8]) -> Vec<&[u8]> {
     let entries = fields.get(5).filter(|field| field.tag == 0x30).map(|field| members(crl, field)).unwrap_or_default();
     entries.iter().filter_map(|entry| members(crl, entry).first().map(|serial| serial.contents(crl))).collect()
 }
+
+#[cfg(test)]
+mod tests;

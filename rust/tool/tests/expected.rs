@@ -13,6 +13,7 @@ fn held(name: &str, run: &Run) {
     }
     assert_eq!(std::fs::read_to_string(&path).unwrap_or_default(), told, "{name}");
     let code = name.contains("json");
+    assert!(!code || common::json::sound(&run.out), "{name} is not JSON");
     assert!(code || told.lines().all(|line| line.chars().count() <= 100), "{name} is wider than 100 columns");
 }
 

@@ -121,13 +121,15 @@ fn random_files_and_words_never_crash() {
             }
             1 => {
                 bench.write("y", &file(&mut random, &mut source));
-                let line = "chain x --table y --at 20261115120000 --signer all";
+                let line = "chain x --table y --at 20261115120000 --signer all --json";
                 line.split_whitespace().map(Into::into).collect()
             }
             _ => words(&mut random).into_iter().map(std::ffi::OsString::from_vec).collect(),
         };
         let run = bench.run(&line);
         let status = run.status.unwrap_or(-1);
+        let object = line.iter().any(|word| word == "--json") && run.out.starts_with('{');
+        assert!(!object || common::json::sound(&run.out), "{line:?}: {}", run.out);
         assert!(STATUSES.contains(&status), "{line:?}: status {status}\n{}", run.err);
         assert!(!run.err.contains("panicked"), "{line:?}\n{}", run.err);
         seen.insert(status);

@@ -2,10 +2,10 @@
 
 use super::days::unreal;
 use super::Command;
-use crate::answer::{status, Answer, Stop};
+use crate::answer::{Answer, Stop};
 use crate::args::{self, Given, Takes};
 use crate::explain::{self, Judged};
-use crate::files;
+use crate::files::{self, Item};
 use crate::json::object;
 use crate::text::{day, moment};
 use vrbolist::Refusal;
@@ -28,24 +28,19 @@ fn run(given: &Given) -> Result<Answer, Stop> {
     let wanted = args::number(given.word(1), "day YYYYMMDD")?;
     let item = files::read_item(given.word(0))?;
     let base = object! { "command": "age", "file": files::shown(given.word(0)), "day": wanted };
-    let told = vrbolist::crl_age(&item.bytes, wanted);
-    Ok(match told {
+    Ok(match vrbolist::crl_age(&item.bytes, wanted) {
         Ok(days) => {
             let update = vrbolist::crl(&item.bytes).map(|crl| crl.this_update).unwrap_or_default();
             let text = format!("{days}  days from this update, {} UTC, to {}\n", moment(update), day(wanted));
-            Answer { status: 0, text, json: base.with(object! { "passed": true, "days": days, "this_update": update }) }
+            Answer::passed(text, base, object! { "days": days, "this_update": update })
         }
-        Err(refusal) => {
-            let words = words(refusal, &item.bytes, wanted);
-            let json = base.with(object! { "passed": false, "refusal": explain::json(refusal, &words) });
-            Answer { status: status(refusal), text: explain::text(refusal, &words), json }
-        }
+        Err(refusal) => Answer::refused(String::new(), base, refusal, &words(refusal, &item, wanted)),
     })
 }
 
-fn words(refusal: Refusal, bytes: &[u8], wanted: u64) -> Vec<String> {
+fn words(refusal: Refusal, item: &Item, wanted: u64) -> Vec<String> {
     if refusal.number != 1 {
-        return explain::paragraphs(Judged::Crl, refusal, bytes);
+        return explain::of_item(Judged::Crl, refusal, item);
     }
     let mut words = unreal(&[wanted]);
     if words.is_empty() {

@@ -3,7 +3,7 @@
 use super::days::unreal;
 use super::image::words as image_words;
 use super::Command;
-use crate::answer::{status, Answer, Stop};
+use crate::answer::{Answer, Stop};
 use crate::args::{self, Given, Takes};
 use crate::explain;
 use crate::files;
@@ -12,7 +12,7 @@ use crate::names;
 use crate::places::{self, kind_name};
 use crate::reasons::{Reason, Source, World};
 use crate::table;
-use crate::text::{clip, hex, moment, wrapped, WIDTH};
+use crate::text::{clip, counted, hex, moment, wrapped, WIDTH};
 use vrbolist::Refusal;
 
 pub const COMMAND: Command = Command {
@@ -54,42 +54,46 @@ fn run(given: &Given) -> Result<Answer, Stop> {
     let base = object! { "command": "chain", "file": files::shown(given.word(0)), "at": at };
     let entries = match vrbolist::image(&image) {
         Ok(told) => told.entries,
-        Err(refusal) => return Ok(refused(base, refusal, &image_words(refusal, &image, None))),
+        Err(refusal) => return Ok(Answer::refused(String::new(), base, refusal, &image_words(refusal, &image, None))),
     };
     let world = World::new(places::all(&image, entries), &table, at);
     let question = Question { image: &image, table: &table, at };
     Ok(answer(base, &question, &world, asked))
 }
 
-fn refused(base: Json, refusal: Refusal, words: &[String]) -> Answer {
-    let json = base.with(object! { "passed": false, "refusal": explain::json(refusal, words) });
-    Answer { status: status(refusal), text: explain::text(refusal, words), json }
-}
-
-fn answer(base: Json, question: &Question<'_>, world: &World<'_>, asked: Option<u64>) -> Answer {
+/// The signers asked for; where there is none, a place that is not there, so that the library refuses it.
+fn targets(world: &World<'_>, asked: Option<u64>) -> Vec<u64> {
     let signers = world.places.iter().filter(|place| place.entry.kind == 3).map(|place| place.number);
     let mut targets: Vec<u64> = asked.map_or_else(|| signers.collect(), |place| vec![place]);
     if targets.is_empty() {
         targets.push(world.places.len() as u64);
     }
+    targets
+}
+
+fn answer(base: Json, question: &Question<'_>, world: &World<'_>, asked: Option<u64>) -> Answer {
     let mut text = format!("At {} UTC\n", moment(question.at));
     let mut each = Vec::new();
-    let mut worst = 0;
-    for target in targets {
+    let mut without = 0;
+    for target in targets(world, asked) {
         match vrbolist::chain(question.image, question.table, question.at, target) {
             Err(refusal) if refusal.number != 7 => {
-                return refused(base, refusal, &arguments(question, world, target, asked))
+                return Answer::refused(String::new(), base, refusal, &arguments(question, world, target, asked))
             }
             told => {
-                worst = worst.max(told.as_ref().err().map_or(0, |refusal| status(*refusal)));
+                without += usize::from(told.is_err());
                 let (said, json) = one(world, target, told);
                 text.push_str(&said);
                 each.push(json);
             }
         }
     }
-    let json = base.with(object! { "passed": worst == 0, "signers": each });
-    Answer { status: worst, text, json }
+    if asked.is_none() {
+        let count = each.len();
+        text.push_str(&format!("{} of {} have a chain\n", count.saturating_sub(without), counted(count, "signer")));
+    }
+    let json = base.with(object! { "passed": without == 0, "signers": each });
+    Answer { status: if without == 0 { 0 } else { 7 }, text, json }
 }
 
 /// Which arguments are out of their range.

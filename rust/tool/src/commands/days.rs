@@ -1,9 +1,8 @@
 //! `vrbolist days`: days from one day to another.
 
 use super::Command;
-use crate::answer::{status, Answer, Stop};
+use crate::answer::{Answer, Stop};
 use crate::args::{self, Given, Takes};
-use crate::explain;
 use crate::json::object;
 use crate::text::day;
 
@@ -27,16 +26,11 @@ fn run(given: &Given) -> Result<Answer, Stop> {
     let second = args::number(given.word(1), "day YYYYMMDD")?;
     let base = object! { "command": "days", "first": first, "second": second };
     Ok(match vrbolist::day_difference(first, second) {
-        Ok(days) => Answer {
-            status: 0,
-            text: format!("{days}  days from {} to {}\n", day(first), day(second)),
-            json: base.with(object! { "passed": true, "days": days }),
-        },
-        Err(refusal) => {
-            let words = unreal(&[first, second]);
-            let json = base.with(object! { "passed": false, "refusal": explain::json(refusal, &words) });
-            Answer { status: status(refusal), text: explain::text(refusal, &words), json }
+        Ok(days) => {
+            let text = format!("{days}  days from {} to {}\n", day(first), day(second));
+            Answer::passed(text, base, object! { "days": days })
         }
+        Err(refusal) => Answer::refused(String::new(), base, refusal, &unreal(&[first, second])),
     })
 }
 

@@ -9,7 +9,7 @@ use crate::explain;
 use crate::json::{object, Json};
 use crate::places;
 use crate::reasons::World;
-use crate::text::{day, moment, wrapped};
+use crate::text::{day, wrapped};
 
 pub const COMMAND: Command = Command {
     name: "demo",
@@ -130,7 +130,10 @@ fn chain_text(packed: &Packed, signer: u64) -> String {
 
 fn before(old: &Packed) -> String {
     format!("1. A reader carries yesterday's trust image: {}.\n", old.told())
-        + &format!("   A passport of document signer {SIGNER} is laid on it. Its chain on {} UTC:\n", moment(NOON))
+        + &format!(
+            "   A passport of Document Signer 3 of Utopia, place {SIGNER}, is laid on it. Its chain on {}:\n",
+            day(TODAY)
+        )
         + &chain_text(old, SIGNER)
         + "   The reader believes the passport. But this morning Utopia has revoked that signer.\n\n"
 }

@@ -2,7 +2,7 @@
 
 use super::item::{certificate_json, crl_json};
 use super::Command;
-use crate::answer::{status, Answer, Stop};
+use crate::answer::{Answer, Stop};
 use crate::args::{self, Given, Takes};
 use crate::explain::{self, Judged};
 use crate::files;
@@ -43,7 +43,7 @@ fn run(given: &Given) -> Result<Answer, Stop> {
         Ok(image) => passed(head, base, &bytes, image, wanted),
         Err(refusal) => {
             let day = vrbolist::image(&bytes).ok().map(|image| image.day);
-            refused(head, base.with(object! { "day": day }), refusal, &words(refusal, &bytes, wanted))
+            Answer::refused(head, base.with(object! { "day": day }), refusal, &words(refusal, &bytes, wanted))
         }
     })
 }
@@ -52,13 +52,8 @@ fn passed(head: String, base: Json, bytes: &[u8], image: Image, wanted: Option<u
     let places = places::all(bytes, image.entries);
     let asked = if wanted.is_some() { ", as wanted" } else { "" };
     let said = format!("PASSED   image of {}{asked}, {}\n", day(image.day), counted(places.len(), "place"));
-    let json = base.with(object! { "passed": true, "day": image.day, "places": places_json(&places) });
-    Answer { status: 0, text: head + &said + &listing(&places), json }
-}
-
-fn refused(head: String, base: Json, refusal: Refusal, words: &[String]) -> Answer {
-    let json = base.with(object! { "passed": false, "refusal": explain::json(refusal, words) });
-    Answer { status: status(refusal), text: head + &explain::text(refusal, words), json }
+    let fields = object! { "day": image.day, "places": places_json(&places) };
+    Answer::passed(head + &said + &listing(&places), base, fields)
 }
 
 /// Why an image was refused, for a wanted day too.
@@ -137,9 +132,10 @@ fn place_json(place: &Place<'_>) -> Json {
         "place": place.number, "kind": kind_name(place.entry.kind), "enabled": place.enabled(),
         "size": place.entry.item.len(),
     };
+    let passed = object! { "passed": true };
     base.with(match &place.told {
-        Told::Certificate(told) => certificate_json(told),
-        Told::Crl(told) => crl_json(told),
+        Told::Certificate(told) => passed.with(certificate_json(told)),
+        Told::Crl(told) => passed.with(crl_json(told)),
         Told::Refused(refusal) => {
             object! { "passed": false, "refusal": explain::json(*refusal, &judged(place, *refusal)) }
         }

@@ -1,7 +1,7 @@
 //! `vrbolist item`: one certificate or CRL against its profile.
 
 use super::Command;
-use crate::answer::{status, Answer, Stop};
+use crate::answer::{Answer, Stop};
 use crate::args::{Given, Takes};
 use crate::explain::{self, Judged};
 use crate::facts;
@@ -33,35 +33,33 @@ fn run(given: &Given) -> Result<Answer, Stop> {
     let kind = kind_number(&word)
         .ok_or_else(|| Stop::usage(format!("--as {}: give anchor, link, signer or crl", printable(&word))))?;
     let item = files::read_item(given.word(0))?;
-    let head =
-        format!("{}  as {}, {}, {} bytes\n", files::shown(given.word(0)), kind_name(kind), item.form, item.bytes.len());
+    let head = format!(
+        "{}  as {}, read as {}, {} bytes\n",
+        files::shown(given.word(0)),
+        kind_name(kind),
+        item.form,
+        item.bytes.len()
+    );
     let base = object! {
         "command": "item", "file": files::shown(given.word(0)), "as": kind_name(kind), "form": item.form.as_str(),
         "size": item.bytes.len(),
     };
     Ok(match judge(&item.bytes, kind) {
-        Told::Certificate(told) => passed(head + &certificate_text(&told), base.with(certificate_json(&told))),
-        Told::Crl(told) => passed(head + &crl_text(&told), base.with(crl_json(&told))),
+        Told::Certificate(told) => Answer::passed(head + &certificate_text(&told), base, certificate_json(&told)),
+        Told::Crl(told) => Answer::passed(head + &crl_text(&told), base, crl_json(&told)),
         Told::Refused(refusal) => refused(head, base, refusal, &item, kind),
     })
 }
 
-fn passed(text: String, json: Json) -> Answer {
-    Answer { status: 0, text, json }
-}
-
 fn refused(head: String, base: Json, refusal: Refusal, item: &Item, kind: u64) -> Answer {
     let judged = if kind == 4 { Judged::Crl } else { Judged::Certificate };
-    let mut words = explain::paragraphs(judged, refusal, &item.bytes);
-    words.extend(item.note.map(|note| format!("Note: {note}.")));
-    let mut text = head + &explain::text(refusal, &words);
+    let mut answer = Answer::refused(head, base, refusal, &explain::of_item(judged, refusal, item));
     let facts = if refusal.number == 4 { facts::lines(&item.bytes) } else { Vec::new() };
     if !facts.is_empty() {
-        text.push_str("  What the item says, each with its byte:\n");
-        facts.iter().for_each(|line| text.extend([line.as_str(), "\n"]));
+        answer.text.push_str("  What the item says, each with its byte:\n");
+        facts.iter().for_each(|line| answer.text.extend([line.as_str(), "\n"]));
     }
-    let json = base.with(object! { "passed": false, "refusal": explain::json(refusal, &words) });
-    Answer { status: status(refusal), text, json }
+    answer
 }
 
 fn row(name: &str, value: &str) -> String {
@@ -92,7 +90,6 @@ fn certificate_text(told: &Certificate<'_>) -> String {
 
 pub fn certificate_json(told: &Certificate<'_>) -> Json {
     object! {
-        "passed": true,
         "country": letters(told.country),
         "from": told.start,
         "to": told.end,
@@ -121,7 +118,6 @@ fn crl_text(told: &Crl<'_>) -> String {
 
 pub fn crl_json(told: &Crl<'_>) -> Json {
     object! {
-        "passed": true,
         "country": letters(told.country),
         "from": told.this_update,
         "to": told.next_update,

@@ -2,11 +2,10 @@
 
 use super::image::{listing, places_json};
 use super::Command;
-use crate::answer::{status, Answer, Stop};
+use crate::answer::{Answer, Stop};
 use crate::args::{self, Given, Takes};
-use crate::explain;
 use crate::files;
-use crate::json::object;
+use crate::json::{object, Json};
 use crate::places;
 use crate::text::{counted, day};
 use std::path::Path;
@@ -66,26 +65,26 @@ fn run(given: &Given) -> Result<Answer, Stop> {
     let columns = columns(given)?;
     let out = given.word(0);
     let base = object! { "command": "pack", "file": files::shown(out), "day": wanted };
-    let image = match columns.written(wanted) {
-        Ok(image) => image,
-        Err(refusal) => {
-            let words = words(refusal, &columns, wanted);
-            let text = format!("{}  not written\n", files::shown(out)) + &explain::text(refusal, &words);
-            let json = base.with(object! { "passed": false, "refusal": explain::json(refusal, &words) });
-            return Ok(Answer { status: status(refusal), text, json });
+    match columns.written(wanted) {
+        Ok(image) => {
+            files::write(Path::new(out), &image, given.has("--force"))?;
+            let head = format!("{}  written: {} bytes, image of {}", files::shown(out), image.len(), day(wanted));
+            Ok(told(head, base, &image))
         }
-    };
-    files::write(Path::new(out), &image, given.has("--force"))?;
-    let places = places::all(&image, columns.kinds.len() as u64);
-    let text = format!(
-        "{}  written: {} bytes, image of {}, {}\n",
-        files::shown(out),
-        image.len(),
-        day(wanted),
-        counted(places.len(), "place")
-    );
-    let json = base.with(object! { "passed": true, "size": image.len(), "places": places_json(&places) });
-    Ok(Answer { status: 0, text: text + &listing(&places), json })
+        Err(refusal) => {
+            let head = format!("{}  not written\n", files::shown(out));
+            Ok(Answer::refused(head, base, refusal, &words(refusal, &columns, wanted)))
+        }
+    }
+}
+
+/// What was written, read back.
+fn told(head: String, base: Json, image: &[u8]) -> Answer {
+    let entries = vrbolist::image(image).map(|told| told.entries).unwrap_or_default();
+    let places = places::all(image, entries);
+    let text = format!("{head}, {}\n", counted(places.len(), "place"));
+    let fields = object! { "size": image.len(), "places": places_json(&places) };
+    Answer::passed(text + &listing(&places), base, fields)
 }
 
 fn columns(given: &Given) -> Result<Columns, Stop> {

@@ -2,9 +2,8 @@
 
 use super::image::words;
 use super::Command;
-use crate::answer::{status, Answer, Stop};
+use crate::answer::{Answer, Stop};
 use crate::args::{Given, Takes};
-use crate::explain;
 use crate::files;
 use crate::json::{object, Json};
 use crate::places::kind_name;
@@ -38,26 +37,27 @@ fn run(given: &Given) -> Result<Answer, Stop> {
     let image = match vrbolist::image(&bytes) {
         Ok(image) => image,
         Err(refusal) => {
-            let words = words(refusal, &bytes, None);
-            let text = format!("{}  not unpacked\n", files::shown(given.word(0))) + &explain::text(refusal, &words);
-            let json = base.with(object! { "passed": false, "refusal": explain::json(refusal, &words) });
-            return Ok(Answer { status: status(refusal), text, json });
+            let head = format!("{}  not unpacked\n", files::shown(given.word(0)));
+            return Ok(Answer::refused(head, base, refusal, &words(refusal, &bytes, None)));
         }
     };
     let entries = (0..image.entries).filter_map(|place| Some((place, vrbolist::entry(&bytes, place).ok()?)));
     let items: Vec<(String, &[u8])> = entries.map(|(place, entry)| (file_name(place, &entry), entry.item)).collect();
     write(given.word(1), &items, given.has("--force"))?;
-    let said = format!(
+    let head = format!(
         "{}  {} of the image of {}\n",
         files::shown(given.word(1)),
         counted(items.len(), "item"),
         day(image.day)
     );
+    Ok(told(head, base.with(object! { "day": image.day }), &items))
+}
+
+fn told(head: String, base: Json, items: &[(String, &[u8])]) -> Answer {
     let lines: String = items.iter().map(|(name, item)| format!("{:>7}  {name}\n", item.len())).collect();
-    let names: Vec<Json> =
-        items.iter().map(|(name, item)| object! { "file": name.as_str(), "size": item.len() }).collect();
-    let json = base.with(object! { "passed": true, "day": image.day, "files": names });
-    Ok(Answer { status: 0, text: said + &lines, json })
+    let one = |(name, item): &(String, &[u8])| object! { "file": name.as_str(), "size": item.len() };
+    let files: Vec<Json> = items.iter().map(one).collect();
+    Answer::passed(head + &lines, base, object! { "files": files })
 }
 
 fn file_name(place: u64, entry: &Entry<'_>) -> String {

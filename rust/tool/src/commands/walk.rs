@@ -1,7 +1,7 @@
 //! `vrbolist walk`: the tree of an item.
 
 use super::Command;
-use crate::answer::{status, Answer, Stop};
+use crate::answer::{Answer, Stop};
 use crate::args::{Given, Takes};
 use crate::explain::{self, Judged};
 use crate::files::{self, Item};
@@ -28,7 +28,7 @@ Example:
 
 fn run(given: &Given) -> Result<Answer, Stop> {
     let item = files::read_item(given.word(0))?;
-    let head = format!("{}  {}, {} bytes\n", files::shown(given.word(0)), item.form, item.bytes.len());
+    let head = format!("{}  read as {}, {} bytes\n", files::shown(given.word(0)), item.form, item.bytes.len());
     let base = object! {
         "command": "walk", "file": files::shown(given.word(0)), "form": item.form.as_str(), "size": item.bytes.len(),
     };
@@ -41,24 +41,18 @@ fn run(given: &Given) -> Result<Answer, Stop> {
 fn passed(head: String, base: Json, item: &Item, count: u64) -> Answer {
     let nodes = tree::read(&item.bytes, item.bytes.len()).nodes;
     let said = format!("PASSED   {}\n", counted(usize::try_from(count).unwrap_or(usize::MAX), "element"));
-    let json = base.with(object! { "passed": true, "count": count, "elements": elements(&nodes, &item.bytes) });
-    Answer { status: 0, text: head + &drawn(&nodes, &item.bytes) + &said, json }
+    let fields = object! { "count": count, "elements": elements(&nodes, &item.bytes) };
+    Answer::passed(head + &drawn(&nodes, &item.bytes) + &said, base, fields)
 }
 
 fn refused(head: String, base: Json, item: &Item, refusal: Refusal) -> Answer {
     let at = usize::try_from(refusal.detail).unwrap_or(usize::MAX);
     let reading = tree::read(&item.bytes, at);
-    let mut words = explain::paragraphs(Judged::Item, refusal, &item.bytes);
-    words.extend(item.note.map(|note| format!("Note: {note}.")));
     let dashes = "-".repeat(indent(reading.depth));
     let mark = format!("{at:>6} {at:>5x} {:>6}  {dashes}> here\n", "FAULT");
-    let text = head + &drawn(&reading.nodes, &item.bytes) + &mark + &explain::text(refusal, &words);
-    let json = base.with(object! {
-        "passed": false,
-        "refusal": explain::json(refusal, &words),
-        "elements": elements(&reading.nodes, &item.bytes),
-    });
-    Answer { status: status(refusal), text, json }
+    let head = head + &drawn(&reading.nodes, &item.bytes) + &mark;
+    let base = base.with(object! { "elements": elements(&reading.nodes, &item.bytes) });
+    Answer::refused(head, base, refusal, &explain::of_item(Judged::Item, refusal, item))
 }
 
 fn indent(depth: usize) -> usize {
