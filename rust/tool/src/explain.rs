@@ -111,7 +111,7 @@ pub fn of_item(judged: Judged, refusal: Refusal, item: &Item) -> Vec<String> {
 }
 
 fn said(judged: Judged, refusal: Refusal) -> String {
-    rule(judged, refusal).to_string()
+    format!("The rule: {}", rule(judged, refusal))
 }
 
 fn profile(judged: Judged) -> &'static str {

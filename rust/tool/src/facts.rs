@@ -2,7 +2,7 @@
 
 use crate::names;
 use crate::oids;
-use crate::text::{clip, hex, octets, WIDTH};
+use crate::text::{clip, counted, hex, octets, WIDTH};
 use crate::tree::{members, root, tag_name, value, Node};
 
 /// Lines of fields and extensions, as far as they can be read.
@@ -10,8 +10,12 @@ pub fn lines(bytes: &[u8]) -> Vec<String> {
     let tbs = root(bytes).and_then(|top| members(bytes, &top).first().copied());
     let fields = tbs.map(|tbs| members(bytes, &tbs)).unwrap_or_default();
     let mut out = Vec::new();
-    for field in &fields {
+    for (n, field) in fields.iter().enumerate() {
         match field.tag {
+            // The first field of a CRL is its version; the other INTEGER is a certificate's serial.
+            2 => {
+                out.push(line(field, &format!("{} {}", if n == 0 { "version" } else { "serial" }, value(field, bytes))))
+            }
             0xa0 | 0xa3 => wrapped(bytes, field, &mut out),
             0x30 => out.push(sequence(bytes, field)),
             _ => out.push(line(field, &format!("{} {}", tag_name(field.tag), value(field, bytes)))),
@@ -34,9 +38,20 @@ fn sequence(bytes: &[u8], field: &Node) -> String {
             format!("times {}", each.join(" to "))
         }
         Some(6) => format!("algorithm {}", inside.first().map(|oid| value(oid, bytes)).unwrap_or_default()),
-        _ => format!("SEQUENCE of {} members, {} bytes", inside.len(), field.length),
+        Some(0x30) => key_or_entries(bytes, &inside),
+        _ => format!("SEQUENCE of {}", counted(inside.len(), "member")),
     };
     line(field, &text)
+}
+
+fn key_or_entries(bytes: &[u8], inside: &[Node]) -> String {
+    match inside {
+        [algorithm, key] if key.tag == 3 => {
+            let oid = members(bytes, algorithm).first().map(|oid| value(oid, bytes)).unwrap_or_default();
+            format!("key {oid}, {}", counted(key.length, "byte"))
+        }
+        _ => format!("list of {}", counted(inside.len(), "entry")),
+    }
 }
 
 /// A0 around a version, or A0 or A3 around extensions.

@@ -140,6 +140,20 @@ fn refusal_4_tells_every_rule() {
 }
 
 #[test]
+fn published_items_get_their_stored_answers() {
+    let bench = Bench::new("published");
+    let folder = "tests/data/published";
+    let rows = std::fs::read_to_string(root().join(folder).join("answers.tsv")).unwrap();
+    for row in rows.lines().skip(1) {
+        let row: Vec<&str> = row.split('\t').collect();
+        let number = row[2].parse().unwrap();
+        let run = bench.status(&format!("item {folder}/{} --as {}", row[0], row[1]), number);
+        assert!(number == 0 || run.out.contains(&format!("REFUSED  {number}, detail {}:", row[3])), "{}", run.out);
+        assert!(run.out.lines().skip(1).all(|line| line.chars().count() <= 100), "{}", run.out);
+    }
+}
+
+#[test]
 fn refusal_5_tells_every_rule() {
     let bench = Bench::new("image-rules");
     bench.pack("today");
