@@ -1,0 +1,87 @@
+//! Outputs held to the stored texts in `tests/expected`. With VRBOLIST_STORE set the texts are written anew.
+
+mod common;
+
+use common::{Bench, Run, MADE};
+use std::path::Path;
+
+fn held(name: &str, run: &Run) {
+    let path = Path::new(env!("CARGO_MANIFEST_DIR")).join("tests/expected").join(name);
+    let told = format!("{}{}exit status {}\n", run.out, run.err, run.status.unwrap());
+    if std::env::var_os("VRBOLIST_STORE").is_some() {
+        std::fs::write(&path, &told).unwrap();
+    }
+    assert_eq!(std::fs::read_to_string(&path).unwrap_or_default(), told, "{name}");
+    let code = name.contains("json");
+    assert!(!code || common::json::sound(&run.out), "{name} is not JSON");
+    assert!(code || told.lines().all(|line| line.chars().count() <= 100), "{name} is wider than 100 columns");
+}
+
+#[test]
+fn items() {
+    let bench = Bench::new("expected-items");
+    held("item-anchor.txt", &bench.line(&format!("item {MADE}/xo-anchor-1.der --as anchor")));
+    held("item-signer.txt", &bench.line(&format!("item {MADE}/ut-signer-4.der --as signer")));
+    held("item-crl.txt", &bench.line(&format!("item {MADE}/ut-crl-today.der --as crl")));
+    held("item-json.txt", &bench.line(&format!("item {MADE}/ut-link-12.der --as link --json")));
+    held("item-crl-json.txt", &bench.line(&format!("item {MADE}/xo-crl.der --as crl --json")));
+    held("item-refused.txt", &bench.line(&format!("item {MADE}/ut-signer-1.der --as anchor")));
+    held("item-refused-json.txt", &bench.line(&format!("item {MADE}/ut-signer-1.der --as crl --json")));
+    let mut cut = std::fs::read(common::root().join(MADE).join("ut-link-23.der")).unwrap();
+    cut.truncate(400);
+    bench.write("cut.der", &cut);
+    held("item-cut.txt", &bench.line("item cut.der --as link"));
+}
+
+#[test]
+fn trees() {
+    let bench = Bench::new("expected-trees");
+    held("walk.txt", &bench.line(&format!("walk {MADE}/ut-crl-today.der")));
+    bench.write("fault.der", &[0x30, 0x0b, 0x30, 0x06, 0x01, 0x01, 0xff, 0x01, 0x01, 0x05, 0x02, 0x01, 0x07]);
+    held("walk-fault.txt", &bench.line("walk fault.der"));
+    held("walk-json.txt", &bench.line("walk fault.der --json"));
+}
+
+#[test]
+fn images() {
+    let bench = Bench::new("expected-images");
+    held("pack.txt", &bench.pack("yesterday"));
+    held("image.txt", &bench.line("image yesterday.image --day 20261114"));
+    held("image-stale.txt", &bench.line("image yesterday.image --day 20261115"));
+    held("image-stale-json.txt", &bench.line("image yesterday.image --day 20261115 --json"));
+    held("unpack.txt", &bench.line("unpack yesterday.image items"));
+    let small = format!("--anchor {MADE}/xo-anchor-1.der --signer {MADE}/ut-anchor-1.der");
+    held("pack-json.txt", &bench.line(&format!("pack small.image --day 20261115 --json {small}")));
+    held("image-json.txt", &bench.line("image small.image --json"));
+    held("image-broken.txt", &bench.line("image small.image"));
+    held("unpack-json.txt", &bench.line("unpack small.image small --json"));
+}
+
+#[test]
+fn chains() {
+    let bench = Bench::new("expected-chains");
+    bench.pack("today");
+    let ask = |signer: &str| {
+        bench.line(&format!("chain today.image --table today.table --at 20261115120000 --signer {signer}"))
+    };
+    held("chain.txt", &ask("8"));
+    held("chain-none.txt", &ask("7"));
+    held("chain-all.txt", &ask("all"));
+    held("chain-json.txt", &ask("8 --json"));
+    held("chain-none-json.txt", &ask("7 --json"));
+    let early = "chain today.image --table today.table --at 20261110235959 --signer 8";
+    held("chain-early.txt", &bench.line(early));
+}
+
+#[test]
+fn days_and_demo() {
+    let bench = Bench::new("expected-days");
+    held("days.txt", &bench.line("days 20210101 20201231"));
+    held("days-json.txt", &bench.line("days 19500101 20991231 --json"));
+    held("days-refused.txt", &bench.line("days 20230229 20240301"));
+    held("age.txt", &bench.line(&format!("age {MADE}/ut-crl-yesterday.der 20261115")));
+    held("age-json.txt", &bench.line(&format!("age {MADE}/ut-crl-yesterday.der 20261115 --json")));
+    held("demo.txt", &bench.line("demo"));
+    held("demo-json.txt", &bench.line("demo --json"));
+    held("help.txt", &bench.line("--help"));
+}
