@@ -8,8 +8,9 @@ use elements::element_at;
 use elements::element_tagged;
 use elements::same;
 use extensions::Extension;
-use extensions::lookup;
+use extensions::extension_in;
 ghost use mathlib.Core.Path.{_≡_};
+ghost use Rattle.extensions.specs.Extensions.{Placed};
 ghost use Rattle.certificate.specs.Keys.{walks, octetString, firstOf, subjectKey, authorityKey, typesIn, listGood, documentTypes};
 
 // Where the contents of a key identifier start and end; that there is none; that it has not its form.
@@ -19,14 +20,15 @@ pub enum KeyId {
     Misformed,
 }
 
-pub(crate) fn subject_key(item: &[u8], extensions: Element) -> KeyId
+pub(crate) fn subject_key(item: &[u8], extensions: Element, slots: [usize; 23]) -> KeyId
+    requires { ⌜ Placed (now item) extensions slots ⌝ }
     ensures { λ r. ⌜ r ≡ subjectKey (now (item .entry)) extensions ⌝ }
 {
     let Extension::Is {
         oid: _,
         critical,
         value,
-    } = lookup(item, extensions, b"\x55\x1d\x0e")
+    } = extension_in(item, slots[0], extensions.end)
     else {
         return KeyId::Keyless;
     };
@@ -39,14 +41,15 @@ pub(crate) fn subject_key(item: &[u8], extensions: Element) -> KeyId
     octet_string(item, value)
 }
 
-pub(crate) fn authority_key(item: &[u8], extensions: Element) -> KeyId
+pub(crate) fn authority_key(item: &[u8], extensions: Element, slots: [usize; 23]) -> KeyId
+    requires { ⌜ Placed (now item) extensions slots ⌝ }
     ensures { λ r. ⌜ r ≡ authorityKey (now (item .entry)) extensions ⌝ }
 {
     let Extension::Is {
         oid: _,
         critical,
         value,
-    } = lookup(item, extensions, b"\x55\x1d\x23")
+    } = extension_in(item, slots[21], extensions.end)
     else {
         return KeyId::Keyless;
     };
@@ -99,14 +102,15 @@ fn first_of(item: &[u8], value: Element) -> KeyId
 }
 
 // The document type list, not critical.
-pub(crate) fn document_types(item: &[u8], extensions: Element) -> bool
+pub(crate) fn document_types(item: &[u8], extensions: Element, slots: [usize; 23]) -> bool
+    requires { ⌜ Placed (now item) extensions slots ⌝ }
     ensures { λ r. ⌜ r ≡ documentTypes (now (item .entry)) extensions ⌝ }
 {
     let Extension::Is {
         oid: _,
         critical,
         value,
-    } = lookup(item, extensions, b"\x67\x81\x08\x01\x01\x06\x02")
+    } = extension_in(item, slots[22], extensions.end)
     else {
         return false;
     };

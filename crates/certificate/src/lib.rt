@@ -6,6 +6,7 @@ mod shapes;
 use der::Walked;
 use der::walk;
 use elements::between;
+use extensions::all_places;
 use keys::KeyId;
 use names::first_letter;
 use names::second_letter;
@@ -70,13 +71,14 @@ fn profile(item: &[u8], role: u64) -> Judged
     let Shape::Parts(l) = layout_of(item) else {
         return Judged::Refused(Refusal::Profile { rule: 1 });
     };
-    let r = readings_of(item, l);
+    let extensions = l.extensions;
+    let slots = all_places(item, extensions);
+    let r = readings_of(item, l, slots);
     let early = rules_2_to_8(item, l, r);
     if early != 0 {
         return Judged::Refused(Refusal::Profile { rule: early });
     }
-    let extensions = l.extensions;
-    let late = rules_9_to_14(item, extensions, r, role);
+    let late = rules_9_to_14(item, extensions, slots, r, role);
     if late != 0 {
         return Judged::Refused(Refusal::Profile { rule: late });
     }

@@ -12,7 +12,7 @@ use elements::same;
 use elements::whole;
 use extensions::Extension;
 use extensions::doubled;
-use extensions::lookup;
+use extensions::extension_in;
 use extensions::some_critical;
 use names::Letters;
 use names::letters_of;
@@ -20,6 +20,7 @@ use times::Time;
 use times::in_order;
 use times::time_of;
 ghost use mathlib.Core.Path.{_≡_};
+ghost use Rattle.extensions.specs.Extensions.{Placed};
 ghost use Rattle.refusal.specs.Rules.{firstBroken};
 ghost use Rattle.certificate.specs.Rules.{bothKeys, criticalWith, keyGood, plain, readingsOf, rule2, rule3, rule4, rule8, rule9, rule10, rule12, rule13, rules2to8, rules9to14, sameTwo};
 
@@ -33,7 +34,8 @@ pub struct Readings {
     pub authority: KeyId,
 }
 
-pub(crate) fn readings_of(item: &[u8], l: Layout) -> Readings
+pub(crate) fn readings_of(item: &[u8], l: Layout, slots: [usize; 23]) -> Readings
+    requires { ⌜ Placed (now item) (l .extensions) slots ⌝ }
     ensures { λ r. ⌜ r ≡ readingsOf (now (item .entry)) l ⌝ }
 {
     let first = l.start;
@@ -45,8 +47,8 @@ pub(crate) fn readings_of(item: &[u8], l: Layout) -> Readings
     let finish = time_of(item, last);
     let issuer = letters_of(item, issuer_country);
     let subject = letters_of(item, subject_country);
-    let own = subject_key(item, extensions);
-    let authority = authority_key(item, extensions);
+    let own = subject_key(item, extensions, slots);
+    let authority = authority_key(item, extensions, slots);
     Readings {
         start,
         finish,
@@ -90,13 +92,20 @@ pub(crate) fn rules_2_to_8(item: &[u8], l: Layout, r: Readings) -> u64
 }
 
 // The first of rules 9 to 14 that is broken, else 0.
-pub(crate) fn rules_9_to_14(item: &[u8], extensions: Element, r: Readings, role: u64) -> u64
+pub(crate) fn rules_9_to_14(
+    item: &[u8],
+    extensions: Element,
+    slots: [usize; 23],
+    r: Readings,
+    role: u64,
+) -> u64
+    requires { ⌜ Placed (now item) extensions slots ⌝ }
     ensures { λ rule. ⌜ rule ≡ firstBroken 9 (rules9to14 (now (item .entry)) extensions r role) ⌝ }
 {
-    if !usage_good(item, extensions, role) {
+    if !usage_good(item, extensions, slots, role) {
         return 9;
     }
-    if !constraints_good(item, extensions, role) {
+    if !constraints_good(item, extensions, slots, role) {
         return 10;
     }
     let own = r.own;
@@ -104,10 +113,10 @@ pub(crate) fn rules_9_to_14(item: &[u8], extensions: Element, r: Readings, role:
     if !keys_good(own, authority, role) {
         return 11;
     }
-    if !four_plain(item, extensions) {
+    if !four_plain(item, extensions, slots) {
         return 12;
     }
-    if !documents_good(item, extensions, role) {
+    if !documents_good(item, extensions, slots, role) {
         return 13;
     }
     if some_critical(item, extensions, true) {
@@ -187,10 +196,11 @@ fn extensions_once(item: &[u8], l: Layout) -> bool
 }
 
 // 9: keyUsage critical, its contents by role.
-fn usage_good(item: &[u8], extensions: Element, role: u64) -> bool
+fn usage_good(item: &[u8], extensions: Element, slots: [usize; 23], role: u64) -> bool
+    requires { ⌜ Placed (now item) extensions slots ⌝ }
     ensures { λ r. ⌜ r ≡ rule9 (now (item .entry)) extensions role ⌝ }
 {
-    let usage = lookup(item, extensions, b"\x55\x1d\x0f");
+    let usage = extension_in(item, slots[1], extensions.end);
     if role == 3 {
         return critical_with(item, b"\x03\x02\x07\x80", usage);
     }
@@ -198,10 +208,11 @@ fn usage_good(item: &[u8], extensions: Element, role: u64) -> bool
 }
 
 // 10: basicConstraints critical and of one form in anchor and link, absent in a document signer.
-fn constraints_good(item: &[u8], extensions: Element, role: u64) -> bool
+fn constraints_good(item: &[u8], extensions: Element, slots: [usize; 23], role: u64) -> bool
+    requires { ⌜ Placed (now item) extensions slots ⌝ }
     ensures { λ r. ⌜ r ≡ rule10 (now (item .entry)) extensions role ⌝ }
 {
-    let constraints = lookup(item, extensions, b"\x55\x1d\x13");
+    let constraints = extension_in(item, slots[5], extensions.end);
     if role == 3 {
         if let Extension::Is {
             oid: _,
@@ -254,19 +265,20 @@ fn key_good(wanted: bool, key: KeyId) -> bool
 }
 
 // 12: 2.5.29.16, .17, .18 and .31 present, not critical.
-fn four_plain(item: &[u8], extensions: Element) -> bool
+fn four_plain(item: &[u8], extensions: Element, slots: [usize; 23]) -> bool
+    requires { ⌜ Placed (now item) extensions slots ⌝ }
     ensures { λ r. ⌜ r ≡ rule12 (now (item .entry)) extensions ⌝ }
 {
-    if !plain_there(lookup(item, extensions, b"\x55\x1d\x10")) {
+    if !plain_there(extension_in(item, slots[2], extensions.end)) {
         return false;
     }
-    if !plain_there(lookup(item, extensions, b"\x55\x1d\x11")) {
+    if !plain_there(extension_in(item, slots[3], extensions.end)) {
         return false;
     }
-    if !plain_there(lookup(item, extensions, b"\x55\x1d\x12")) {
+    if !plain_there(extension_in(item, slots[4], extensions.end)) {
         return false;
     }
-    plain_there(lookup(item, extensions, b"\x55\x1d\x1f"))
+    plain_there(extension_in(item, slots[17], extensions.end))
 }
 
 fn plain_there(extension: Extension) -> bool
@@ -284,11 +296,12 @@ fn plain_there(extension: Extension) -> bool
 }
 
 // 13: the document type list of a document signer.
-fn documents_good(item: &[u8], extensions: Element, role: u64) -> bool
+fn documents_good(item: &[u8], extensions: Element, slots: [usize; 23], role: u64) -> bool
+    requires { ⌜ Placed (now item) extensions slots ⌝ }
     ensures { λ r. ⌜ r ≡ rule13 (now (item .entry)) extensions role ⌝ }
 {
     if role == 3 {
-        return document_types(item, extensions);
+        return document_types(item, extensions, slots);
     }
     true
 }

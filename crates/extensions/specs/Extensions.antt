@@ -1,8 +1,9 @@
 -- Extensions: SEQUENCE {OID, optional BOOLEAN which is then TRUE, OCTET STRING}.
-use Prim.Native.Nat.{ℕ}
+use Prim.Native.Nat.{ℕ, _+_, _<_}
+use mathlib.Core.Path.{_≡_}
 use mathlib.Core.Bool.{Bool, true, false, cond, _&&_, _||_, not}
 use mathlib.Core.List.{List, [], _∷_}
-use lib.Dec.{eqb}
+use lib.Dec.{eqb, ltb}
 use lib.ListN.{getD}
 use Rattle.elements.specs.declared.elements.Element.{Element}
 use Rattle.elements.specs.declared.elements.Found.{Found}
@@ -57,6 +58,23 @@ lookupOf s extensions oid = firstWith s oid (inside s extensions)
 unfoldable pub placeIn : List ℕ → List ℕ → List Element → ℕ → ℕ
 placeIn s oid [] none = none
 placeIn s oid (e ∷ rest) none = cond (hasOid s oid (extensionOf s e)) (e .at) (placeIn s oid rest none)
+
+-- the OIDs that have a slot: 2.5.29.14 to 2.5.29.35 in slots 0 to 21, the document type list in slot 22
+unfoldable pub oidOf : ℕ → List ℕ
+oidOf k =
+    cond (ltb k 22) (0x55 ∷ 0x1D ∷ (k + 14) ∷ []) (0x67 ∷ 0x81 ∷ 0x08 ∷ 0x01 ∷ 0x01 ∷ 0x06 ∷ 0x02 ∷ [])
+
+-- an extension has the slot of its OID
+abbrev pub Slotted : List ℕ → Extension → ℕ → Type 0
+Slotted s extension slot = (k : ℕ) → k < 23 → eqb slot k ≡ hasOid s (oidOf k) extension
+
+-- each slot holds where the first extension with its OID starts, or the end where there is none
+pub record Placed (s : List ℕ) (extensions : Element) (slots : List ℕ) : Type 0 where
+  pub each : (k : ℕ) → k < 23 → getD slots k 0 ≡ placeIn s (oidOf k) (inside s extensions) (extensions .end)
+
+-- the extension that starts at `at`, before `end`
+unfoldable pub extensionAt : List ℕ → ℕ → ℕ → Extension
+extensionAt s at end = onFound (foundAt s at end) Absent (extensionOf s)
 
 -- whether two extensions have one OID
 unfoldable pub sameOids : List ℕ → Extension → Extension → Bool

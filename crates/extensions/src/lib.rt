@@ -6,8 +6,12 @@ use elements::element_at;
 use elements::element_tagged;
 use elements::same;
 ghost use mathlib.Core.Path.{_≡_};
-ghost use Rattle.extensions.specs.Extensions.{holdingOf, extensionOf, extensionsShaped, lookupOf, doubledOf, hasOid, placeIn, sameOids, refusedCritical, criticalOf};
+ghost use mathlib.Core.List.{[], _∷_};
+ghost use Prim.Native.Nat.{ℕ, _<_};
+ghost use lib.Dec.{eqb};
+ghost use Rattle.extensions.specs.Extensions.{holdingOf, extensionOf, extensionsShaped, lookupOf, doubledOf, hasOid, placeIn, sameOids, refusedCritical, criticalOf, oidOf, Slotted, Placed, extensionAt};
 ghost use Rattle.elements.specs.Elements.{membersOf};
+ghost use Rattle.elements.specs.Octets.{alike};
 
 pub enum Extension {
     Is {
@@ -98,6 +102,79 @@ pub fn lookup(item: &[u8], extensions: Element, oid: &[u8]) -> Extension
         return Extension::Absent;
     };
     extension_of(item, e)
+}
+
+// Where the first extension of each slot's OID starts, or the end where there is none: 2.5.29.14 to 2.5.29.35 in slots
+// 0 to 21, the document type list in slot 22.
+pub fn all_places(item: &[u8], extensions: Element) -> [usize; 23]
+    ensures { λ r. ⌜ Placed (now (item .entry)) extensions r ⌝ }
+{
+    let end = extensions.end;
+    let mut slots = [end; 23];
+    let mut at = extensions.contents;
+    loop {
+        let Found::One(e) = element_at(item, at, end) else {
+            return slots;
+        };
+        let slot = slot_of(item, extension_of(item, e));
+        if slot < 23 {
+            if slots[slot] == end {
+                slots[slot] = at;
+            }
+        }
+        at = e.end;
+    }
+}
+
+// The slot of an extension's OID, 23 for one that has no slot.
+fn slot_of(item: &[u8], extension: Extension) -> usize
+    ensures { λ r. ⌜ Slotted (now (item .entry)) extension r ⌝ }
+{
+    let Extension::Is {
+        oid,
+        critical: _,
+        value: _,
+    } = extension
+    else {
+        return 23;
+    };
+    let own = contents(item, oid);
+    if own.len() == 3 {
+        return slot_by(own[0], own[1], own[2]);
+    }
+    if same(own, b"\x67\x81\x08\x01\x01\x06\x02") {
+        return 22;
+    }
+    23
+}
+
+// The slot of an OID of three octets.
+fn slot_by(a: u8, b: u8, c: u8) -> usize
+    ensures { λ r. ⌜ ((k : ℕ) → k < 23 → eqb r k ≡ alike (a ∷ b ∷ c ∷ []) (oidOf k)) ⌝ }
+{
+    if a != 0x55 {
+        return 23;
+    }
+    if b != 0x1d {
+        return 23;
+    }
+    if c < 14 {
+        return 23;
+    }
+    if 35 < c {
+        return 23;
+    }
+    c as usize - 14
+}
+
+// The extension that starts at an offset.
+pub fn extension_in(item: &[u8], at: usize, end: usize) -> Extension
+    ensures { λ r. ⌜ r ≡ extensionAt (now (item .entry)) at end ⌝ }
+{
+    let Found::One(found) = element_at(item, at, end) else {
+        return Extension::Absent;
+    };
+    extension_of(item, found)
 }
 
 // Whether some OID stands twice.
