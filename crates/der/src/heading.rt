@@ -34,7 +34,7 @@ pub(crate) fn header(s: &[u8]) -> Heading
     Heading::Bad
 }
 
-fn identifier(tag: u8) -> bool
+pub(crate) fn identifier(tag: u8) -> bool
     ensures { λ r. ⌜ r ≡ identifierGood tag ⌝ }
 {
     let number = tag % 32;

@@ -2,12 +2,14 @@
 use crate::contents::contents_good;
 use crate::heading::Heading;
 use crate::heading::header;
+use crate::heading::identifier;
 use refusal::Refusal;
 ghost use mathlib.Core.Path.{_≡_};
-ghost use Prim.Native.Nat.{ℕ, _+_, _*_, _≤_};
+ghost use Prim.Native.Nat.{ℕ, _+_, _*_, _≤_, _<_};
 ghost use lib.ListN.{length};
 ghost use Rattle.der.specs.Forms.{paper};
 ghost use Rattle.der.specs.Walk.{elementAt, listAt, walkOf, counted};
+ghost use Rattle.der.specs.declared.walking.Read.the-variants.{Past};
 
 // The count of elements read, at most 4,096, or the first fault.
 pub enum Walked {
@@ -78,6 +80,12 @@ fn list(s: &[u8], base: usize, depth: usize, count: usize) -> Walked
     let mut at = 0;
     let mut read = count;
     while at < s.len() {
+        let taken = leaf(&s[at..], depth, read);
+        if 0 < taken {
+            at += taken;
+            read += 1;
+            continue;
+        }
         match element(&s[at..], base + at, depth, read) {
             Read::Fault(refusal) => return Walked::Refused(refusal),
             Read::Past { used, count } => {
@@ -87,4 +95,39 @@ fn list(s: &[u8], base: usize, depth: usize, count: usize) -> Walked
         }
     }
     Walked::Passed { count: read }
+}
+
+// The octets of the element at the front of `s` if it is primitive, its length in the short form, and nothing is wrong
+// with it; else 0, and `element` has to judge it.
+fn leaf(s: &[u8], depth: usize, count: usize) -> usize
+    ensures { λ r. ⌜ (0 < r → (base fuel : ℕ) → 2 * length (now (s .entry)) + 1 ≤ fuel → Past r (count + 1) ≡ elementAt fuel paper (now (s .entry)) base depth count) ⌝ }
+{
+    if s.len() < 2 {
+        return 0;
+    }
+    let tag = s[0];
+    if tag / 32 % 2 == 1 {
+        return 0;
+    }
+    if !identifier(tag) {
+        return 0;
+    }
+    let size = s[1] as usize;
+    if 128 <= size {
+        return 0;
+    }
+    if s.len() - 2 < size {
+        return 0;
+    }
+    if 16 < depth {
+        return 0;
+    }
+    if 4096 <= count {
+        return 0;
+    }
+    let end = 2 + size;
+    if contents_good(tag, &s[2..end]) {
+        return end;
+    }
+    0
 }
