@@ -21,7 +21,6 @@ use Rattle.der.proofs.walking.list.Kinds as list-kinds
 use Rattle.der.proofs.walking.+element+list.Lts-list as list-lts
 use Rattle.der.proofs.contents.contents_good.Reads as contents-good-reads
 use Rattle.der.proofs.heading.header.Reads as header-reads
-use Rattle.der.proofs.walking.leaf.Reads as leaf-reads
 use Rattle.der.proofs.walking.+element+list.{statement}
 use Rattle.der.proofs.walking.+element+list.Tie.{close}
 
@@ -153,88 +152,56 @@ list-Inv-loop s base depth count at₀ read₀ at read = (at ≤ length s) × (r
 abbrev list-μ-loop : list-lts.MeasureT-loop
 list-μ-loop s base depth count at₀ read₀ at read = length s - at
 
--- src/walking.rt:82:5
-list-loop-holds : (t : ℕ) → list-lts.Need-loop-holds (leaf-reads.Asked, leaf-reads.Learnt, element-below t, element.Post) (list-at t) list.Post list-Inv-loop list-μ-loop
+-- src/walking.rt:76:5
+list-loop-holds : (t : ℕ) → list-lts.Need-loop-holds (element-below t, element.Post) (list-at t) list.Post list-Inv-loop list-μ-loop
 list-loop-holds t c = (omega arith, omega arith, left-first paper (c .before .args .s .now) (c .before .args .base) (c .before .args .depth) (c .before .args .count))
 
--- src/walking.rt:83:26
-list-sub-leaf : (t : ℕ) → list-lts.Need-sub-leaf (leaf-reads.Asked, leaf-reads.Learnt, element-below t, element.Post) (list-at t) list.Post list-Inv-loop list-μ-loop
-list-sub-leaf t c = search needs
-
--- src/walking.rt:83:26
-list-part-leaf-start : (t : ℕ) → list-lts.Need-part-leaf-start (leaf-reads.Asked, leaf-reads.Learnt, element-below t, element.Post) (list-at t) list.Post list-Inv-loop list-μ-loop
-list-part-leaf-start t c = search needs
-
--- src/walking.rt:83:26
-list-part-leaf-end : (t : ℕ) → list-lts.Need-part-leaf-end (leaf-reads.Asked, leaf-reads.Learnt, element-below t, element.Post) (list-at t) list.Post list-Inv-loop list-μ-loop
-list-part-leaf-end t c = search needs
-
--- src/walking.rt:83:13
-list-leaf-requires : (t : ℕ) → list-lts.Need-leaf-requires (leaf-reads.Asked, leaf-reads.Learnt, element-below t, element.Post) (list-at t) list.Post list-Inv-loop list-μ-loop
-list-leaf-requires t c κs = search needs
-
--- src/walking.rt:85:13
-list-add-at : (t : ℕ) → list-lts.Need-add-at (leaf-reads.Asked, leaf-reads.Learnt, element-below t, element.Post) (list-at t) list.Post list-Inv-loop list-μ-loop
-list-add-at t c = omega (arith, read-within paper (c .before .before .before .before .before .before .args .s .now) (c .before .before .before .before .before .before .args .base) (c .before .before .before .before .before .before .args .depth) (c .before .before .before .before .before .before .args .count) (c .before .before .before .before .loop .at) (c .before .before .before .before .loop .read) (c .before .before .before .loop-test .taken) (c .before .before .before .before .loop .inv .2) (λ fuel h. c .before .leaf .ensures (c .if1 .taken) (c .before .before .before .before .before .before .args .base + c .before .before .before .before .loop .at) fuel h))
-
--- src/walking.rt:86:13
-list-add-read : (t : ℕ) → list-lts.Need-add-read (leaf-reads.Asked, leaf-reads.Learnt, element-below t, element.Post) (list-at t) list.Post list-Inv-loop list-μ-loop
-list-add-read t c = search needs
-
--- src/walking.rt:82:5
-list-loop-less : (t : ℕ) → list-lts.Need-loop-less (leaf-reads.Asked, leaf-reads.Learnt, element-below t, element.Post) (list-at t) list.Post list-Inv-loop list-μ-loop
-list-loop-less t c = omega (arith, read-within paper (c .before .before .before .before .before .before .args .s .now) (c .before .before .before .before .before .before .args .base) (c .before .before .before .before .before .before .args .depth) (c .before .before .before .before .before .before .args .count) (c .before .before .before .before .loop .at) (c .before .before .before .before .loop .read) (c .before .before .before .loop-test .taken) (c .before .before .before .before .loop .inv .2) (λ fuel h. c .before .leaf .ensures (c .if1 .taken) (c .before .before .before .before .before .before .args .base + c .before .before .before .before .loop .at) fuel h))
-
--- src/walking.rt:82:5
-list-loop-again : (t : ℕ) → list-lts.Need-loop-again (leaf-reads.Asked, leaf-reads.Learnt, element-below t, element.Post) (list-at t) list.Post list-Inv-loop list-μ-loop
-list-loop-again t c = (read-within paper (c .before .before .before .before .before .before .args .s .now) (c .before .before .before .before .before .before .args .base) (c .before .before .before .before .before .before .args .depth) (c .before .before .before .before .before .before .args .count) (c .before .before .before .before .loop .at) (c .before .before .before .before .loop .read) (c .before .before .before .loop-test .taken) (c .before .before .before .before .loop .inv .2) (λ fuel h. c .before .leaf .ensures (c .if1 .taken) (c .before .before .before .before .before .before .args .base + c .before .before .before .before .loop .at) fuel h) .1, read-within paper (c .before .before .before .before .before .before .args .s .now) (c .before .before .before .before .before .before .args .base) (c .before .before .before .before .before .before .args .depth) (c .before .before .before .before .before .before .args .count) (c .before .before .before .before .loop .at) (c .before .before .before .before .loop .read) (c .before .before .before .loop-test .taken) (c .before .before .before .before .loop .inv .2) (λ fuel h. c .before .leaf .ensures (c .if1 .taken) (c .before .before .before .before .before .before .args .base + c .before .before .before .before .loop .at) fuel h) .2, left-next paper (c .before .before .before .before .before .before .args .s .now) (c .before .before .before .before .before .before .args .base) (c .before .before .before .before .before .before .args .depth) (c .before .before .before .before .before .before .args .count) (c .before .before .before .before .loop .at) (c .before .before .before .before .loop .read) (c .before .before .before .loop-test .taken) (c .before .before .before .before .loop .inv .2) (λ fuel h. c .before .leaf .ensures (c .if1 .taken) (c .before .before .before .before .before .before .args .base + c .before .before .before .before .loop .at) fuel h))
-
--- src/walking.rt:89:23
-list-sub-element : (t : ℕ) → list-lts.Need-sub-element (leaf-reads.Asked, leaf-reads.Learnt, element-below t, element.Post) (list-at t) list.Post list-Inv-loop list-μ-loop
+-- src/walking.rt:77:23
+list-sub-element : (t : ℕ) → list-lts.Need-sub-element (element-below t, element.Post) (list-at t) list.Post list-Inv-loop list-μ-loop
 list-sub-element t c = search needs
 
--- src/walking.rt:89:23
-list-part-element-start : (t : ℕ) → list-lts.Need-part-element-start (leaf-reads.Asked, leaf-reads.Learnt, element-below t, element.Post) (list-at t) list.Post list-Inv-loop list-μ-loop
+-- src/walking.rt:77:23
+list-part-element-start : (t : ℕ) → list-lts.Need-part-element-start (element-below t, element.Post) (list-at t) list.Post list-Inv-loop list-μ-loop
 list-part-element-start t c = search needs
 
--- src/walking.rt:89:23
-list-part-element-end : (t : ℕ) → list-lts.Need-part-element-end (leaf-reads.Asked, leaf-reads.Learnt, element-below t, element.Post) (list-at t) list.Post list-Inv-loop list-μ-loop
+-- src/walking.rt:77:23
+list-part-element-end : (t : ℕ) → list-lts.Need-part-element-end (element-below t, element.Post) (list-at t) list.Post list-Inv-loop list-μ-loop
 list-part-element-end t c = search needs
 
--- src/walking.rt:89:33
-list-add-element : (t : ℕ) → list-lts.Need-add-element (leaf-reads.Asked, leaf-reads.Learnt, element-below t, element.Post) (list-at t) list.Post list-Inv-loop list-μ-loop
+-- src/walking.rt:77:33
+list-add-element : (t : ℕ) → list-lts.Need-add-element (element-below t, element.Post) (list-at t) list.Post list-Inv-loop list-μ-loop
 list-add-element t c = search needs
 
--- src/walking.rt:89:15
-list-element-requires : (t : ℕ) → list-lts.Need-element-requires (leaf-reads.Asked, leaf-reads.Learnt, element-below t, element.Post) (list-at t) list.Post list-Inv-loop list-μ-loop
-list-element-requires t c κs = let mu : 2 * length (c .before .before .before .before .before .before .before .args .s .now) + 1 ≡ t = c .before .before .before .before .before .before .before .pre .0 in omega (arith, length-take (length (c .before .before .before .before .before .before .before .args .s .now) - c .before .before .before .before .before .loop .at) (drop (c .before .before .before .before .before .loop .at) (c .before .before .before .before .before .before .before .args .s .now)), length-drop (c .before .before .before .before .before .loop .at) (c .before .before .before .before .before .before .before .args .s .now))
+-- src/walking.rt:77:15
+list-element-requires : (t : ℕ) → list-lts.Need-element-requires (element-below t, element.Post) (list-at t) list.Post list-Inv-loop list-μ-loop
+list-element-requires t c κs = let mu : 2 * length (c .before .before .before .before .args .s .now) + 1 ≡ t = c .before .before .before .before .pre .0 in omega (arith, length-take (length (c .before .before .before .before .args .s .now) - c .before .before .loop .at) (drop (c .before .before .loop .at) (c .before .before .before .before .args .s .now)), length-drop (c .before .before .loop .at) (c .before .before .before .before .args .s .now))
 
--- src/walking.rt:90:25
-list-enum-known-refusal : (t : ℕ) → list-lts.Need-enum-known-refusal (leaf-reads.Asked, leaf-reads.Learnt, element-below t, element.Post) (list-at t) list.Post list-Inv-loop list-μ-loop
+-- src/walking.rt:78:25
+list-enum-known-refusal : (t : ℕ) → list-lts.Need-enum-known-refusal (element-below t, element.Post) (list-at t) list.Post list-Inv-loop list-μ-loop
 list-enum-known-refusal t c = search needs
 
--- src/walking.rt:90:37
-list-returns : (t : ℕ) → list-lts.Need-returns (leaf-reads.Asked, leaf-reads.Learnt, element-below t, element.Post) (list-at t) list.Post list-Inv-loop list-μ-loop
-list-returns t c = left-fault paper (c .before .before .before .before .before .before .before .before .before .before .before .args .s .now) (c .before .before .before .before .before .before .before .before .before .before .before .args .base) (c .before .before .before .before .before .before .before .before .before .before .before .args .depth) (c .before .before .before .before .before .before .before .before .before .before .before .args .count) (c .before .before .before .before .before .before .before .before .before .loop .at) (c .before .before .before .before .before .before .before .before .before .loop .read) (c .before .before .before .before .before .before .before .before .loop-test .taken) (c .before .before .before .before .before .before .before .before .before .loop .inv .2) (λ fuel h. sym (c .before .refusal .given .1) ∙ c .before .before .before .element .ensures fuel h)
+-- src/walking.rt:78:37
+list-returns : (t : ℕ) → list-lts.Need-returns (element-below t, element.Post) (list-at t) list.Post list-Inv-loop list-μ-loop
+list-returns t c = left-fault paper (c .before .before .before .before .before .before .before .before .args .s .now) (c .before .before .before .before .before .before .before .before .args .base) (c .before .before .before .before .before .before .before .before .args .depth) (c .before .before .before .before .before .before .before .before .args .count) (c .before .before .before .before .before .before .loop .at) (c .before .before .before .before .before .before .loop .read) (c .before .before .before .before .before .loop-test .taken) (c .before .before .before .before .before .before .loop .inv .2) (λ fuel h. sym (c .before .refusal .given .1) ∙ c .before .before .before .element .ensures fuel h)
 
--- src/walking.rt:91:26
-list-enum-known-used : (t : ℕ) → list-lts.Need-enum-known-used (leaf-reads.Asked, leaf-reads.Learnt, element-below t, element.Post) (list-at t) list.Post list-Inv-loop list-μ-loop
+-- src/walking.rt:79:26
+list-enum-known-used : (t : ℕ) → list-lts.Need-enum-known-used (element-below t, element.Post) (list-at t) list.Post list-Inv-loop list-μ-loop
 list-enum-known-used t c = search needs
 
--- src/walking.rt:92:17
-list-add-at-2 : (t : ℕ) → list-lts.Need-add-at-2 (leaf-reads.Asked, leaf-reads.Learnt, element-below t, element.Post) (list-at t) list.Post list-Inv-loop list-μ-loop
-list-add-at-2 t c = omega (arith, read-within paper (c .before .before .before .before .before .before .before .before .before .before .before .args .s .now) (c .before .before .before .before .before .before .before .before .before .before .before .args .base) (c .before .before .before .before .before .before .before .before .before .before .before .args .depth) (c .before .before .before .before .before .before .before .before .before .before .before .args .count) (c .before .before .before .before .before .before .before .before .before .loop .at) (c .before .before .before .before .before .before .before .before .before .loop .read) (c .before .before .before .before .before .before .before .before .loop-test .taken) (c .before .before .before .before .before .before .before .before .before .loop .inv .2) (λ fuel h. sym (c .before .used .given .1) ∙ c .before .before .before .element .ensures fuel h))
+-- src/walking.rt:80:17
+list-add-at : (t : ℕ) → list-lts.Need-add-at (element-below t, element.Post) (list-at t) list.Post list-Inv-loop list-μ-loop
+list-add-at t c = omega (arith, read-within paper (c .before .before .before .before .before .before .before .before .args .s .now) (c .before .before .before .before .before .before .before .before .args .base) (c .before .before .before .before .before .before .before .before .args .depth) (c .before .before .before .before .before .before .before .before .args .count) (c .before .before .before .before .before .before .loop .at) (c .before .before .before .before .before .before .loop .read) (c .before .before .before .before .before .loop-test .taken) (c .before .before .before .before .before .before .loop .inv .2) (λ fuel h. sym (c .before .used .given .1) ∙ c .before .before .before .element .ensures fuel h))
 
--- src/walking.rt:82:5
-list-loop-less-2 : (t : ℕ) → list-lts.Need-loop-less-2 (leaf-reads.Asked, leaf-reads.Learnt, element-below t, element.Post) (list-at t) list.Post list-Inv-loop list-μ-loop
-list-loop-less-2 t c = omega (arith, read-within paper (c .before .before .before .before .before .before .before .before .before .before .before .args .s .now) (c .before .before .before .before .before .before .before .before .before .before .before .args .base) (c .before .before .before .before .before .before .before .before .before .before .before .args .depth) (c .before .before .before .before .before .before .before .before .before .before .before .args .count) (c .before .before .before .before .before .before .before .before .before .loop .at) (c .before .before .before .before .before .before .before .before .before .loop .read) (c .before .before .before .before .before .before .before .before .loop-test .taken) (c .before .before .before .before .before .before .before .before .before .loop .inv .2) (λ fuel h. sym (c .before .used .given .1) ∙ c .before .before .before .element .ensures fuel h))
+-- src/walking.rt:76:5
+list-loop-less : (t : ℕ) → list-lts.Need-loop-less (element-below t, element.Post) (list-at t) list.Post list-Inv-loop list-μ-loop
+list-loop-less t c = omega (arith, read-within paper (c .before .before .before .before .before .before .before .before .args .s .now) (c .before .before .before .before .before .before .before .before .args .base) (c .before .before .before .before .before .before .before .before .args .depth) (c .before .before .before .before .before .before .before .before .args .count) (c .before .before .before .before .before .before .loop .at) (c .before .before .before .before .before .before .loop .read) (c .before .before .before .before .before .loop-test .taken) (c .before .before .before .before .before .before .loop .inv .2) (λ fuel h. sym (c .before .used .given .1) ∙ c .before .before .before .element .ensures fuel h))
 
--- src/walking.rt:82:5
-list-loop-again-2 : (t : ℕ) → list-lts.Need-loop-again-2 (leaf-reads.Asked, leaf-reads.Learnt, element-below t, element.Post) (list-at t) list.Post list-Inv-loop list-μ-loop
-list-loop-again-2 t c = (read-within paper (c .before .before .before .before .before .before .before .before .before .before .before .args .s .now) (c .before .before .before .before .before .before .before .before .before .before .before .args .base) (c .before .before .before .before .before .before .before .before .before .before .before .args .depth) (c .before .before .before .before .before .before .before .before .before .before .before .args .count) (c .before .before .before .before .before .before .before .before .before .loop .at) (c .before .before .before .before .before .before .before .before .before .loop .read) (c .before .before .before .before .before .before .before .before .loop-test .taken) (c .before .before .before .before .before .before .before .before .before .loop .inv .2) (λ fuel h. sym (c .before .used .given .1) ∙ c .before .before .before .element .ensures fuel h) .1, read-within paper (c .before .before .before .before .before .before .before .before .before .before .before .args .s .now) (c .before .before .before .before .before .before .before .before .before .before .before .args .base) (c .before .before .before .before .before .before .before .before .before .before .before .args .depth) (c .before .before .before .before .before .before .before .before .before .before .before .args .count) (c .before .before .before .before .before .before .before .before .before .loop .at) (c .before .before .before .before .before .before .before .before .before .loop .read) (c .before .before .before .before .before .before .before .before .loop-test .taken) (c .before .before .before .before .before .before .before .before .before .loop .inv .2) (λ fuel h. sym (c .before .used .given .1) ∙ c .before .before .before .element .ensures fuel h) .2, left-next paper (c .before .before .before .before .before .before .before .before .before .before .before .args .s .now) (c .before .before .before .before .before .before .before .before .before .before .before .args .base) (c .before .before .before .before .before .before .before .before .before .before .before .args .depth) (c .before .before .before .before .before .before .before .before .before .before .before .args .count) (c .before .before .before .before .before .before .before .before .before .loop .at) (c .before .before .before .before .before .before .before .before .before .loop .read) (c .before .before .before .before .before .before .before .before .loop-test .taken) (c .before .before .before .before .before .before .before .before .before .loop .inv .2) (λ fuel h. sym (c .before .used .given .1) ∙ c .before .before .before .element .ensures fuel h))
+-- src/walking.rt:76:5
+list-loop-again : (t : ℕ) → list-lts.Need-loop-again (element-below t, element.Post) (list-at t) list.Post list-Inv-loop list-μ-loop
+list-loop-again t c = (read-within paper (c .before .before .before .before .before .before .before .before .args .s .now) (c .before .before .before .before .before .before .before .before .args .base) (c .before .before .before .before .before .before .before .before .args .depth) (c .before .before .before .before .before .before .before .before .args .count) (c .before .before .before .before .before .before .loop .at) (c .before .before .before .before .before .before .loop .read) (c .before .before .before .before .before .loop-test .taken) (c .before .before .before .before .before .before .loop .inv .2) (λ fuel h. sym (c .before .used .given .1) ∙ c .before .before .before .element .ensures fuel h) .1, read-within paper (c .before .before .before .before .before .before .before .before .args .s .now) (c .before .before .before .before .before .before .before .before .args .base) (c .before .before .before .before .before .before .before .before .args .depth) (c .before .before .before .before .before .before .before .before .args .count) (c .before .before .before .before .before .before .loop .at) (c .before .before .before .before .before .before .loop .read) (c .before .before .before .before .before .loop-test .taken) (c .before .before .before .before .before .before .loop .inv .2) (λ fuel h. sym (c .before .used .given .1) ∙ c .before .before .before .element .ensures fuel h) .2, left-next paper (c .before .before .before .before .before .before .before .before .args .s .now) (c .before .before .before .before .before .before .before .before .args .base) (c .before .before .before .before .before .before .before .before .args .depth) (c .before .before .before .before .before .before .before .before .args .count) (c .before .before .before .before .before .before .loop .at) (c .before .before .before .before .before .before .loop .read) (c .before .before .before .before .before .loop-test .taken) (c .before .before .before .before .before .before .loop .inv .2) (λ fuel h. sym (c .before .used .given .1) ∙ c .before .before .before .element .ensures fuel h))
 
--- src/walking.rt:76:1
-list-returns-2 : (t : ℕ) → list-lts.Need-returns-2 (leaf-reads.Asked, leaf-reads.Learnt, element-below t, element.Post) (list-at t) list.Post list-Inv-loop list-μ-loop
+-- src/walking.rt:70:1
+list-returns-2 : (t : ℕ) → list-lts.Need-returns-2 (element-below t, element.Post) (list-at t) list.Post list-Inv-loop list-μ-loop
 list-returns-2 t c = left-none paper (c .before .before .before .args .s .now) (c .before .before .before .args .base) (c .before .before .before .args .depth) (c .before .before .before .args .count) (c .loop-test .left) (c .before .loop .inv .2)
 
 pub +element+list-spec : {M : Type 1} → statement M
@@ -274,20 +241,12 @@ pub +element+list-spec : {M : Type 1} → statement M
     (element-returns-6 t)
     (element-returns-7 t))
     λ t. list-lts.spec
-    (leaf-reads.Asked, leaf-reads.Learnt, element-below t, element.Post)
+    (element-below t, element.Post)
     (list-at t)
     list.Post
     list-Inv-loop
     list-μ-loop
     (list-loop-holds t)
-    (list-sub-leaf t)
-    (list-part-leaf-start t)
-    (list-part-leaf-end t)
-    (list-leaf-requires t)
-    (list-add-at t)
-    (list-add-read t)
-    (list-loop-less t)
-    (list-loop-again t)
     (list-sub-element t)
     (list-part-element-start t)
     (list-part-element-end t)
@@ -296,7 +255,7 @@ pub +element+list-spec : {M : Type 1} → statement M
     (list-enum-known-refusal t)
     (list-returns t)
     (list-enum-known-used t)
-    (list-add-at-2 t)
-    (list-loop-less-2 t)
-    (list-loop-again-2 t)
+    (list-add-at t)
+    (list-loop-less t)
+    (list-loop-again t)
     (list-returns-2 t)
