@@ -123,49 +123,49 @@ fn sound(s: &[u8], depth: usize, count: usize) -> usize
     requires { ⌜ (length (now s) ≤ 16384) × (depth ≤ 17) × (count ≤ 4096) ⌝ }
     ensures { λ r. ⌜ (0 < r → (base fuel : ℕ) → 2 * length (now (s .entry)) + 2 ≤ fuel → Passed r ≡ listAt fuel paper (now (s .entry)) base depth count) ⌝ }
 {
-    let mut at = 0;
+    let mut i = 0;
     let mut read = count;
-    while at < s.len() {
+    while i < s.len() {
         if 16 < depth {
             return 0;
         }
         if 4096 <= read {
             return 0;
         }
-        let taken = leaf(&s[at..], depth, read);
+        let taken = leaf(&s[i..], depth, read);
         if 0 < taken {
-            at += taken;
+            i += taken;
             read += 1;
             continue;
         }
-        let wide = branch(&s[at..]);
+        let wide = branch(&s[i..]);
         if 0 < wide {
-            let end = at + wide;
-            read = sound(&s[at + 2..end], depth + 1, read + 1);
+            let end = i + wide;
+            read = sound(&s[i + 2..end], depth + 1, read + 1);
             if read == 0 {
                 return 0;
             }
-            at = end;
+            i = end;
             continue;
         }
-        let Heading::Header { tag, skip, size } = header(&s[at..]) else {
+        let Heading::Header { tag, skip, size } = header(&s[i..]) else {
             return 0;
         };
-        let from = at + skip;
+        let from = i + skip;
         let end = from + size;
         if tag / 32 % 2 == 1 {
             read = sound(&s[from..end], depth + 1, read + 1);
             if read == 0 {
                 return 0;
             }
-            at = end;
+            i = end;
             continue;
         }
         if !contents_good(tag, &s[from..end]) {
             return 0;
         }
         read += 1;
-        at = end;
+        i = end;
     }
     read
 }

@@ -30,10 +30,10 @@ abbrev sound-below : ℕ → In 1 sound-kinds.ps
 sound-below t = and 1 sound-kinds.ps (falls 1 sound-kinds.ps _<_ μ-sound t) sound.Pre
 
 abbrev sound-Inv-loop : sound-lts.InvT-loop
-sound-Inv-loop s depth count at₀ read₀ at read = (at ≤ length s) × (read ≤ 4096) × Left paper s depth count at read
+sound-Inv-loop s depth count i₀ read₀ i read = (i ≤ length s) × (read ≤ 4096) × Left paper s depth count i read
 
 abbrev sound-μ-loop : sound-lts.MeasureT-loop
-sound-μ-loop s depth count at₀ read₀ at read = length s - at
+sound-μ-loop s depth count i₀ read₀ i read = length s - i
 
 -- src/walking.rt:128:5
 sound-loop-holds : (t : ℕ) → sound-lts.Need-loop-holds (leaf-reads.Asked, leaf-reads.Learnt, branch-reads.Asked, branch-reads.Learnt, sound-below t, sound.Post, header-reads.Asked, header-reads.Learnt, contents-good-reads.Asked, contents-good-reads.Learnt) (sound-at t) sound.Post sound-Inv-loop sound-μ-loop
@@ -64,8 +64,8 @@ sound-leaf-requires : (t : ℕ) → sound-lts.Need-leaf-requires (leaf-reads.Ask
 sound-leaf-requires t c κs = search needs
 
 -- src/walking.rt:137:13
-sound-add-at : (t : ℕ) → sound-lts.Need-add-at (leaf-reads.Asked, leaf-reads.Learnt, branch-reads.Asked, branch-reads.Learnt, sound-below t, sound.Post, header-reads.Asked, header-reads.Learnt, contents-good-reads.Asked, contents-good-reads.Learnt) (sound-at t) sound.Post sound-Inv-loop sound-μ-loop
-sound-add-at t c = omega (arith, (past-step paper (c .before .before .before .before .before .before .before .before .args .s .now) (c .before .before .before .before .before .before .before .before .args .depth) (c .before .before .before .before .before .before .before .before .args .count) (c .before .before .before .before .before .before .loop .at) (c .before .before .before .before .before .before .loop .read) (c .before .before .before .before .before .loop-test .taken) (c .before .before .before .before .before .before .loop .inv .2) refl (c .before .leaf .ensures (c .if3 .taken))) .1)
+sound-add-i : (t : ℕ) → sound-lts.Need-add-i (leaf-reads.Asked, leaf-reads.Learnt, branch-reads.Asked, branch-reads.Learnt, sound-below t, sound.Post, header-reads.Asked, header-reads.Learnt, contents-good-reads.Asked, contents-good-reads.Learnt) (sound-at t) sound.Post sound-Inv-loop sound-μ-loop
+sound-add-i t c = omega (arith, (past-step paper (c .before .before .before .before .before .before .before .before .args .s .now) (c .before .before .before .before .before .before .before .before .args .depth) (c .before .before .before .before .before .before .before .before .args .count) (c .before .before .before .before .before .before .loop .i) (c .before .before .before .before .before .before .loop .read) (c .before .before .before .before .before .loop-test .taken) (c .before .before .before .before .before .before .loop .inv .2) refl (c .before .leaf .ensures (c .if3 .taken))) .1)
 
 -- src/walking.rt:138:13
 sound-add-read : (t : ℕ) → sound-lts.Need-add-read (leaf-reads.Asked, leaf-reads.Learnt, branch-reads.Asked, branch-reads.Learnt, sound-below t, sound.Post, header-reads.Asked, header-reads.Learnt, contents-good-reads.Asked, contents-good-reads.Learnt) (sound-at t) sound.Post sound-Inv-loop sound-μ-loop
@@ -73,11 +73,11 @@ sound-add-read t c = search needs
 
 -- src/walking.rt:128:5
 sound-loop-less : (t : ℕ) → sound-lts.Need-loop-less (leaf-reads.Asked, leaf-reads.Learnt, branch-reads.Asked, branch-reads.Learnt, sound-below t, sound.Post, header-reads.Asked, header-reads.Learnt, contents-good-reads.Asked, contents-good-reads.Learnt) (sound-at t) sound.Post sound-Inv-loop sound-μ-loop
-sound-loop-less t c = omega (arith, (past-step paper (c .before .before .before .before .before .before .before .before .args .s .now) (c .before .before .before .before .before .before .before .before .args .depth) (c .before .before .before .before .before .before .before .before .args .count) (c .before .before .before .before .before .before .loop .at) (c .before .before .before .before .before .before .loop .read) (c .before .before .before .before .before .loop-test .taken) (c .before .before .before .before .before .before .loop .inv .2) refl (c .before .leaf .ensures (c .if3 .taken))) .0, (past-step paper (c .before .before .before .before .before .before .before .before .args .s .now) (c .before .before .before .before .before .before .before .before .args .depth) (c .before .before .before .before .before .before .before .before .args .count) (c .before .before .before .before .before .before .loop .at) (c .before .before .before .before .before .before .loop .read) (c .before .before .before .before .before .loop-test .taken) (c .before .before .before .before .before .before .loop .inv .2) refl (c .before .leaf .ensures (c .if3 .taken))) .1)
+sound-loop-less t c = omega (arith, (past-step paper (c .before .before .before .before .before .before .before .before .args .s .now) (c .before .before .before .before .before .before .before .before .args .depth) (c .before .before .before .before .before .before .before .before .args .count) (c .before .before .before .before .before .before .loop .i) (c .before .before .before .before .before .before .loop .read) (c .before .before .before .before .before .loop-test .taken) (c .before .before .before .before .before .before .loop .inv .2) refl (c .before .leaf .ensures (c .if3 .taken))) .0, (past-step paper (c .before .before .before .before .before .before .before .before .args .s .now) (c .before .before .before .before .before .before .before .before .args .depth) (c .before .before .before .before .before .before .before .before .args .count) (c .before .before .before .before .before .before .loop .i) (c .before .before .before .before .before .before .loop .read) (c .before .before .before .before .before .loop-test .taken) (c .before .before .before .before .before .before .loop .inv .2) refl (c .before .leaf .ensures (c .if3 .taken))) .1)
 
 -- src/walking.rt:128:5
 sound-loop-again : (t : ℕ) → sound-lts.Need-loop-again (leaf-reads.Asked, leaf-reads.Learnt, branch-reads.Asked, branch-reads.Learnt, sound-below t, sound.Post, header-reads.Asked, header-reads.Learnt, contents-good-reads.Asked, contents-good-reads.Learnt) (sound-at t) sound.Post sound-Inv-loop sound-μ-loop
-sound-loop-again t c = ((past-step paper (c .before .before .before .before .before .before .before .before .args .s .now) (c .before .before .before .before .before .before .before .before .args .depth) (c .before .before .before .before .before .before .before .before .args .count) (c .before .before .before .before .before .before .loop .at) (c .before .before .before .before .before .before .loop .read) (c .before .before .before .before .before .loop-test .taken) (c .before .before .before .before .before .before .loop .inv .2) refl (c .before .leaf .ensures (c .if3 .taken))) .1, (past-step paper (c .before .before .before .before .before .before .before .before .args .s .now) (c .before .before .before .before .before .before .before .before .args .depth) (c .before .before .before .before .before .before .before .before .args .count) (c .before .before .before .before .before .before .loop .at) (c .before .before .before .before .before .before .loop .read) (c .before .before .before .before .before .loop-test .taken) (c .before .before .before .before .before .before .loop .inv .2) refl (c .before .leaf .ensures (c .if3 .taken))) .2, (past-step paper (c .before .before .before .before .before .before .before .before .args .s .now) (c .before .before .before .before .before .before .before .before .args .depth) (c .before .before .before .before .before .before .before .before .args .count) (c .before .before .before .before .before .before .loop .at) (c .before .before .before .before .before .before .loop .read) (c .before .before .before .before .before .loop-test .taken) (c .before .before .before .before .before .before .loop .inv .2) refl (c .before .leaf .ensures (c .if3 .taken))) .3)
+sound-loop-again t c = ((past-step paper (c .before .before .before .before .before .before .before .before .args .s .now) (c .before .before .before .before .before .before .before .before .args .depth) (c .before .before .before .before .before .before .before .before .args .count) (c .before .before .before .before .before .before .loop .i) (c .before .before .before .before .before .before .loop .read) (c .before .before .before .before .before .loop-test .taken) (c .before .before .before .before .before .before .loop .inv .2) refl (c .before .leaf .ensures (c .if3 .taken))) .1, (past-step paper (c .before .before .before .before .before .before .before .before .args .s .now) (c .before .before .before .before .before .before .before .before .args .depth) (c .before .before .before .before .before .before .before .before .args .count) (c .before .before .before .before .before .before .loop .i) (c .before .before .before .before .before .before .loop .read) (c .before .before .before .before .before .loop-test .taken) (c .before .before .before .before .before .before .loop .inv .2) refl (c .before .leaf .ensures (c .if3 .taken))) .2, (past-step paper (c .before .before .before .before .before .before .before .before .args .s .now) (c .before .before .before .before .before .before .before .before .args .depth) (c .before .before .before .before .before .before .before .before .args .count) (c .before .before .before .before .before .before .loop .i) (c .before .before .before .before .before .before .loop .read) (c .before .before .before .before .before .loop-test .taken) (c .before .before .before .before .before .before .loop .inv .2) refl (c .before .leaf .ensures (c .if3 .taken))) .3)
 
 -- src/walking.rt:141:27
 sound-sub-branch : (t : ℕ) → sound-lts.Need-sub-branch (leaf-reads.Asked, leaf-reads.Learnt, branch-reads.Asked, branch-reads.Learnt, sound-below t, sound.Post, header-reads.Asked, header-reads.Learnt, contents-good-reads.Asked, contents-good-reads.Learnt) (sound-at t) sound.Post sound-Inv-loop sound-μ-loop
@@ -97,23 +97,23 @@ sound-branch-requires t c κs = search needs
 
 -- src/walking.rt:143:23
 sound-add-end : (t : ℕ) → sound-lts.Need-add-end (leaf-reads.Asked, leaf-reads.Learnt, branch-reads.Asked, branch-reads.Learnt, sound-below t, sound.Post, header-reads.Asked, header-reads.Learnt, contents-good-reads.Asked, contents-good-reads.Learnt) (sound-at t) sound.Post sound-Inv-loop sound-μ-loop
-sound-add-end t c = omega (arith, c .before .branch .ensures (c .if4 .taken) .0, c .before .branch .ensures (c .if4 .taken) .1, length-take (length (c .before .before .before .before .before .before .before .before .before .before .before .args .s .now) - c .before .before .before .before .before .before .before .before .before .loop .at) (drop (c .before .before .before .before .before .before .before .before .before .loop .at) (c .before .before .before .before .before .before .before .before .before .before .before .args .s .now)), length-drop (c .before .before .before .before .before .before .before .before .before .loop .at) (c .before .before .before .before .before .before .before .before .before .before .before .args .s .now))
+sound-add-end t c = omega (arith, c .before .branch .ensures (c .if4 .taken) .0, c .before .branch .ensures (c .if4 .taken) .1, length-take (length (c .before .before .before .before .before .before .before .before .before .before .before .args .s .now) - c .before .before .before .before .before .before .before .before .before .loop .i) (drop (c .before .before .before .before .before .before .before .before .before .loop .i) (c .before .before .before .before .before .before .before .before .before .before .before .args .s .now)), length-drop (c .before .before .before .before .before .before .before .before .before .loop .i) (c .before .before .before .before .before .before .before .before .before .before .before .args .s .now))
 
 -- src/walking.rt:144:29
 sound-add-sound : (t : ℕ) → sound-lts.Need-add-sound (leaf-reads.Asked, leaf-reads.Learnt, branch-reads.Asked, branch-reads.Learnt, sound-below t, sound.Post, header-reads.Asked, header-reads.Learnt, contents-good-reads.Asked, contents-good-reads.Learnt) (sound-at t) sound.Post sound-Inv-loop sound-μ-loop
-sound-add-sound t c = omega (arith, c .before .branch .ensures (c .if4 .taken) .0, c .before .branch .ensures (c .if4 .taken) .1, length-take (length (c .before .before .before .before .before .before .before .before .before .before .before .args .s .now) - c .before .before .before .before .before .before .before .before .before .loop .at) (drop (c .before .before .before .before .before .before .before .before .before .loop .at) (c .before .before .before .before .before .before .before .before .before .before .before .args .s .now)), length-drop (c .before .before .before .before .before .before .before .before .before .loop .at) (c .before .before .before .before .before .before .before .before .before .before .before .args .s .now))
+sound-add-sound t c = omega (arith, c .before .branch .ensures (c .if4 .taken) .0, c .before .branch .ensures (c .if4 .taken) .1, length-take (length (c .before .before .before .before .before .before .before .before .before .before .before .args .s .now) - c .before .before .before .before .before .before .before .before .before .loop .i) (drop (c .before .before .before .before .before .before .before .before .before .loop .i) (c .before .before .before .before .before .before .before .before .before .before .before .args .s .now)), length-drop (c .before .before .before .before .before .before .before .before .before .loop .i) (c .before .before .before .before .before .before .before .before .before .before .before .args .s .now))
 
 -- src/walking.rt:144:26
 sound-sub-sound : (t : ℕ) → sound-lts.Need-sub-sound (leaf-reads.Asked, leaf-reads.Learnt, branch-reads.Asked, branch-reads.Learnt, sound-below t, sound.Post, header-reads.Asked, header-reads.Learnt, contents-good-reads.Asked, contents-good-reads.Learnt) (sound-at t) sound.Post sound-Inv-loop sound-μ-loop
-sound-sub-sound t c = omega (arith, c .before .branch .ensures (c .if4 .taken) .0, c .before .branch .ensures (c .if4 .taken) .1, length-take (length (c .before .before .before .before .before .before .before .before .before .before .before .args .s .now) - c .before .before .before .before .before .before .before .before .before .loop .at) (drop (c .before .before .before .before .before .before .before .before .before .loop .at) (c .before .before .before .before .before .before .before .before .before .before .before .args .s .now)), length-drop (c .before .before .before .before .before .before .before .before .before .loop .at) (c .before .before .before .before .before .before .before .before .before .before .before .args .s .now))
+sound-sub-sound t c = omega (arith, c .before .branch .ensures (c .if4 .taken) .0, c .before .branch .ensures (c .if4 .taken) .1, length-take (length (c .before .before .before .before .before .before .before .before .before .before .before .args .s .now) - c .before .before .before .before .before .before .before .before .before .loop .i) (drop (c .before .before .before .before .before .before .before .before .before .loop .i) (c .before .before .before .before .before .before .before .before .before .before .before .args .s .now)), length-drop (c .before .before .before .before .before .before .before .before .before .loop .i) (c .before .before .before .before .before .before .before .before .before .before .before .args .s .now))
 
 -- src/walking.rt:144:26
 sound-part-sound-start : (t : ℕ) → sound-lts.Need-part-sound-start (leaf-reads.Asked, leaf-reads.Learnt, branch-reads.Asked, branch-reads.Learnt, sound-below t, sound.Post, header-reads.Asked, header-reads.Learnt, contents-good-reads.Asked, contents-good-reads.Learnt) (sound-at t) sound.Post sound-Inv-loop sound-μ-loop
-sound-part-sound-start t c = omega (arith, c .before .branch .ensures (c .if4 .taken) .0, c .before .branch .ensures (c .if4 .taken) .1, length-take (length (c .before .before .before .before .before .before .before .before .before .before .before .args .s .now) - c .before .before .before .before .before .before .before .before .before .loop .at) (drop (c .before .before .before .before .before .before .before .before .before .loop .at) (c .before .before .before .before .before .before .before .before .before .before .before .args .s .now)), length-drop (c .before .before .before .before .before .before .before .before .before .loop .at) (c .before .before .before .before .before .before .before .before .before .before .before .args .s .now))
+sound-part-sound-start t c = omega (arith, c .before .branch .ensures (c .if4 .taken) .0, c .before .branch .ensures (c .if4 .taken) .1, length-take (length (c .before .before .before .before .before .before .before .before .before .before .before .args .s .now) - c .before .before .before .before .before .before .before .before .before .loop .i) (drop (c .before .before .before .before .before .before .before .before .before .loop .i) (c .before .before .before .before .before .before .before .before .before .before .before .args .s .now)), length-drop (c .before .before .before .before .before .before .before .before .before .loop .i) (c .before .before .before .before .before .before .before .before .before .before .before .args .s .now))
 
 -- src/walking.rt:144:26
 sound-part-sound-end : (t : ℕ) → sound-lts.Need-part-sound-end (leaf-reads.Asked, leaf-reads.Learnt, branch-reads.Asked, branch-reads.Learnt, sound-below t, sound.Post, header-reads.Asked, header-reads.Learnt, contents-good-reads.Asked, contents-good-reads.Learnt) (sound-at t) sound.Post sound-Inv-loop sound-μ-loop
-sound-part-sound-end t c = omega (arith, c .before .branch .ensures (c .if4 .taken) .0, c .before .branch .ensures (c .if4 .taken) .1, length-take (length (c .before .before .before .before .before .before .before .before .before .before .before .args .s .now) - c .before .before .before .before .before .before .before .before .before .loop .at) (drop (c .before .before .before .before .before .before .before .before .before .loop .at) (c .before .before .before .before .before .before .before .before .before .before .before .args .s .now)), length-drop (c .before .before .before .before .before .before .before .before .before .loop .at) (c .before .before .before .before .before .before .before .before .before .before .before .args .s .now))
+sound-part-sound-end t c = omega (arith, c .before .branch .ensures (c .if4 .taken) .0, c .before .branch .ensures (c .if4 .taken) .1, length-take (length (c .before .before .before .before .before .before .before .before .before .before .before .args .s .now) - c .before .before .before .before .before .before .before .before .before .loop .i) (drop (c .before .before .before .before .before .before .before .before .before .loop .i) (c .before .before .before .before .before .before .before .before .before .before .before .args .s .now)), length-drop (c .before .before .before .before .before .before .before .before .before .loop .i) (c .before .before .before .before .before .before .before .before .before .before .before .args .s .now))
 
 -- src/walking.rt:144:43
 sound-add-sound-2 : (t : ℕ) → sound-lts.Need-add-sound-2 (leaf-reads.Asked, leaf-reads.Learnt, branch-reads.Asked, branch-reads.Learnt, sound-below t, sound.Post, header-reads.Asked, header-reads.Learnt, contents-good-reads.Asked, contents-good-reads.Learnt) (sound-at t) sound.Post sound-Inv-loop sound-μ-loop
@@ -125,7 +125,7 @@ sound-add-sound-3 t c = search needs
 
 -- src/walking.rt:144:13
 sound-sound-requires : (t : ℕ) → sound-lts.Need-sound-requires (leaf-reads.Asked, leaf-reads.Learnt, branch-reads.Asked, branch-reads.Learnt, sound-below t, sound.Post, header-reads.Asked, header-reads.Learnt, contents-good-reads.Asked, contents-good-reads.Learnt) (sound-at t) sound.Post sound-Inv-loop sound-μ-loop
-sound-sound-requires t c κs = let mu : length (c .before .before .before .before .before .before .before .before .before .before .before .before .args .s .now) ≡ t = c .before .before .before .before .before .before .before .before .before .before .before .before .pre .0 in omega (arith, c .before .before .branch .ensures (c .before .if4 .taken) .0, c .before .before .branch .ensures (c .before .if4 .taken) .1, length-take (length (c .before .before .before .before .before .before .before .before .before .before .before .before .args .s .now) - c .before .before .before .before .before .before .before .before .before .before .loop .at) (drop (c .before .before .before .before .before .before .before .before .before .before .loop .at) (c .before .before .before .before .before .before .before .before .before .before .before .before .args .s .now)), length-drop (c .before .before .before .before .before .before .before .before .before .before .loop .at) (c .before .before .before .before .before .before .before .before .before .before .before .before .args .s .now), length-take (c .before .before .before .before .before .before .before .before .before .before .loop .at + c .before .before .branch .result - (c .before .before .before .before .before .before .before .before .before .before .loop .at + 2)) (drop (c .before .before .before .before .before .before .before .before .before .before .loop .at + 2) (c .before .before .before .before .before .before .before .before .before .before .before .before .args .s .now)), length-drop (c .before .before .before .before .before .before .before .before .before .before .loop .at + 2) (c .before .before .before .before .before .before .before .before .before .before .before .before .args .s .now))
+sound-sound-requires t c κs = let mu : length (c .before .before .before .before .before .before .before .before .before .before .before .before .args .s .now) ≡ t = c .before .before .before .before .before .before .before .before .before .before .before .before .pre .0 in omega (arith, c .before .before .branch .ensures (c .before .if4 .taken) .0, c .before .before .branch .ensures (c .before .if4 .taken) .1, length-take (length (c .before .before .before .before .before .before .before .before .before .before .before .before .args .s .now) - c .before .before .before .before .before .before .before .before .before .before .loop .i) (drop (c .before .before .before .before .before .before .before .before .before .before .loop .i) (c .before .before .before .before .before .before .before .before .before .before .before .before .args .s .now)), length-drop (c .before .before .before .before .before .before .before .before .before .before .loop .i) (c .before .before .before .before .before .before .before .before .before .before .before .before .args .s .now), length-take (c .before .before .before .before .before .before .before .before .before .before .loop .i + c .before .before .branch .result - (c .before .before .before .before .before .before .before .before .before .before .loop .i + 2)) (drop (c .before .before .before .before .before .before .before .before .before .before .loop .i + 2) (c .before .before .before .before .before .before .before .before .before .before .before .before .args .s .now)), length-drop (c .before .before .before .before .before .before .before .before .before .before .loop .i + 2) (c .before .before .before .before .before .before .before .before .before .before .before .before .args .s .now))
 
 -- src/walking.rt:146:17
 sound-returns-3 : (t : ℕ) → sound-lts.Need-returns-3 (leaf-reads.Asked, leaf-reads.Learnt, branch-reads.Asked, branch-reads.Learnt, sound-below t, sound.Post, header-reads.Asked, header-reads.Learnt, contents-good-reads.Asked, contents-good-reads.Learnt) (sound-at t) sound.Post sound-Inv-loop sound-μ-loop
@@ -133,11 +133,11 @@ sound-returns-3 t c = λ some base fuel enough. absurd (omega arith)
 
 -- src/walking.rt:128:5
 sound-loop-less-2 : (t : ℕ) → sound-lts.Need-loop-less-2 (leaf-reads.Asked, leaf-reads.Learnt, branch-reads.Asked, branch-reads.Learnt, sound-below t, sound.Post, header-reads.Asked, header-reads.Learnt, contents-good-reads.Asked, contents-good-reads.Learnt) (sound-at t) sound.Post sound-Inv-loop sound-μ-loop
-sound-loop-less-2 t c = omega (arith, (node-step paper (c .before .before .before .before .before .before .before .before .before .before .before .before .before .before .args .s .now) (c .before .before .before .before .before .before .before .before .before .before .before .before .before .before .args .depth) (c .before .before .before .before .before .before .before .before .before .before .before .before .before .before .args .count) (c .before .before .before .before .before .before .before .before .before .before .before .before .loop .at) (c .before .before .before .before .before .before .before .before .before .before .before .before .loop .read) (c .before .before .before .before .before .before .before .before .before .before .before .loop-test .taken) (c .before .before .before .before .before .before .before .before .before .before .before .before .loop .inv .2) (c .before .before .before .before .branch .ensures (c .before .before .before .if4 .taken) .3) (omega (arith, c .before .before .before .before .branch .ensures (c .before .before .before .if4 .taken) .0)) (c .before .before .before .before .before .before .before .before .before .before .if1 .left) (c .before .before .before .before .before .before .before .before .before .if2 .left) (c .before .before .before .before .branch .ensures (c .before .before .before .if4 .taken) .2) (c .before .sound .ensures (omega arith))) .0, (node-step paper (c .before .before .before .before .before .before .before .before .before .before .before .before .before .before .args .s .now) (c .before .before .before .before .before .before .before .before .before .before .before .before .before .before .args .depth) (c .before .before .before .before .before .before .before .before .before .before .before .before .before .before .args .count) (c .before .before .before .before .before .before .before .before .before .before .before .before .loop .at) (c .before .before .before .before .before .before .before .before .before .before .before .before .loop .read) (c .before .before .before .before .before .before .before .before .before .before .before .loop-test .taken) (c .before .before .before .before .before .before .before .before .before .before .before .before .loop .inv .2) (c .before .before .before .before .branch .ensures (c .before .before .before .if4 .taken) .3) (omega (arith, c .before .before .before .before .branch .ensures (c .before .before .before .if4 .taken) .0)) (c .before .before .before .before .before .before .before .before .before .before .if1 .left) (c .before .before .before .before .before .before .before .before .before .if2 .left) (c .before .before .before .before .branch .ensures (c .before .before .before .if4 .taken) .2) (c .before .sound .ensures (omega arith))) .1)
+sound-loop-less-2 t c = omega (arith, (node-step paper (c .before .before .before .before .before .before .before .before .before .before .before .before .before .before .args .s .now) (c .before .before .before .before .before .before .before .before .before .before .before .before .before .before .args .depth) (c .before .before .before .before .before .before .before .before .before .before .before .before .before .before .args .count) (c .before .before .before .before .before .before .before .before .before .before .before .before .loop .i) (c .before .before .before .before .before .before .before .before .before .before .before .before .loop .read) (c .before .before .before .before .before .before .before .before .before .before .before .loop-test .taken) (c .before .before .before .before .before .before .before .before .before .before .before .before .loop .inv .2) (c .before .before .before .before .branch .ensures (c .before .before .before .if4 .taken) .3) (omega (arith, c .before .before .before .before .branch .ensures (c .before .before .before .if4 .taken) .0)) (c .before .before .before .before .before .before .before .before .before .before .if1 .left) (c .before .before .before .before .before .before .before .before .before .if2 .left) (c .before .before .before .before .branch .ensures (c .before .before .before .if4 .taken) .2) (c .before .sound .ensures (omega arith))) .0, (node-step paper (c .before .before .before .before .before .before .before .before .before .before .before .before .before .before .args .s .now) (c .before .before .before .before .before .before .before .before .before .before .before .before .before .before .args .depth) (c .before .before .before .before .before .before .before .before .before .before .before .before .before .before .args .count) (c .before .before .before .before .before .before .before .before .before .before .before .before .loop .i) (c .before .before .before .before .before .before .before .before .before .before .before .before .loop .read) (c .before .before .before .before .before .before .before .before .before .before .before .loop-test .taken) (c .before .before .before .before .before .before .before .before .before .before .before .before .loop .inv .2) (c .before .before .before .before .branch .ensures (c .before .before .before .if4 .taken) .3) (omega (arith, c .before .before .before .before .branch .ensures (c .before .before .before .if4 .taken) .0)) (c .before .before .before .before .before .before .before .before .before .before .if1 .left) (c .before .before .before .before .before .before .before .before .before .if2 .left) (c .before .before .before .before .branch .ensures (c .before .before .before .if4 .taken) .2) (c .before .sound .ensures (omega arith))) .1)
 
 -- src/walking.rt:128:5
 sound-loop-again-2 : (t : ℕ) → sound-lts.Need-loop-again-2 (leaf-reads.Asked, leaf-reads.Learnt, branch-reads.Asked, branch-reads.Learnt, sound-below t, sound.Post, header-reads.Asked, header-reads.Learnt, contents-good-reads.Asked, contents-good-reads.Learnt) (sound-at t) sound.Post sound-Inv-loop sound-μ-loop
-sound-loop-again-2 t c = ((node-step paper (c .before .before .before .before .before .before .before .before .before .before .before .before .before .before .args .s .now) (c .before .before .before .before .before .before .before .before .before .before .before .before .before .before .args .depth) (c .before .before .before .before .before .before .before .before .before .before .before .before .before .before .args .count) (c .before .before .before .before .before .before .before .before .before .before .before .before .loop .at) (c .before .before .before .before .before .before .before .before .before .before .before .before .loop .read) (c .before .before .before .before .before .before .before .before .before .before .before .loop-test .taken) (c .before .before .before .before .before .before .before .before .before .before .before .before .loop .inv .2) (c .before .before .before .before .branch .ensures (c .before .before .before .if4 .taken) .3) (omega (arith, c .before .before .before .before .branch .ensures (c .before .before .before .if4 .taken) .0)) (c .before .before .before .before .before .before .before .before .before .before .if1 .left) (c .before .before .before .before .before .before .before .before .before .if2 .left) (c .before .before .before .before .branch .ensures (c .before .before .before .if4 .taken) .2) (c .before .sound .ensures (omega arith))) .1, (node-step paper (c .before .before .before .before .before .before .before .before .before .before .before .before .before .before .args .s .now) (c .before .before .before .before .before .before .before .before .before .before .before .before .before .before .args .depth) (c .before .before .before .before .before .before .before .before .before .before .before .before .before .before .args .count) (c .before .before .before .before .before .before .before .before .before .before .before .before .loop .at) (c .before .before .before .before .before .before .before .before .before .before .before .before .loop .read) (c .before .before .before .before .before .before .before .before .before .before .before .loop-test .taken) (c .before .before .before .before .before .before .before .before .before .before .before .before .loop .inv .2) (c .before .before .before .before .branch .ensures (c .before .before .before .if4 .taken) .3) (omega (arith, c .before .before .before .before .branch .ensures (c .before .before .before .if4 .taken) .0)) (c .before .before .before .before .before .before .before .before .before .before .if1 .left) (c .before .before .before .before .before .before .before .before .before .if2 .left) (c .before .before .before .before .branch .ensures (c .before .before .before .if4 .taken) .2) (c .before .sound .ensures (omega arith))) .2, (node-step paper (c .before .before .before .before .before .before .before .before .before .before .before .before .before .before .args .s .now) (c .before .before .before .before .before .before .before .before .before .before .before .before .before .before .args .depth) (c .before .before .before .before .before .before .before .before .before .before .before .before .before .before .args .count) (c .before .before .before .before .before .before .before .before .before .before .before .before .loop .at) (c .before .before .before .before .before .before .before .before .before .before .before .before .loop .read) (c .before .before .before .before .before .before .before .before .before .before .before .loop-test .taken) (c .before .before .before .before .before .before .before .before .before .before .before .before .loop .inv .2) (c .before .before .before .before .branch .ensures (c .before .before .before .if4 .taken) .3) (omega (arith, c .before .before .before .before .branch .ensures (c .before .before .before .if4 .taken) .0)) (c .before .before .before .before .before .before .before .before .before .before .if1 .left) (c .before .before .before .before .before .before .before .before .before .if2 .left) (c .before .before .before .before .branch .ensures (c .before .before .before .if4 .taken) .2) (c .before .sound .ensures (omega arith))) .3)
+sound-loop-again-2 t c = ((node-step paper (c .before .before .before .before .before .before .before .before .before .before .before .before .before .before .args .s .now) (c .before .before .before .before .before .before .before .before .before .before .before .before .before .before .args .depth) (c .before .before .before .before .before .before .before .before .before .before .before .before .before .before .args .count) (c .before .before .before .before .before .before .before .before .before .before .before .before .loop .i) (c .before .before .before .before .before .before .before .before .before .before .before .before .loop .read) (c .before .before .before .before .before .before .before .before .before .before .before .loop-test .taken) (c .before .before .before .before .before .before .before .before .before .before .before .before .loop .inv .2) (c .before .before .before .before .branch .ensures (c .before .before .before .if4 .taken) .3) (omega (arith, c .before .before .before .before .branch .ensures (c .before .before .before .if4 .taken) .0)) (c .before .before .before .before .before .before .before .before .before .before .if1 .left) (c .before .before .before .before .before .before .before .before .before .if2 .left) (c .before .before .before .before .branch .ensures (c .before .before .before .if4 .taken) .2) (c .before .sound .ensures (omega arith))) .1, (node-step paper (c .before .before .before .before .before .before .before .before .before .before .before .before .before .before .args .s .now) (c .before .before .before .before .before .before .before .before .before .before .before .before .before .before .args .depth) (c .before .before .before .before .before .before .before .before .before .before .before .before .before .before .args .count) (c .before .before .before .before .before .before .before .before .before .before .before .before .loop .i) (c .before .before .before .before .before .before .before .before .before .before .before .before .loop .read) (c .before .before .before .before .before .before .before .before .before .before .before .loop-test .taken) (c .before .before .before .before .before .before .before .before .before .before .before .before .loop .inv .2) (c .before .before .before .before .branch .ensures (c .before .before .before .if4 .taken) .3) (omega (arith, c .before .before .before .before .branch .ensures (c .before .before .before .if4 .taken) .0)) (c .before .before .before .before .before .before .before .before .before .before .if1 .left) (c .before .before .before .before .before .before .before .before .before .if2 .left) (c .before .before .before .before .branch .ensures (c .before .before .before .if4 .taken) .2) (c .before .sound .ensures (omega arith))) .2, (node-step paper (c .before .before .before .before .before .before .before .before .before .before .before .before .before .before .args .s .now) (c .before .before .before .before .before .before .before .before .before .before .before .before .before .before .args .depth) (c .before .before .before .before .before .before .before .before .before .before .before .before .before .before .args .count) (c .before .before .before .before .before .before .before .before .before .before .before .before .loop .i) (c .before .before .before .before .before .before .before .before .before .before .before .before .loop .read) (c .before .before .before .before .before .before .before .before .before .before .before .loop-test .taken) (c .before .before .before .before .before .before .before .before .before .before .before .before .loop .inv .2) (c .before .before .before .before .branch .ensures (c .before .before .before .if4 .taken) .3) (omega (arith, c .before .before .before .before .branch .ensures (c .before .before .before .if4 .taken) .0)) (c .before .before .before .before .before .before .before .before .before .before .if1 .left) (c .before .before .before .before .before .before .before .before .before .if2 .left) (c .before .before .before .before .branch .ensures (c .before .before .before .if4 .taken) .2) (c .before .sound .ensures (omega arith))) .3)
 
 -- src/walking.rt:151:58
 sound-sub-header : (t : ℕ) → sound-lts.Need-sub-header (leaf-reads.Asked, leaf-reads.Learnt, branch-reads.Asked, branch-reads.Learnt, sound-below t, sound.Post, header-reads.Asked, header-reads.Learnt, contents-good-reads.Asked, contents-good-reads.Learnt) (sound-at t) sound.Post sound-Inv-loop sound-μ-loop
@@ -169,23 +169,23 @@ sound-returns-4 t c = λ some base fuel enough. absurd (omega arith)
 
 -- src/walking.rt:154:20
 sound-add-from : (t : ℕ) → sound-lts.Need-add-from (leaf-reads.Asked, leaf-reads.Learnt, branch-reads.Asked, branch-reads.Learnt, sound-below t, sound.Post, header-reads.Asked, header-reads.Learnt, contents-good-reads.Asked, contents-good-reads.Learnt) (sound-at t) sound.Post sound-Inv-loop sound-μ-loop
-sound-add-from t c = omega (arith, header-fits paper (c .before .before .before .before .before .before .before .before .before .before .before .before .before .before .before .before .args .s .now) (c .before .before .before .before .before .before .before .before .before .before .before .before .before .before .loop .at) (omega arith) (sym (c .before .before .before .header .ensures) ∙ c .before .tag .given .1))
+sound-add-from t c = omega (arith, header-fits paper (c .before .before .before .before .before .before .before .before .before .before .before .before .before .before .before .before .args .s .now) (c .before .before .before .before .before .before .before .before .before .before .before .before .before .before .loop .i) (omega arith) (sym (c .before .before .before .header .ensures) ∙ c .before .tag .given .1))
 
 -- src/walking.rt:155:19
 sound-add-end-2 : (t : ℕ) → sound-lts.Need-add-end-2 (leaf-reads.Asked, leaf-reads.Learnt, branch-reads.Asked, branch-reads.Learnt, sound-below t, sound.Post, header-reads.Asked, header-reads.Learnt, contents-good-reads.Asked, contents-good-reads.Learnt) (sound-at t) sound.Post sound-Inv-loop sound-μ-loop
-sound-add-end-2 t c = omega (arith, header-fits paper (c .before .before .before .before .before .before .before .before .before .before .before .before .before .before .before .before .args .s .now) (c .before .before .before .before .before .before .before .before .before .before .before .before .before .before .loop .at) (omega arith) (sym (c .before .before .before .header .ensures) ∙ c .before .tag .given .1))
+sound-add-end-2 t c = omega (arith, header-fits paper (c .before .before .before .before .before .before .before .before .before .before .before .before .before .before .before .before .args .s .now) (c .before .before .before .before .before .before .before .before .before .before .before .before .before .before .loop .i) (omega arith) (sym (c .before .before .before .header .ensures) ∙ c .before .tag .given .1))
 
 -- src/walking.rt:157:26
 sound-sub-sound-2 : (t : ℕ) → sound-lts.Need-sub-sound-2 (leaf-reads.Asked, leaf-reads.Learnt, branch-reads.Asked, branch-reads.Learnt, sound-below t, sound.Post, header-reads.Asked, header-reads.Learnt, contents-good-reads.Asked, contents-good-reads.Learnt) (sound-at t) sound.Post sound-Inv-loop sound-μ-loop
-sound-sub-sound-2 t c = omega (arith, header-fits paper (c .before .before .before .before .before .before .before .before .before .before .before .before .before .before .before .before .before .args .s .now) (c .before .before .before .before .before .before .before .before .before .before .before .before .before .before .before .loop .at) (omega arith) (sym (c .before .before .before .before .header .ensures) ∙ c .before .before .tag .given .1))
+sound-sub-sound-2 t c = omega (arith, header-fits paper (c .before .before .before .before .before .before .before .before .before .before .before .before .before .before .before .before .before .args .s .now) (c .before .before .before .before .before .before .before .before .before .before .before .before .before .before .before .loop .i) (omega arith) (sym (c .before .before .before .before .header .ensures) ∙ c .before .before .tag .given .1))
 
 -- src/walking.rt:157:26
 sound-part-sound-start-2 : (t : ℕ) → sound-lts.Need-part-sound-start-2 (leaf-reads.Asked, leaf-reads.Learnt, branch-reads.Asked, branch-reads.Learnt, sound-below t, sound.Post, header-reads.Asked, header-reads.Learnt, contents-good-reads.Asked, contents-good-reads.Learnt) (sound-at t) sound.Post sound-Inv-loop sound-μ-loop
-sound-part-sound-start-2 t c = omega (arith, header-fits paper (c .before .before .before .before .before .before .before .before .before .before .before .before .before .before .before .before .before .args .s .now) (c .before .before .before .before .before .before .before .before .before .before .before .before .before .before .before .loop .at) (omega arith) (sym (c .before .before .before .before .header .ensures) ∙ c .before .before .tag .given .1))
+sound-part-sound-start-2 t c = omega (arith, header-fits paper (c .before .before .before .before .before .before .before .before .before .before .before .before .before .before .before .before .before .args .s .now) (c .before .before .before .before .before .before .before .before .before .before .before .before .before .before .before .loop .i) (omega arith) (sym (c .before .before .before .before .header .ensures) ∙ c .before .before .tag .given .1))
 
 -- src/walking.rt:157:26
 sound-part-sound-end-2 : (t : ℕ) → sound-lts.Need-part-sound-end-2 (leaf-reads.Asked, leaf-reads.Learnt, branch-reads.Asked, branch-reads.Learnt, sound-below t, sound.Post, header-reads.Asked, header-reads.Learnt, contents-good-reads.Asked, contents-good-reads.Learnt) (sound-at t) sound.Post sound-Inv-loop sound-μ-loop
-sound-part-sound-end-2 t c = omega (arith, header-fits paper (c .before .before .before .before .before .before .before .before .before .before .before .before .before .before .before .before .before .args .s .now) (c .before .before .before .before .before .before .before .before .before .before .before .before .before .before .before .loop .at) (omega arith) (sym (c .before .before .before .before .header .ensures) ∙ c .before .before .tag .given .1))
+sound-part-sound-end-2 t c = omega (arith, header-fits paper (c .before .before .before .before .before .before .before .before .before .before .before .before .before .before .before .before .before .args .s .now) (c .before .before .before .before .before .before .before .before .before .before .before .before .before .before .before .loop .i) (omega arith) (sym (c .before .before .before .before .header .ensures) ∙ c .before .before .tag .given .1))
 
 -- src/walking.rt:157:41
 sound-add-sound-4 : (t : ℕ) → sound-lts.Need-add-sound-4 (leaf-reads.Asked, leaf-reads.Learnt, branch-reads.Asked, branch-reads.Learnt, sound-below t, sound.Post, header-reads.Asked, header-reads.Learnt, contents-good-reads.Asked, contents-good-reads.Learnt) (sound-at t) sound.Post sound-Inv-loop sound-μ-loop
@@ -197,7 +197,7 @@ sound-add-sound-5 t c = search needs
 
 -- src/walking.rt:157:13
 sound-sound-requires-2 : (t : ℕ) → sound-lts.Need-sound-requires-2 (leaf-reads.Asked, leaf-reads.Learnt, branch-reads.Asked, branch-reads.Learnt, sound-below t, sound.Post, header-reads.Asked, header-reads.Learnt, contents-good-reads.Asked, contents-good-reads.Learnt) (sound-at t) sound.Post sound-Inv-loop sound-μ-loop
-sound-sound-requires-2 t c κs = let mu : length (c .before .before .before .before .before .before .before .before .before .before .before .before .before .before .before .before .before .before .args .s .now) ≡ t = c .before .before .before .before .before .before .before .before .before .before .before .before .before .before .before .before .before .before .pre .0 in omega (arith, header-fits paper (c .before .before .before .before .before .before .before .before .before .before .before .before .before .before .before .before .before .before .args .s .now) (c .before .before .before .before .before .before .before .before .before .before .before .before .before .before .before .before .loop .at) (omega arith) (sym (c .before .before .before .before .before .header .ensures) ∙ c .before .before .before .tag .given .1), length-take (c .before .before .before .before .before .before .before .before .before .before .before .before .before .before .before .before .loop .at + c .before .before .before .tag .given .0 .1 .0 + c .before .before .before .tag .given .0 .1 .1 .0 - (c .before .before .before .before .before .before .before .before .before .before .before .before .before .before .before .before .loop .at + c .before .before .before .tag .given .0 .1 .0)) (drop (c .before .before .before .before .before .before .before .before .before .before .before .before .before .before .before .before .loop .at + c .before .before .before .tag .given .0 .1 .0) (c .before .before .before .before .before .before .before .before .before .before .before .before .before .before .before .before .before .before .args .s .now)), length-drop (c .before .before .before .before .before .before .before .before .before .before .before .before .before .before .before .before .loop .at + c .before .before .before .tag .given .0 .1 .0) (c .before .before .before .before .before .before .before .before .before .before .before .before .before .before .before .before .before .before .args .s .now))
+sound-sound-requires-2 t c κs = let mu : length (c .before .before .before .before .before .before .before .before .before .before .before .before .before .before .before .before .before .before .args .s .now) ≡ t = c .before .before .before .before .before .before .before .before .before .before .before .before .before .before .before .before .before .before .pre .0 in omega (arith, header-fits paper (c .before .before .before .before .before .before .before .before .before .before .before .before .before .before .before .before .before .before .args .s .now) (c .before .before .before .before .before .before .before .before .before .before .before .before .before .before .before .before .loop .i) (omega arith) (sym (c .before .before .before .before .before .header .ensures) ∙ c .before .before .before .tag .given .1), length-take (c .before .before .before .before .before .before .before .before .before .before .before .before .before .before .before .before .loop .i + c .before .before .before .tag .given .0 .1 .0 + c .before .before .before .tag .given .0 .1 .1 .0 - (c .before .before .before .before .before .before .before .before .before .before .before .before .before .before .before .before .loop .i + c .before .before .before .tag .given .0 .1 .0)) (drop (c .before .before .before .before .before .before .before .before .before .before .before .before .before .before .before .before .loop .i + c .before .before .before .tag .given .0 .1 .0) (c .before .before .before .before .before .before .before .before .before .before .before .before .before .before .before .before .before .before .args .s .now)), length-drop (c .before .before .before .before .before .before .before .before .before .before .before .before .before .before .before .before .loop .i + c .before .before .before .tag .given .0 .1 .0) (c .before .before .before .before .before .before .before .before .before .before .before .before .before .before .before .before .before .before .args .s .now))
 
 -- src/walking.rt:159:17
 sound-returns-5 : (t : ℕ) → sound-lts.Need-returns-5 (leaf-reads.Asked, leaf-reads.Learnt, branch-reads.Asked, branch-reads.Learnt, sound-below t, sound.Post, header-reads.Asked, header-reads.Learnt, contents-good-reads.Asked, contents-good-reads.Learnt) (sound-at t) sound.Post sound-Inv-loop sound-μ-loop
@@ -206,24 +206,24 @@ sound-returns-5 t c = λ some base fuel enough. absurd (omega arith)
 -- src/walking.rt:128:5
 sound-loop-less-3 : (t : ℕ) → sound-lts.Need-loop-less-3 (leaf-reads.Asked, leaf-reads.Learnt, branch-reads.Asked, branch-reads.Learnt, sound-below t, sound.Post, header-reads.Asked, header-reads.Learnt, contents-good-reads.Asked, contents-good-reads.Learnt) (sound-at t) sound.Post sound-Inv-loop sound-μ-loop
 unfolding constructed
-sound-loop-less-3 t c = omega (arith, (node-step paper (c .before .before .before .before .before .before .before .before .before .before .before .before .before .before .before .before .before .before .before .before .args .s .now) (c .before .before .before .before .before .before .before .before .before .before .before .before .before .before .before .before .before .before .before .before .args .depth) (c .before .before .before .before .before .before .before .before .before .before .before .before .before .before .before .before .before .before .before .before .args .count) (c .before .before .before .before .before .before .before .before .before .before .before .before .before .before .before .before .before .before .loop .at) (c .before .before .before .before .before .before .before .before .before .before .before .before .before .before .before .before .before .before .loop .read) (c .before .before .before .before .before .before .before .before .before .before .before .before .before .before .before .before .before .loop-test .taken) (c .before .before .before .before .before .before .before .before .before .before .before .before .before .before .before .before .before .before .loop .inv .2) (sym (c .before .before .before .before .before .before .before .header .ensures) ∙ c .before .before .before .before .before .tag .given .1) refl (c .before .before .before .before .before .before .before .before .before .before .before .before .before .before .before .before .if1 .left) (c .before .before .before .before .before .before .before .before .before .before .before .before .before .before .before .if2 .left) (eq-eqb _ _ (c .before .before .before .if6 .taken)) (c .before .sound2 .ensures (omega arith))) .0, (node-step paper (c .before .before .before .before .before .before .before .before .before .before .before .before .before .before .before .before .before .before .before .before .args .s .now) (c .before .before .before .before .before .before .before .before .before .before .before .before .before .before .before .before .before .before .before .before .args .depth) (c .before .before .before .before .before .before .before .before .before .before .before .before .before .before .before .before .before .before .before .before .args .count) (c .before .before .before .before .before .before .before .before .before .before .before .before .before .before .before .before .before .before .loop .at) (c .before .before .before .before .before .before .before .before .before .before .before .before .before .before .before .before .before .before .loop .read) (c .before .before .before .before .before .before .before .before .before .before .before .before .before .before .before .before .before .loop-test .taken) (c .before .before .before .before .before .before .before .before .before .before .before .before .before .before .before .before .before .before .loop .inv .2) (sym (c .before .before .before .before .before .before .before .header .ensures) ∙ c .before .before .before .before .before .tag .given .1) refl (c .before .before .before .before .before .before .before .before .before .before .before .before .before .before .before .before .if1 .left) (c .before .before .before .before .before .before .before .before .before .before .before .before .before .before .before .if2 .left) (eq-eqb _ _ (c .before .before .before .if6 .taken)) (c .before .sound2 .ensures (omega arith))) .1)
+sound-loop-less-3 t c = omega (arith, (node-step paper (c .before .before .before .before .before .before .before .before .before .before .before .before .before .before .before .before .before .before .before .before .args .s .now) (c .before .before .before .before .before .before .before .before .before .before .before .before .before .before .before .before .before .before .before .before .args .depth) (c .before .before .before .before .before .before .before .before .before .before .before .before .before .before .before .before .before .before .before .before .args .count) (c .before .before .before .before .before .before .before .before .before .before .before .before .before .before .before .before .before .before .loop .i) (c .before .before .before .before .before .before .before .before .before .before .before .before .before .before .before .before .before .before .loop .read) (c .before .before .before .before .before .before .before .before .before .before .before .before .before .before .before .before .before .loop-test .taken) (c .before .before .before .before .before .before .before .before .before .before .before .before .before .before .before .before .before .before .loop .inv .2) (sym (c .before .before .before .before .before .before .before .header .ensures) ∙ c .before .before .before .before .before .tag .given .1) refl (c .before .before .before .before .before .before .before .before .before .before .before .before .before .before .before .before .if1 .left) (c .before .before .before .before .before .before .before .before .before .before .before .before .before .before .before .if2 .left) (eq-eqb _ _ (c .before .before .before .if6 .taken)) (c .before .sound2 .ensures (omega arith))) .0, (node-step paper (c .before .before .before .before .before .before .before .before .before .before .before .before .before .before .before .before .before .before .before .before .args .s .now) (c .before .before .before .before .before .before .before .before .before .before .before .before .before .before .before .before .before .before .before .before .args .depth) (c .before .before .before .before .before .before .before .before .before .before .before .before .before .before .before .before .before .before .before .before .args .count) (c .before .before .before .before .before .before .before .before .before .before .before .before .before .before .before .before .before .before .loop .i) (c .before .before .before .before .before .before .before .before .before .before .before .before .before .before .before .before .before .before .loop .read) (c .before .before .before .before .before .before .before .before .before .before .before .before .before .before .before .before .before .loop-test .taken) (c .before .before .before .before .before .before .before .before .before .before .before .before .before .before .before .before .before .before .loop .inv .2) (sym (c .before .before .before .before .before .before .before .header .ensures) ∙ c .before .before .before .before .before .tag .given .1) refl (c .before .before .before .before .before .before .before .before .before .before .before .before .before .before .before .before .if1 .left) (c .before .before .before .before .before .before .before .before .before .before .before .before .before .before .before .if2 .left) (eq-eqb _ _ (c .before .before .before .if6 .taken)) (c .before .sound2 .ensures (omega arith))) .1)
 
 -- src/walking.rt:128:5
 sound-loop-again-3 : (t : ℕ) → sound-lts.Need-loop-again-3 (leaf-reads.Asked, leaf-reads.Learnt, branch-reads.Asked, branch-reads.Learnt, sound-below t, sound.Post, header-reads.Asked, header-reads.Learnt, contents-good-reads.Asked, contents-good-reads.Learnt) (sound-at t) sound.Post sound-Inv-loop sound-μ-loop
 unfolding constructed
-sound-loop-again-3 t c = ((node-step paper (c .before .before .before .before .before .before .before .before .before .before .before .before .before .before .before .before .before .before .before .before .args .s .now) (c .before .before .before .before .before .before .before .before .before .before .before .before .before .before .before .before .before .before .before .before .args .depth) (c .before .before .before .before .before .before .before .before .before .before .before .before .before .before .before .before .before .before .before .before .args .count) (c .before .before .before .before .before .before .before .before .before .before .before .before .before .before .before .before .before .before .loop .at) (c .before .before .before .before .before .before .before .before .before .before .before .before .before .before .before .before .before .before .loop .read) (c .before .before .before .before .before .before .before .before .before .before .before .before .before .before .before .before .before .loop-test .taken) (c .before .before .before .before .before .before .before .before .before .before .before .before .before .before .before .before .before .before .loop .inv .2) (sym (c .before .before .before .before .before .before .before .header .ensures) ∙ c .before .before .before .before .before .tag .given .1) refl (c .before .before .before .before .before .before .before .before .before .before .before .before .before .before .before .before .if1 .left) (c .before .before .before .before .before .before .before .before .before .before .before .before .before .before .before .if2 .left) (eq-eqb _ _ (c .before .before .before .if6 .taken)) (c .before .sound2 .ensures (omega arith))) .1, (node-step paper (c .before .before .before .before .before .before .before .before .before .before .before .before .before .before .before .before .before .before .before .before .args .s .now) (c .before .before .before .before .before .before .before .before .before .before .before .before .before .before .before .before .before .before .before .before .args .depth) (c .before .before .before .before .before .before .before .before .before .before .before .before .before .before .before .before .before .before .before .before .args .count) (c .before .before .before .before .before .before .before .before .before .before .before .before .before .before .before .before .before .before .loop .at) (c .before .before .before .before .before .before .before .before .before .before .before .before .before .before .before .before .before .before .loop .read) (c .before .before .before .before .before .before .before .before .before .before .before .before .before .before .before .before .before .loop-test .taken) (c .before .before .before .before .before .before .before .before .before .before .before .before .before .before .before .before .before .before .loop .inv .2) (sym (c .before .before .before .before .before .before .before .header .ensures) ∙ c .before .before .before .before .before .tag .given .1) refl (c .before .before .before .before .before .before .before .before .before .before .before .before .before .before .before .before .if1 .left) (c .before .before .before .before .before .before .before .before .before .before .before .before .before .before .before .if2 .left) (eq-eqb _ _ (c .before .before .before .if6 .taken)) (c .before .sound2 .ensures (omega arith))) .2, (node-step paper (c .before .before .before .before .before .before .before .before .before .before .before .before .before .before .before .before .before .before .before .before .args .s .now) (c .before .before .before .before .before .before .before .before .before .before .before .before .before .before .before .before .before .before .before .before .args .depth) (c .before .before .before .before .before .before .before .before .before .before .before .before .before .before .before .before .before .before .before .before .args .count) (c .before .before .before .before .before .before .before .before .before .before .before .before .before .before .before .before .before .before .loop .at) (c .before .before .before .before .before .before .before .before .before .before .before .before .before .before .before .before .before .before .loop .read) (c .before .before .before .before .before .before .before .before .before .before .before .before .before .before .before .before .before .loop-test .taken) (c .before .before .before .before .before .before .before .before .before .before .before .before .before .before .before .before .before .before .loop .inv .2) (sym (c .before .before .before .before .before .before .before .header .ensures) ∙ c .before .before .before .before .before .tag .given .1) refl (c .before .before .before .before .before .before .before .before .before .before .before .before .before .before .before .before .if1 .left) (c .before .before .before .before .before .before .before .before .before .before .before .before .before .before .before .if2 .left) (eq-eqb _ _ (c .before .before .before .if6 .taken)) (c .before .sound2 .ensures (omega arith))) .3)
+sound-loop-again-3 t c = ((node-step paper (c .before .before .before .before .before .before .before .before .before .before .before .before .before .before .before .before .before .before .before .before .args .s .now) (c .before .before .before .before .before .before .before .before .before .before .before .before .before .before .before .before .before .before .before .before .args .depth) (c .before .before .before .before .before .before .before .before .before .before .before .before .before .before .before .before .before .before .before .before .args .count) (c .before .before .before .before .before .before .before .before .before .before .before .before .before .before .before .before .before .before .loop .i) (c .before .before .before .before .before .before .before .before .before .before .before .before .before .before .before .before .before .before .loop .read) (c .before .before .before .before .before .before .before .before .before .before .before .before .before .before .before .before .before .loop-test .taken) (c .before .before .before .before .before .before .before .before .before .before .before .before .before .before .before .before .before .before .loop .inv .2) (sym (c .before .before .before .before .before .before .before .header .ensures) ∙ c .before .before .before .before .before .tag .given .1) refl (c .before .before .before .before .before .before .before .before .before .before .before .before .before .before .before .before .if1 .left) (c .before .before .before .before .before .before .before .before .before .before .before .before .before .before .before .if2 .left) (eq-eqb _ _ (c .before .before .before .if6 .taken)) (c .before .sound2 .ensures (omega arith))) .1, (node-step paper (c .before .before .before .before .before .before .before .before .before .before .before .before .before .before .before .before .before .before .before .before .args .s .now) (c .before .before .before .before .before .before .before .before .before .before .before .before .before .before .before .before .before .before .before .before .args .depth) (c .before .before .before .before .before .before .before .before .before .before .before .before .before .before .before .before .before .before .before .before .args .count) (c .before .before .before .before .before .before .before .before .before .before .before .before .before .before .before .before .before .before .loop .i) (c .before .before .before .before .before .before .before .before .before .before .before .before .before .before .before .before .before .before .loop .read) (c .before .before .before .before .before .before .before .before .before .before .before .before .before .before .before .before .before .loop-test .taken) (c .before .before .before .before .before .before .before .before .before .before .before .before .before .before .before .before .before .before .loop .inv .2) (sym (c .before .before .before .before .before .before .before .header .ensures) ∙ c .before .before .before .before .before .tag .given .1) refl (c .before .before .before .before .before .before .before .before .before .before .before .before .before .before .before .before .if1 .left) (c .before .before .before .before .before .before .before .before .before .before .before .before .before .before .before .if2 .left) (eq-eqb _ _ (c .before .before .before .if6 .taken)) (c .before .sound2 .ensures (omega arith))) .2, (node-step paper (c .before .before .before .before .before .before .before .before .before .before .before .before .before .before .before .before .before .before .before .before .args .s .now) (c .before .before .before .before .before .before .before .before .before .before .before .before .before .before .before .before .before .before .before .before .args .depth) (c .before .before .before .before .before .before .before .before .before .before .before .before .before .before .before .before .before .before .before .before .args .count) (c .before .before .before .before .before .before .before .before .before .before .before .before .before .before .before .before .before .before .loop .i) (c .before .before .before .before .before .before .before .before .before .before .before .before .before .before .before .before .before .before .loop .read) (c .before .before .before .before .before .before .before .before .before .before .before .before .before .before .before .before .before .loop-test .taken) (c .before .before .before .before .before .before .before .before .before .before .before .before .before .before .before .before .before .before .loop .inv .2) (sym (c .before .before .before .before .before .before .before .header .ensures) ∙ c .before .before .before .before .before .tag .given .1) refl (c .before .before .before .before .before .before .before .before .before .before .before .before .before .before .before .before .if1 .left) (c .before .before .before .before .before .before .before .before .before .before .before .before .before .before .before .if2 .left) (eq-eqb _ _ (c .before .before .before .if6 .taken)) (c .before .sound2 .ensures (omega arith))) .3)
 
 -- src/walking.rt:164:32
 sound-sub-contents-good : (t : ℕ) → sound-lts.Need-sub-contents-good (leaf-reads.Asked, leaf-reads.Learnt, branch-reads.Asked, branch-reads.Learnt, sound-below t, sound.Post, header-reads.Asked, header-reads.Learnt, contents-good-reads.Asked, contents-good-reads.Learnt) (sound-at t) sound.Post sound-Inv-loop sound-μ-loop
-sound-sub-contents-good t c = omega (arith, header-fits paper (c .before .before .before .before .before .before .before .before .before .before .before .before .before .before .before .before .before .args .s .now) (c .before .before .before .before .before .before .before .before .before .before .before .before .before .before .before .loop .at) (omega arith) (sym (c .before .before .before .before .header .ensures) ∙ c .before .before .tag .given .1))
+sound-sub-contents-good t c = omega (arith, header-fits paper (c .before .before .before .before .before .before .before .before .before .before .before .before .before .before .before .before .before .args .s .now) (c .before .before .before .before .before .before .before .before .before .before .before .before .before .before .before .loop .i) (omega arith) (sym (c .before .before .before .before .header .ensures) ∙ c .before .before .tag .given .1))
 
 -- src/walking.rt:164:32
 sound-part-contents-good-start : (t : ℕ) → sound-lts.Need-part-contents-good-start (leaf-reads.Asked, leaf-reads.Learnt, branch-reads.Asked, branch-reads.Learnt, sound-below t, sound.Post, header-reads.Asked, header-reads.Learnt, contents-good-reads.Asked, contents-good-reads.Learnt) (sound-at t) sound.Post sound-Inv-loop sound-μ-loop
-sound-part-contents-good-start t c = omega (arith, header-fits paper (c .before .before .before .before .before .before .before .before .before .before .before .before .before .before .before .before .before .args .s .now) (c .before .before .before .before .before .before .before .before .before .before .before .before .before .before .before .loop .at) (omega arith) (sym (c .before .before .before .before .header .ensures) ∙ c .before .before .tag .given .1))
+sound-part-contents-good-start t c = omega (arith, header-fits paper (c .before .before .before .before .before .before .before .before .before .before .before .before .before .before .before .before .before .args .s .now) (c .before .before .before .before .before .before .before .before .before .before .before .before .before .before .before .loop .i) (omega arith) (sym (c .before .before .before .before .header .ensures) ∙ c .before .before .tag .given .1))
 
 -- src/walking.rt:164:32
 sound-part-contents-good-end : (t : ℕ) → sound-lts.Need-part-contents-good-end (leaf-reads.Asked, leaf-reads.Learnt, branch-reads.Asked, branch-reads.Learnt, sound-below t, sound.Post, header-reads.Asked, header-reads.Learnt, contents-good-reads.Asked, contents-good-reads.Learnt) (sound-at t) sound.Post sound-Inv-loop sound-μ-loop
-sound-part-contents-good-end t c = omega (arith, header-fits paper (c .before .before .before .before .before .before .before .before .before .before .before .before .before .before .before .before .before .args .s .now) (c .before .before .before .before .before .before .before .before .before .before .before .before .before .before .before .loop .at) (omega arith) (sym (c .before .before .before .before .header .ensures) ∙ c .before .before .tag .given .1))
+sound-part-contents-good-end t c = omega (arith, header-fits paper (c .before .before .before .before .before .before .before .before .before .before .before .before .before .before .before .before .before .args .s .now) (c .before .before .before .before .before .before .before .before .before .before .before .before .before .before .before .loop .i) (omega arith) (sym (c .before .before .before .before .header .ensures) ∙ c .before .before .tag .given .1))
 
 -- src/walking.rt:164:13
 sound-contents-good-requires : (t : ℕ) → sound-lts.Need-contents-good-requires (leaf-reads.Asked, leaf-reads.Learnt, branch-reads.Asked, branch-reads.Learnt, sound-below t, sound.Post, header-reads.Asked, header-reads.Learnt, contents-good-reads.Asked, contents-good-reads.Learnt) (sound-at t) sound.Post sound-Inv-loop sound-μ-loop
@@ -240,12 +240,12 @@ sound-add-read-2 t c = search needs
 -- src/walking.rt:128:5
 sound-loop-less-4 : (t : ℕ) → sound-lts.Need-loop-less-4 (leaf-reads.Asked, leaf-reads.Learnt, branch-reads.Asked, branch-reads.Learnt, sound-below t, sound.Post, header-reads.Asked, header-reads.Learnt, contents-good-reads.Asked, contents-good-reads.Learnt) (sound-at t) sound.Post sound-Inv-loop sound-μ-loop
 unfolding constructed
-sound-loop-less-4 t c = omega (arith, (leaf-step paper (c .before .before .before .before .before .before .before .before .before .before .before .before .before .before .before .before .before .before .before .before .args .s .now) (c .before .before .before .before .before .before .before .before .before .before .before .before .before .before .before .before .before .before .before .before .args .depth) (c .before .before .before .before .before .before .before .before .before .before .before .before .before .before .before .before .before .before .before .before .args .count) (c .before .before .before .before .before .before .before .before .before .before .before .before .before .before .before .before .before .before .loop .at) (c .before .before .before .before .before .before .before .before .before .before .before .before .before .before .before .before .before .before .loop .read) (c .before .before .before .before .before .before .before .before .before .before .before .before .before .before .before .before .before .loop-test .taken) (c .before .before .before .before .before .before .before .before .before .before .before .before .before .before .before .before .before .before .loop .inv .2) (sym (c .before .before .before .before .before .before .before .header .ensures) ∙ c .before .before .before .before .before .tag .given .1) refl (c .before .before .before .before .before .before .before .before .before .before .before .before .before .before .before .before .if1 .left) (c .before .before .before .before .before .before .before .before .before .before .before .before .before .before .before .if2 .left) (ne-eqb _ _ (c .before .before .before .if6 .left)) (sym (c .before .contents-good .ensures) ∙ not-false _ (c .if8 .left))) .0, (leaf-step paper (c .before .before .before .before .before .before .before .before .before .before .before .before .before .before .before .before .before .before .before .before .args .s .now) (c .before .before .before .before .before .before .before .before .before .before .before .before .before .before .before .before .before .before .before .before .args .depth) (c .before .before .before .before .before .before .before .before .before .before .before .before .before .before .before .before .before .before .before .before .args .count) (c .before .before .before .before .before .before .before .before .before .before .before .before .before .before .before .before .before .before .loop .at) (c .before .before .before .before .before .before .before .before .before .before .before .before .before .before .before .before .before .before .loop .read) (c .before .before .before .before .before .before .before .before .before .before .before .before .before .before .before .before .before .loop-test .taken) (c .before .before .before .before .before .before .before .before .before .before .before .before .before .before .before .before .before .before .loop .inv .2) (sym (c .before .before .before .before .before .before .before .header .ensures) ∙ c .before .before .before .before .before .tag .given .1) refl (c .before .before .before .before .before .before .before .before .before .before .before .before .before .before .before .before .if1 .left) (c .before .before .before .before .before .before .before .before .before .before .before .before .before .before .before .if2 .left) (ne-eqb _ _ (c .before .before .before .if6 .left)) (sym (c .before .contents-good .ensures) ∙ not-false _ (c .if8 .left))) .1)
+sound-loop-less-4 t c = omega (arith, (leaf-step paper (c .before .before .before .before .before .before .before .before .before .before .before .before .before .before .before .before .before .before .before .before .args .s .now) (c .before .before .before .before .before .before .before .before .before .before .before .before .before .before .before .before .before .before .before .before .args .depth) (c .before .before .before .before .before .before .before .before .before .before .before .before .before .before .before .before .before .before .before .before .args .count) (c .before .before .before .before .before .before .before .before .before .before .before .before .before .before .before .before .before .before .loop .i) (c .before .before .before .before .before .before .before .before .before .before .before .before .before .before .before .before .before .before .loop .read) (c .before .before .before .before .before .before .before .before .before .before .before .before .before .before .before .before .before .loop-test .taken) (c .before .before .before .before .before .before .before .before .before .before .before .before .before .before .before .before .before .before .loop .inv .2) (sym (c .before .before .before .before .before .before .before .header .ensures) ∙ c .before .before .before .before .before .tag .given .1) refl (c .before .before .before .before .before .before .before .before .before .before .before .before .before .before .before .before .if1 .left) (c .before .before .before .before .before .before .before .before .before .before .before .before .before .before .before .if2 .left) (ne-eqb _ _ (c .before .before .before .if6 .left)) (sym (c .before .contents-good .ensures) ∙ not-false _ (c .if8 .left))) .0, (leaf-step paper (c .before .before .before .before .before .before .before .before .before .before .before .before .before .before .before .before .before .before .before .before .args .s .now) (c .before .before .before .before .before .before .before .before .before .before .before .before .before .before .before .before .before .before .before .before .args .depth) (c .before .before .before .before .before .before .before .before .before .before .before .before .before .before .before .before .before .before .before .before .args .count) (c .before .before .before .before .before .before .before .before .before .before .before .before .before .before .before .before .before .before .loop .i) (c .before .before .before .before .before .before .before .before .before .before .before .before .before .before .before .before .before .before .loop .read) (c .before .before .before .before .before .before .before .before .before .before .before .before .before .before .before .before .before .loop-test .taken) (c .before .before .before .before .before .before .before .before .before .before .before .before .before .before .before .before .before .before .loop .inv .2) (sym (c .before .before .before .before .before .before .before .header .ensures) ∙ c .before .before .before .before .before .tag .given .1) refl (c .before .before .before .before .before .before .before .before .before .before .before .before .before .before .before .before .if1 .left) (c .before .before .before .before .before .before .before .before .before .before .before .before .before .before .before .if2 .left) (ne-eqb _ _ (c .before .before .before .if6 .left)) (sym (c .before .contents-good .ensures) ∙ not-false _ (c .if8 .left))) .1)
 
 -- src/walking.rt:128:5
 sound-loop-again-4 : (t : ℕ) → sound-lts.Need-loop-again-4 (leaf-reads.Asked, leaf-reads.Learnt, branch-reads.Asked, branch-reads.Learnt, sound-below t, sound.Post, header-reads.Asked, header-reads.Learnt, contents-good-reads.Asked, contents-good-reads.Learnt) (sound-at t) sound.Post sound-Inv-loop sound-μ-loop
 unfolding constructed
-sound-loop-again-4 t c = ((leaf-step paper (c .before .before .before .before .before .before .before .before .before .before .before .before .before .before .before .before .before .before .before .before .args .s .now) (c .before .before .before .before .before .before .before .before .before .before .before .before .before .before .before .before .before .before .before .before .args .depth) (c .before .before .before .before .before .before .before .before .before .before .before .before .before .before .before .before .before .before .before .before .args .count) (c .before .before .before .before .before .before .before .before .before .before .before .before .before .before .before .before .before .before .loop .at) (c .before .before .before .before .before .before .before .before .before .before .before .before .before .before .before .before .before .before .loop .read) (c .before .before .before .before .before .before .before .before .before .before .before .before .before .before .before .before .before .loop-test .taken) (c .before .before .before .before .before .before .before .before .before .before .before .before .before .before .before .before .before .before .loop .inv .2) (sym (c .before .before .before .before .before .before .before .header .ensures) ∙ c .before .before .before .before .before .tag .given .1) refl (c .before .before .before .before .before .before .before .before .before .before .before .before .before .before .before .before .if1 .left) (c .before .before .before .before .before .before .before .before .before .before .before .before .before .before .before .if2 .left) (ne-eqb _ _ (c .before .before .before .if6 .left)) (sym (c .before .contents-good .ensures) ∙ not-false _ (c .if8 .left))) .1, (leaf-step paper (c .before .before .before .before .before .before .before .before .before .before .before .before .before .before .before .before .before .before .before .before .args .s .now) (c .before .before .before .before .before .before .before .before .before .before .before .before .before .before .before .before .before .before .before .before .args .depth) (c .before .before .before .before .before .before .before .before .before .before .before .before .before .before .before .before .before .before .before .before .args .count) (c .before .before .before .before .before .before .before .before .before .before .before .before .before .before .before .before .before .before .loop .at) (c .before .before .before .before .before .before .before .before .before .before .before .before .before .before .before .before .before .before .loop .read) (c .before .before .before .before .before .before .before .before .before .before .before .before .before .before .before .before .before .loop-test .taken) (c .before .before .before .before .before .before .before .before .before .before .before .before .before .before .before .before .before .before .loop .inv .2) (sym (c .before .before .before .before .before .before .before .header .ensures) ∙ c .before .before .before .before .before .tag .given .1) refl (c .before .before .before .before .before .before .before .before .before .before .before .before .before .before .before .before .if1 .left) (c .before .before .before .before .before .before .before .before .before .before .before .before .before .before .before .if2 .left) (ne-eqb _ _ (c .before .before .before .if6 .left)) (sym (c .before .contents-good .ensures) ∙ not-false _ (c .if8 .left))) .2, (leaf-step paper (c .before .before .before .before .before .before .before .before .before .before .before .before .before .before .before .before .before .before .before .before .args .s .now) (c .before .before .before .before .before .before .before .before .before .before .before .before .before .before .before .before .before .before .before .before .args .depth) (c .before .before .before .before .before .before .before .before .before .before .before .before .before .before .before .before .before .before .before .before .args .count) (c .before .before .before .before .before .before .before .before .before .before .before .before .before .before .before .before .before .before .loop .at) (c .before .before .before .before .before .before .before .before .before .before .before .before .before .before .before .before .before .before .loop .read) (c .before .before .before .before .before .before .before .before .before .before .before .before .before .before .before .before .before .loop-test .taken) (c .before .before .before .before .before .before .before .before .before .before .before .before .before .before .before .before .before .before .loop .inv .2) (sym (c .before .before .before .before .before .before .before .header .ensures) ∙ c .before .before .before .before .before .tag .given .1) refl (c .before .before .before .before .before .before .before .before .before .before .before .before .before .before .before .before .if1 .left) (c .before .before .before .before .before .before .before .before .before .before .before .before .before .before .before .if2 .left) (ne-eqb _ _ (c .before .before .before .if6 .left)) (sym (c .before .contents-good .ensures) ∙ not-false _ (c .if8 .left))) .3)
+sound-loop-again-4 t c = ((leaf-step paper (c .before .before .before .before .before .before .before .before .before .before .before .before .before .before .before .before .before .before .before .before .args .s .now) (c .before .before .before .before .before .before .before .before .before .before .before .before .before .before .before .before .before .before .before .before .args .depth) (c .before .before .before .before .before .before .before .before .before .before .before .before .before .before .before .before .before .before .before .before .args .count) (c .before .before .before .before .before .before .before .before .before .before .before .before .before .before .before .before .before .before .loop .i) (c .before .before .before .before .before .before .before .before .before .before .before .before .before .before .before .before .before .before .loop .read) (c .before .before .before .before .before .before .before .before .before .before .before .before .before .before .before .before .before .loop-test .taken) (c .before .before .before .before .before .before .before .before .before .before .before .before .before .before .before .before .before .before .loop .inv .2) (sym (c .before .before .before .before .before .before .before .header .ensures) ∙ c .before .before .before .before .before .tag .given .1) refl (c .before .before .before .before .before .before .before .before .before .before .before .before .before .before .before .before .if1 .left) (c .before .before .before .before .before .before .before .before .before .before .before .before .before .before .before .if2 .left) (ne-eqb _ _ (c .before .before .before .if6 .left)) (sym (c .before .contents-good .ensures) ∙ not-false _ (c .if8 .left))) .1, (leaf-step paper (c .before .before .before .before .before .before .before .before .before .before .before .before .before .before .before .before .before .before .before .before .args .s .now) (c .before .before .before .before .before .before .before .before .before .before .before .before .before .before .before .before .before .before .before .before .args .depth) (c .before .before .before .before .before .before .before .before .before .before .before .before .before .before .before .before .before .before .before .before .args .count) (c .before .before .before .before .before .before .before .before .before .before .before .before .before .before .before .before .before .before .loop .i) (c .before .before .before .before .before .before .before .before .before .before .before .before .before .before .before .before .before .before .loop .read) (c .before .before .before .before .before .before .before .before .before .before .before .before .before .before .before .before .before .loop-test .taken) (c .before .before .before .before .before .before .before .before .before .before .before .before .before .before .before .before .before .before .loop .inv .2) (sym (c .before .before .before .before .before .before .before .header .ensures) ∙ c .before .before .before .before .before .tag .given .1) refl (c .before .before .before .before .before .before .before .before .before .before .before .before .before .before .before .before .if1 .left) (c .before .before .before .before .before .before .before .before .before .before .before .before .before .before .before .if2 .left) (ne-eqb _ _ (c .before .before .before .if6 .left)) (sym (c .before .contents-good .ensures) ∙ not-false _ (c .if8 .left))) .2, (leaf-step paper (c .before .before .before .before .before .before .before .before .before .before .before .before .before .before .before .before .before .before .before .before .args .s .now) (c .before .before .before .before .before .before .before .before .before .before .before .before .before .before .before .before .before .before .before .before .args .depth) (c .before .before .before .before .before .before .before .before .before .before .before .before .before .before .before .before .before .before .before .before .args .count) (c .before .before .before .before .before .before .before .before .before .before .before .before .before .before .before .before .before .before .loop .i) (c .before .before .before .before .before .before .before .before .before .before .before .before .before .before .before .before .before .before .loop .read) (c .before .before .before .before .before .before .before .before .before .before .before .before .before .before .before .before .before .loop-test .taken) (c .before .before .before .before .before .before .before .before .before .before .before .before .before .before .before .before .before .before .loop .inv .2) (sym (c .before .before .before .before .before .before .before .header .ensures) ∙ c .before .before .before .before .before .tag .given .1) refl (c .before .before .before .before .before .before .before .before .before .before .before .before .before .before .before .before .if1 .left) (c .before .before .before .before .before .before .before .before .before .before .before .before .before .before .before .if2 .left) (ne-eqb _ _ (c .before .before .before .if6 .left)) (sym (c .before .contents-good .ensures) ∙ not-false _ (c .if8 .left))) .3)
 
 -- src/walking.rt:122:1
 sound-returns-7 : (t : ℕ) → sound-lts.Need-returns-7 (leaf-reads.Asked, leaf-reads.Learnt, branch-reads.Asked, branch-reads.Learnt, sound-below t, sound.Post, header-reads.Asked, header-reads.Learnt, contents-good-reads.Asked, contents-good-reads.Learnt) (sound-at t) sound.Post sound-Inv-loop sound-μ-loop
@@ -264,7 +264,7 @@ pub +sound-spec : {M : Type 1} → statement M
     (sound-part-leaf-start t)
     (sound-part-leaf-end t)
     (sound-leaf-requires t)
-    (sound-add-at t)
+    (sound-add-i t)
     (sound-add-read t)
     (sound-loop-less t)
     (sound-loop-again t)
