@@ -118,3 +118,35 @@ module _ (forms : Forms) (s : List ℕ) (base depth count : ℕ) where
             e ∙ list-more forms rest (drop at s) (base + at) depth read some used n (element-left g rest h)
                 ∙ rw (drop-drop used at s, add-assoc base at used) refl,
           )
+
+-- the contents of a member, as a part of the list and as a part of the member
+inner : (s : List ℕ) (at skip size stop : ℕ) → at ≤ length s → stop ≡ at + skip + size → take (stop - (at + skip)) (drop (at + skip) s) ≡ take (skip + size - skip) (drop skip (take (length s - at) (drop at s)))
+inner s at skip size stop h e =
+    let n : stop - (at + skip) ≡ skip + size - skip = omega arith in
+    let w : take (length s - at) (drop at s) ≡ drop at s = take-all (length s - at) (drop at s) (omega (arith, length-drop at s)) in
+    rw (n, w, drop-drop skip at s) refl
+
+pub header-fits : (forms : Forms) (s : List ℕ) (at : ℕ) {tag skip size : ℕ} → at ≤ length s → headingOf forms (take (length s - at) (drop at s)) ≡ Header tag skip size → (2 ≤ skip) × (at + skip + size ≤ length s)
+header-fits forms s at {tag} {skip} {size} h e = omega (arith, heading-within forms (take (length s - at) (drop at s)) tag skip size e, length-take (length s - at) (drop at s), length-drop at s)
+
+-- the same wherever the list stands
+abbrev pub Left : Forms → List ℕ → ℕ → ℕ → ℕ → ℕ → Type 0
+Left forms s depth count at read = (base : ℕ) → ListLeft forms s base depth count at read
+
+-- one member more, which ends at `stop`
+abbrev pub Step : Forms → List ℕ → ℕ → ℕ → ℕ → ℕ → ℕ → Type 0
+Step forms s depth count at stop n = (at < stop) × (stop ≤ length s) × (n ≤ forms .elements) × Left forms s depth count stop n
+
+module _ (forms : Forms) (s : List ℕ) (depth count at read : ℕ) (more : at < length s) (f : Left forms s depth count at read) where
+  pub past-step : {used n stop : ℕ} → stop ≡ at + used → ((base : ℕ) → ElementIs forms (take (length s - at) (drop at s)) base depth read (Past used n)) → Step forms s depth count at stop n
+  past-step {used} {n} {stop} e g =
+      let b : (2 ≤ used) × (at + used ≤ length s) × (n ≤ forms .elements) = read-within forms s 0 depth count at read more (f 0) (g (0 + at)) in
+      (omega arith, omega arith, b .2, λ base. subst (λ k. ListLeft forms s base depth count k n) (sym e) (left-next forms s base depth count at read more (f base) (g (base + at))))
+
+  module _ {tag skip size stop : ℕ} (e : headingOf forms (take (length s - at) (drop at s)) ≡ Header tag skip size) (ends : stop ≡ at + skip + size) (shallow : depth ≤ forms .depth) (few : read < forms .elements) where
+    pub node-step : {n : ℕ} → constructed tag ≡ true → ((base : ℕ) → ListIs forms (take (stop - (at + skip)) (drop (at + skip) s)) base (depth + 1) (read + 1) (Passed n)) → Step forms s depth count at stop n
+    unfolding filled
+    node-step {n} h g = past-step (omega arith) λ base. node-is forms (take (length s - at) (drop at s)) base depth read e shallow few h (subst (λ (l : List ℕ). ListIs forms l (base + skip) (depth + 1) (read + 1) (Passed n)) (inner s at skip size stop (omega arith) ends) (g (base + skip)))
+
+    pub leaf-step : constructed tag ≡ false → contentsGood tag (take (stop - (at + skip)) (drop (at + skip) s)) ≡ true → Step forms s depth count at stop (read + 1)
+    leaf-step h g = past-step (omega arith) λ base. leaf-is forms (take (length s - at) (drop at s)) base depth read e shallow few h (subst (λ (l : List ℕ). contentsGood tag l ≡ true) (inner s at skip size stop (omega arith) ends) g)

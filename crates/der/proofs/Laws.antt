@@ -4,7 +4,7 @@ use mathlib.Core.Bool.{Bool, true, false, cond}
 use mathlib.Core.List.{List, []}
 use Prim.Native.Nat.{ℕ, suc, _+_, _*_, _≤_, _<_}
 use borrow.Author.Tests.{lt-ltb, le-ltb, le-leb, lt-leb, eq-eqb, ne-eqb}
-use lib.ListN.{length, take, drop}
+use lib.ListN.{length, getD, take, drop}
 use Rattle.refusal.specs.declared.Refusal.{Refusal}
 use Rattle.refusal.specs.declared.Refusal.the-variants.{Der, Limit}
 use Rattle.der.specs.declared.heading.Heading.the-variants.{Header, Bad}
@@ -13,9 +13,16 @@ use Rattle.der.specs.declared.walking.Read.the-variants.{Past, Fault}
 use Rattle.der.specs.declared.walking.Walked.{Walked}
 use Rattle.der.specs.declared.walking.Walked.the-variants.{Passed, Refused}
 use Rattle.der.specs.Forms.{Forms}
-use Rattle.der.specs.Heading.{headingOf, constructed}
+use Rattle.der.specs.Heading.{identifierGood, within, headingOf, constructed}
 use Rattle.der.specs.Contents.{contentsGood}
 use Rattle.der.specs.Walk.{opened, filled, after, elementAt, listAt, whole, walkOf}
+
+-- a length in the short form
+pub short-header :
+    (forms : Forms) (s : List ℕ) → 2 ≤ length s → identifierGood (getD s 0 0) ≡ true → getD s 1 0 < 128 → 2 + getD s 1 0 ≤ length s
+    → headingOf forms s ≡ Header (getD s 0 0) 2 (getD s 1 0)
+unfolding headingOf within
+short-header forms s two good short fits = simp (le-ltb _ _ two, good, lt-ltb _ _ short, le-leb _ _ fits)
 
 module _ (forms : Forms) (fuel : ℕ) (s : List ℕ) (base depth count : ℕ) where
   pub element-bad : headingOf forms s ≡ Bad → elementAt (suc fuel) forms s base depth count ≡ Fault (Der base)

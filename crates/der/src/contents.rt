@@ -67,17 +67,17 @@ fn oid_good(c: &[u8]) -> bool
     if c.len() == 0 {
         return false;
     }
-    let mut starts = true;
-    let mut i = 0;
+    if c[0] == 0x80 {
+        return false;
+    }
+    let mut i = 1;
     while i < c.len() {
-        let o = c[i];
-        if starts {
-            if o == 0x80 {
+        if c[i] == 0x80 {
+            if c[i - 1] < 0x80 {
                 return false;
             }
         }
-        starts = o < 0x80;
         i += 1;
     }
-    starts
+    c[c.len() - 1] < 0x80
 }

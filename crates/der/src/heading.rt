@@ -34,26 +34,16 @@ pub(crate) fn header(s: &[u8]) -> Heading
     Heading::Bad
 }
 
-fn identifier(tag: u8) -> bool
+// Bit n tells whether n is a good identifier of the universal class.
+const UNIVERSAL: u64 = 0x000300007ffcfffe;
+
+pub(crate) fn identifier(tag: u8) -> bool
     ensures { λ r. ⌜ r ≡ identifierGood tag ⌝ }
 {
-    let number = tag % 32;
-    if number == 31 {
-        return false;
+    if tag < 64 {
+        return (UNIVERSAL >> tag) % 2 == 1;
     }
-    if 64 <= tag {
-        return true;
-    }
-    if number == 0 {
-        return false;
-    }
-    if number == 16 {
-        return 32 <= tag;
-    }
-    if number == 17 {
-        return 32 <= tag;
-    }
-    tag < 32
+    tag % 32 != 31
 }
 
 // A length of 128 to 255.

@@ -2,12 +2,18 @@
 use crate::contents::contents_good;
 use crate::heading::Heading;
 use crate::heading::header;
+use crate::heading::identifier;
 use refusal::Refusal;
 ghost use mathlib.Core.Path.{_≡_};
-ghost use Prim.Native.Nat.{ℕ, _+_, _*_, _≤_};
-ghost use lib.ListN.{length};
+ghost use Prim.Native.Nat.{ℕ, _+_, _-_, _*_, _≤_, _<_};
+ghost use mathlib.Core.Bool.{true};
+ghost use lib.ListN.{length, getD};
 ghost use Rattle.der.specs.Forms.{paper};
+ghost use Rattle.der.specs.Heading.{headingOf, constructed};
 ghost use Rattle.der.specs.Walk.{elementAt, listAt, walkOf, counted};
+ghost use Rattle.der.specs.declared.heading.Heading.the-variants.{Header};
+ghost use Rattle.der.specs.declared.walking.Read.the-variants.{Past};
+ghost use Rattle.der.specs.declared.walking.Walked.the-variants.{Passed};
 
 // The count of elements read, at most 4,096, or the first fault.
 pub enum Walked {
@@ -27,6 +33,10 @@ pub fn walk(item: &[u8]) -> Walked
 {
     if 16384 < item.len() {
         return Walked::Refused(Refusal::Limit { at: 0 });
+    }
+    let count = outermost(item);
+    if 0 < count {
+        return Walked::Passed { count };
     }
     match element(item, 0, 1, 0) {
         Read::Fault(refusal) => Walked::Refused(refusal),
@@ -87,4 +97,130 @@ fn list(s: &[u8], base: usize, depth: usize, count: usize) -> Walked
         }
     }
     Walked::Passed { count: read }
+}
+
+// The count of elements of an item that one constructed element fills, if nothing is wrong with any; else 0, and
+// `element` has to tell why.
+fn outermost(item: &[u8]) -> usize
+    requires { ⌜ length (now item) ≤ 16384 ⌝ }
+    ensures { λ r. ⌜ (0 < r → (fuel : ℕ) → 2 * length (now (item .entry)) + 1 ≤ fuel → Past (length (now (item .entry))) r ≡ elementAt fuel paper (now (item .entry)) 0 1 0) ⌝ }
+{
+    let Heading::Header { tag, skip, size } = header(item) else {
+        return 0;
+    };
+    if tag / 32 % 2 != 1 {
+        return 0;
+    }
+    let end = skip + size;
+    if end != item.len() {
+        return 0;
+    }
+    sound(&item[skip..end], 2, 1)
+}
+
+// The count of elements after those that fill `s`, if nothing is wrong with any; else 0.
+fn sound(s: &[u8], depth: usize, count: usize) -> usize
+    requires { ⌜ (length (now s) ≤ 16384) × (depth ≤ 17) × (count ≤ 4096) ⌝ }
+    ensures { λ r. ⌜ (0 < r → (base fuel : ℕ) → 2 * length (now (s .entry)) + 2 ≤ fuel → Passed r ≡ listAt fuel paper (now (s .entry)) base depth count) ⌝ }
+{
+    let mut i = 0;
+    let mut read = count;
+    while i < s.len() {
+        if 16 < depth {
+            return 0;
+        }
+        if 4096 <= read {
+            return 0;
+        }
+        let taken = leaf(&s[i..], depth, read);
+        if 0 < taken {
+            i += taken;
+            read += 1;
+            continue;
+        }
+        let wide = branch(&s[i..]);
+        if 0 < wide {
+            let end = i + wide;
+            read = sound(&s[i + 2..end], depth + 1, read + 1);
+            if read == 0 {
+                return 0;
+            }
+            i = end;
+            continue;
+        }
+        let Heading::Header { tag, skip, size } = header(&s[i..]) else {
+            return 0;
+        };
+        let from = i + skip;
+        let end = from + size;
+        if tag / 32 % 2 == 1 {
+            read = sound(&s[from..end], depth + 1, read + 1);
+            if read == 0 {
+                return 0;
+            }
+            i = end;
+            continue;
+        }
+        if !contents_good(tag, &s[from..end]) {
+            return 0;
+        }
+        read += 1;
+        i = end;
+    }
+    read
+}
+
+// The octets of the element at the front of `s` if it is primitive, its length in the short form, and nothing is wrong
+// with it; else 0.
+fn leaf(s: &[u8], depth: usize, count: usize) -> usize
+    requires { ⌜ (depth ≤ 16) × (count < 4096) ⌝ }
+    ensures { λ r. ⌜ (0 < r → (base fuel : ℕ) → 2 * length (now (s .entry)) + 1 ≤ fuel → Past r (count + 1) ≡ elementAt fuel paper (now (s .entry)) base depth count) ⌝ }
+{
+    if s.len() < 2 {
+        return 0;
+    }
+    let tag = s[0];
+    if tag / 32 % 2 == 1 {
+        return 0;
+    }
+    if !identifier(tag) {
+        return 0;
+    }
+    let size = s[1] as usize;
+    if 128 <= size {
+        return 0;
+    }
+    if s.len() - 2 < size {
+        return 0;
+    }
+    let end = 2 + size;
+    if contents_good(tag, &s[2..end]) {
+        return end;
+    }
+    0
+}
+
+// The octets of the element at the front of `s` if it is constructed, its length in the short form and its header good;
+// else 0.
+fn branch(s: &[u8]) -> usize
+    ensures { λ r. ⌜ (0 < r → (2 ≤ r) × (r ≤ length (now (s .entry))) × (constructed (getD (now (s .entry)) 0 0) ≡ true) × (headingOf paper (now (s .entry)) ≡ Header (getD (now (s .entry)) 0 0) 2 (r - 2))) ⌝ }
+{
+    if s.len() < 2 {
+        return 0;
+    }
+    let tag = s[0];
+    if tag / 32 % 2 != 1 {
+        return 0;
+    }
+    if !identifier(tag) {
+        return 0;
+    }
+    let size = s[1] as usize;
+    if 128 <= size {
+        return 0;
+    }
+    if s.len() - 2 < size {
+        return 0;
+    }
+    2 + size
 }

@@ -1,4 +1,4 @@
--- Sub-identifiers read from octet i on, in the state that the octets before it left, are good just if they all are.
+-- Sub-identifiers read from octet i on, after the octet before it, are good just if they all are.
 use Prim.Native.Nat.{ℕ, _+_, _-_, _<_, _≤_}
 use mathlib.Core.Bool.{Bool, true, false, _&&_}
 use mathlib.Core.List.{List, []}
@@ -6,7 +6,7 @@ use mathlib.Core.Logic.{⊎-elim}
 use mathlib.Core.Path.{_≡_, refl, sym, _∙_}
 use native.Mathlib.Numerals.{add-one}
 use native.Mathlib.Omega.{arith}
-use borrow.Author.Tests.{eq-eqb, ne-eqb}
+use borrow.Author.Tests.{eq-eqb, ne-eqb, lt-ltb, le-ltb}
 use lib.Dec.{ltb, eqb}
 use lib.ListN.{length, getD, drop, drop-of-length-le}
 use lib.Seq.{drop-cons}
@@ -15,37 +15,55 @@ use Rattle.der.proofs.contents.oid_good.Statement.{statement}
 use Rattle.der.proofs.contents.oid_good.Tie as tie
 
 abbrev Inv-loop : tie.InvT-loop
-Inv-loop c starts₀ i₀ starts i = (i ≤ length c) × (subIdentifiers starts (drop i c) ≡ subIdentifiers true c)
+Inv-loop c i₀ i = (1 ≤ i) × (i ≤ length c) × (subIdentifiers (ltb (getD c (i - 1) 0) 128) (drop i c) ≡ subIdentifiers true c)
 
 abbrev μ-loop : tie.MeasureT-loop
-μ-loop c starts₀ i₀ starts i = length c - i
+μ-loop c i₀ i = length c - i
 
--- one octet more
-further : (c : List ℕ) (i : ℕ) (starts : Bool) → i < length c → (starts && eqb (getD c i 0) 128) ≡ false
-    → subIdentifiers (ltb (getD c i 0) 128) (drop (i + 1) c) ≡ subIdentifiers starts (drop i c)
-unfolding subIdentifiers
-further c i starts h e = rw (add-one, drop-cons c i 0) (simp e)
+module _ (c : List ℕ) (i : ℕ) (starts : Bool) (h : i < length c) where
+  -- one octet more
+  further : (starts && eqb (getD c i 0) 128) ≡ false
+      → subIdentifiers (ltb (getD c i 0) 128) (drop (i + 1) c) ≡ subIdentifiers starts (drop i c)
+  unfolding subIdentifiers
+  further e = rw (add-one, drop-cons c i 0) (simp e)
+
+  stopped : (starts && eqb (getD c i 0) 128) ≡ true → subIdentifiers starts (drop i c) ≡ false
+  unfolding subIdentifiers
+  stopped e = rw (drop-cons c i 0) (simp e)
 
 returns : tie.Need-returns Inv-loop μ-loop
 unfolding oidGood
 returns c = simp (eq-eqb _ _ (c .if1 .taken))
 
-loop-holds : tie.Need-loop-holds Inv-loop μ-loop
-loop-holds c = (omega arith, refl)
-
-shared-slice-read-o : tie.Need-shared-slice-read-o Inv-loop μ-loop
-shared-slice-read-o c = omega arith
+shared-slice-read-if2 : tie.Need-shared-slice-read-if2 Inv-loop μ-loop
+shared-slice-read-if2 c = omega arith
 
 returns-2 : tie.Need-returns-2 Inv-loop μ-loop
-unfolding oidGood subIdentifiers
+unfolding oidGood
 returns-2 c =
-    let l = c .before .before .before .before .before .before .args .c .now in
-    let i = c .before .before .before .before .loop .i in
-    let h : i < length l = c .before .before .before .loop-test .taken in
-    let here : subIdentifiers (c .before .before .before .before .loop .starts) (drop i l) ≡ false =
-    rw (drop-cons l i 0) (simp (c .before .if2 .taken, eq-eqb _ _ (c .if3 .taken))) in
-    simp (ne-eqb _ _ (c .before .before .before .before .before .if1 .left))
-    (sym here ∙ c .before .before .before .before .loop .inv .1)
+    simp (ne-eqb _ _ (c .before .before .if1 .left)) (sym (stopped (c .before .before .before .args .c .now) 0 true (omega arith) (eq-eqb _ _ (c .if2 .taken))))
+
+loop-holds : tie.Need-loop-holds Inv-loop μ-loop
+loop-holds c =
+    (omega arith, omega arith, further (c .before .before .before .args .c .now) 0 true (omega arith) (ne-eqb _ _ (c .if2 .left)))
+
+shared-slice-read-if3 : tie.Need-shared-slice-read-if3 Inv-loop μ-loop
+shared-slice-read-if3 c = omega arith
+
+sub-if4 : tie.Need-sub-if4 Inv-loop μ-loop
+sub-if4 c = omega arith
+
+shared-slice-read-if4 : tie.Need-shared-slice-read-if4 Inv-loop μ-loop
+shared-slice-read-if4 c = omega arith
+
+returns-3 : tie.Need-returns-3 Inv-loop μ-loop
+unfolding oidGood
+returns-3 c =
+    let l = c .before .before .before .before .before .before .before .before .before .args .c .now in
+    let i = c .before .before .before .before .before .loop .i in
+    let both : (ltb (getD l (i - 1) 0) 128 && eqb (getD l i 0) 128) ≡ true =
+    simp (lt-ltb _ _ (c .if4 .taken), eq-eqb _ _ (c .before .before .if3 .taken)) in
+    simp (ne-eqb _ _ (c .before .before .before .before .before .before .before .before .if1 .left)) (sym (stopped l i (ltb (getD l (i - 1) 0) 128) (c .before .before .before .before .loop-test .taken) both) ∙ c .before .before .before .before .before .loop .inv .2)
 
 add-i : tie.Need-add-i Inv-loop μ-loop
 add-i c = omega arith
@@ -53,21 +71,32 @@ add-i c = omega arith
 loop-less : tie.Need-loop-less Inv-loop μ-loop
 loop-less c = omega arith
 
+either : (a b : Bool) → b ≡ false → (a && b) ≡ false
+either true b e = e
+either false b e = refl
+
 loop-again : tie.Need-loop-again Inv-loop μ-loop
 loop-again c =
-    let l = c .before .before .before .before .before .args .c .now in
+    let l = c .before .before .before .before .before .before .before .args .c .now in
     let i = c .before .before .before .loop .i in
-    let starts = c .before .before .before .loop .starts in
-    let plain : (starts && eqb (getD l i 0) 128) ≡ false =
-    ⊎-elim (λ w. simp (w .0 .taken, ne-eqb _ _ (w .1 .left))) (λ w. simp (w .left)) (c .if2 .came) in
-    (omega arith, further l i starts (c .before .before .loop-test .taken) plain ∙ c .before .before .before .loop .inv .1)
+    let plain : (ltb (getD l (i - 1) 0) 128 && eqb (getD l i 0) 128) ≡ false =
+    ⊎-elim (λ w. simp (le-ltb _ _ (w .2 .left))) (λ w. either (ltb (getD l (i - 1) 0) 128) (eqb (getD l i 0) 128) (ne-eqb _ _ (w .left))) (c .if3 .came) in
+    let back : i + 1 - 1 ≡ i = omega arith in
+    (omega arith, omega arith, rw back (further l i (ltb (getD l (i - 1) 0) 128) (c .before .before .loop-test .taken) plain ∙ c .before .before .before .loop .inv .2))
 
-returns-3 : tie.Need-returns-3 Inv-loop μ-loop
+sub-result : tie.Need-sub-result Inv-loop μ-loop
+sub-result c = omega arith
+
+shared-slice-read-result : tie.Need-shared-slice-read-result Inv-loop μ-loop
+shared-slice-read-result c = omega arith
+
+returns-4 : tie.Need-returns-4 Inv-loop μ-loop
 unfolding oidGood subIdentifiers
-returns-3 c =
-    let l = c .before .before .before .args .c .now in
-    let ended : drop (c .before .loop .i) l ≡ [] = drop-of-length-le l (c .loop-test .left) in
-    simp (ne-eqb _ _ (c .before .before .if1 .left)) (rw ended at (c .before .loop .inv .1))
+returns-4 c =
+    let l = c .before .before .before .before .before .before .args .c .now in
+    let last : length l ≡ c .before .before .loop .i = omega arith in
+    let ended : drop (c .before .before .loop .i) l ≡ [] = drop-of-length-le l (c .before .loop-test .left) in
+    simp (ne-eqb _ _ (c .before .before .before .before .before .if1 .left)) (rw last (rw ended at (c .before .before .loop .inv .2)))
 
 pub oid-good-spec : {M : Type 1} → statement M
 oid-good-spec =
@@ -76,10 +105,16 @@ oid-good-spec =
     Inv-loop
     μ-loop
     returns
-    loop-holds
-    shared-slice-read-o
+    shared-slice-read-if2
     returns-2
+    loop-holds
+    shared-slice-read-if3
+    sub-if4
+    shared-slice-read-if4
+    returns-3
     add-i
     loop-less
     loop-again
-    returns-3)
+    sub-result
+    shared-slice-read-result
+    returns-4)
