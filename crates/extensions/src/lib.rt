@@ -194,7 +194,7 @@ pub fn doubled(item: &[u8], extensions: Element) -> bool
             let Found::One(other) = element_at(item, later, end) else {
                 break;
             };
-            if alike_oids(item, own, extension_of(item, other)) {
+            if doubles(item, own, other) {
                 twice = true;
                 break 'each;
             }
@@ -251,19 +251,26 @@ fn has_oid(item: &[u8], oid: &[u8], extension: Extension) -> bool
     same(contents(item, own), oid)
 }
 
-// Whether two extensions have one OID.
-fn alike_oids(item: &[u8], one: Extension, other: Extension) -> bool
-    ensures { λ r. ⌜ r ≡ sameOids (now (item .entry)) one other ⌝ }
+// Whether an element is an extension with the OID of this one. The element's OID is compared before the rest is read.
+fn doubles(item: &[u8], own: Extension, other: Element) -> bool
+    ensures { λ r. ⌜ r ≡ sameOids (now (item .entry)) own (extensionOf (now (item .entry)) other) ⌝ }
 {
     let Extension::Is {
         oid,
         critical: _,
         value: _,
-    } = one
+    } = own
     else {
         return false;
     };
-    has_oid(item, contents(item, oid), other)
+    let Found::One(its) = element_tagged(item, other.contents, other.end, 0x06) else {
+        return false;
+    };
+    let wanted = contents(item, oid);
+    if !same(contents(item, its), wanted) {
+        return false;
+    }
+    has_oid(item, wanted, extension_of(item, other))
 }
 
 fn refused_critical(item: &[u8], allow: bool, extension: Extension) -> bool

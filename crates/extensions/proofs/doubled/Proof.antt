@@ -49,18 +49,15 @@ enum-known-other c = search needs
 enum-told-2 : tie.Need-enum-told-2 Inv-loop μ-loop Inv-each μ-each
 enum-told-2 c = search needs
 
-extension-of-requires-2 : tie.Need-extension-of-requires-2 Inv-loop μ-loop Inv-each μ-each
-extension-of-requires-2 c κs = search needs
-
-alike-oids-requires : tie.Need-alike-oids-requires Inv-loop μ-loop Inv-each μ-each
-alike-oids-requires c κs = search needs
+doubles-requires : tie.Need-doubles-requires Inv-loop μ-loop Inv-each μ-each
+doubles-requires c κs = search needs
 
 loop-less : tie.Need-loop-less Inv-loop μ-loop Inv-each μ-each
-loop-less c = omega (arith, found-within _ _ _ (sym (c .before .before .before .before .before .before .element-at2 .ensures) ∙ c .before .before .before .before .other .given .1))
+loop-less c = omega (arith, found-within _ _ _ (sym (c .before .before .before .before .before .element-at2 .ensures) ∙ c .before .before .before .other .given .1))
 
 loop-again : tie.Need-loop-again Inv-loop μ-loop Inv-each μ-each
 unfolding standsIn
-loop-again c = (c .before .before .before .before .before .before .before .loop .inv .0, c .before .before .before .before .before .before .before .loop .inv .1 ∙ rw (members-more _ _ _ (sym (c .before .before .before .before .before .before .element-at2 .ensures) ∙ c .before .before .before .before .other .given .1), ← c .before .before .extension-of2 .ensures, ← c .before .alike-oids .ensures, c .if1 .left))
+loop-again c = (c .before .before .before .before .before .before .loop .inv .0, c .before .before .before .before .before .before .loop .inv .1 ∙ rw (members-more _ _ _ (sym (c .before .before .before .before .before .element-at2 .ensures) ∙ c .before .before .before .other .given .1), ← c .before .doubles .ensures, c .if1 .left))
 
 each-less : tie.Need-each-less Inv-loop μ-loop Inv-each μ-each
 each-less c = omega (arith, found-within _ _ _ (sym (c .before .before .before .before .before .before .before .before .element-at .ensures) ∙ c .before .before .before .before .before .before .e .given .1))
@@ -75,7 +72,7 @@ returns c = c .before .before .before .each .inv .0 ∙ sym (c .before .before .
 
 returns-2 : tie.Need-returns-2 Inv-loop μ-loop Inv-each μ-each
 unfolding doubledOf inside doubledIn standsIn
-returns-2 c = sym (c .before .before .before .before .before .before .before .before .before .before .before .before .before .each .inv .1 ∙ rw (members-more _ _ _ (sym (c .before .before .before .before .before .before .before .before .before .before .before .before .element-at .ensures) ∙ c .before .before .before .before .before .before .before .before .before .before .e .given .1), ← c .before .before .before .before .before .before .before .before .extension-of .ensures, c .before .before .before .before .before .before .before .loop .inv .1, members-more _ _ _ (sym (c .before .before .before .before .before .before .element-at2 .ensures) ∙ c .before .before .before .before .other .given .1), ← c .before .before .extension-of2 .ensures, ← c .before .alike-oids .ensures, c .if1 .taken))
+returns-2 c = sym (c .before .before .before .before .before .before .before .before .before .before .before .before .each .inv .1 ∙ rw (members-more _ _ _ (sym (c .before .before .before .before .before .before .before .before .before .before .before .element-at .ensures) ∙ c .before .before .before .before .before .before .before .before .before .e .given .1), ← c .before .before .before .before .before .before .before .extension-of .ensures, c .before .before .before .before .before .before .loop .inv .1, members-more _ _ _ (sym (c .before .before .before .before .before .element-at2 .ensures) ∙ c .before .before .before .other .given .1), ← c .before .doubles .ensures, c .if1 .taken))
 
 pub doubled-spec : {M : Type 1} → statement M
 doubled-spec =
@@ -94,8 +91,7 @@ doubled-spec =
     element-at-requires-2
     enum-known-other
     enum-told-2
-    extension-of-requires-2
-    alike-oids-requires
+    doubles-requires
     loop-less
     loop-again
     each-less
