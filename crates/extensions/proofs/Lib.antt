@@ -1,3 +1,4 @@
 pub mod Oids
 pub mod Places
 pub mod Slots
+pub mod Theorems
