@@ -72,7 +72,8 @@ fn profile(item: &[u8], role: u64) -> Judged
         return Judged::Refused(Refusal::Profile { rule: 1 });
     };
     let extensions = l.extensions;
-    let slots = all_places(item, extensions);
+    let found = all_places(item, extensions);
+    let slots = found.slots;
     let r = readings_of(item, l, slots);
     let early = rules_2_to_8(item, l, r);
     if early != 0 {

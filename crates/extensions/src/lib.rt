@@ -106,15 +106,19 @@ pub fn lookup(item: &[u8], extensions: Element, oid: &[u8]) -> Extension
 
 // Where the first extension of each slot's OID starts, or the end where there is none: 2.5.29.14 to 2.5.29.35 in slots
 // 0 to 21, the document type list in slot 22.
-pub fn all_places(item: &[u8], extensions: Element) -> [usize; 23]
-    ensures { λ r. ⌜ Placed (now (item .entry)) extensions r ⌝ }
+pub struct Offsets {
+    pub slots: [usize; 23],
+}
+
+pub fn all_places(item: &[u8], extensions: Element) -> Offsets
+    ensures { λ r. ⌜ Placed (now (item .entry)) extensions (r .slots) ⌝ }
 {
     let end = extensions.end;
     let mut slots = [end; 23];
     let mut at = extensions.contents;
     loop {
         let Found::One(e) = element_at(item, at, end) else {
-            return slots;
+            return Offsets { slots };
         };
         let slot = slot_of(item, extension_of(item, e));
         if slot < 23 {

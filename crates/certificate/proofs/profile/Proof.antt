@@ -31,21 +31,21 @@ rules-2-to-8-requires c κs = search needs
 
 returns-2 : tie.Need-returns-2
 unfolding profileOf
-returns-2 c = shape-good _ (sym (c .before .before .before .before .before .before .before .before .layout-of .ensures) ∙ c .before .before .before .before .before .before .l .given .1) (rw (← c .before .before .readings-of .ensures) (graded-broken _ (rules-early _ _ _ _ (c .before .rules-2-to-8 .ensures) (c .if1 .taken)) (c .if1 .taken)))
+returns-2 c = shape-good _ (sym (c .before .before .before .before .before .before .before .before .before .layout-of .ensures) ∙ c .before .before .before .before .before .before .before .l .given .1) (rw (← c .before .before .readings-of .ensures) (graded-broken _ (rules-early _ _ _ _ (c .before .rules-2-to-8 .ensures) (c .if1 .taken)) (c .if1 .taken)))
 
 rules-9-to-14-requires : tie.Need-rules-9-to-14-requires
 rules-9-to-14-requires c κs = search needs
 
 returns-3 : tie.Need-returns-3
 unfolding profileOf
-returns-3 c = shape-good _ (sym (c .before .before .before .before .before .before .before .before .before .before .layout-of .ensures) ∙ c .before .before .before .before .before .before .before .before .l .given .1) (rw (← c .before .before .before .before .readings-of .ensures) (graded-broken _ (rules-late _ _ _ _ (c .before .before .before .rules-2-to-8 .ensures) (c .before .before .if1 .left) (c .before .rules-9-to-14 .ensures)) (c .if2 .taken)))
+returns-3 c = shape-good _ (sym (c .before .before .before .before .before .before .before .before .before .before .before .layout-of .ensures) ∙ c .before .before .before .before .before .before .before .before .before .l .given .1) (rw (← c .before .before .before .before .readings-of .ensures) (graded-broken _ (rules-late _ _ _ _ (c .before .before .before .rules-2-to-8 .ensures) (c .before .before .if1 .left) (c .before .rules-9-to-14 .ensures)) (c .if2 .taken)))
 
 fields-of-requires : tie.Need-fields-of-requires
 fields-of-requires c κs = search needs
 
 returns-4 : tie.Need-returns-4
 unfolding profileOf
-returns-4 c = shape-good _ (sym (c .before .before .before .before .before .before .before .before .before .before .before .layout-of .ensures) ∙ c .before .before .before .before .before .before .before .before .before .l .given .1) (rw (← c .before .before .before .before .before .readings-of .ensures) (graded-whole (rules-late _ _ _ _ (c .before .before .before .before .rules-2-to-8 .ensures) (c .before .before .before .if1 .left) (c .before .before .rules-9-to-14 .ensures) ∙ c .before .if2 .left) (c .fields-of .ensures)))
+returns-4 c = shape-good _ (sym (c .before .before .before .before .before .before .before .before .before .before .before .before .layout-of .ensures) ∙ c .before .before .before .before .before .before .before .before .before .before .l .given .1) (rw (← c .before .before .before .before .before .readings-of .ensures) (graded-whole (rules-late _ _ _ _ (c .before .before .before .before .rules-2-to-8 .ensures) (c .before .before .before .if1 .left) (c .before .before .rules-9-to-14 .ensures) ∙ c .before .if2 .left) (c .fields-of .ensures)))
 
 pub profile-spec : {M : Type 1} → statement M
 profile-spec =

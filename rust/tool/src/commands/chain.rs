@@ -28,10 +28,10 @@ T says who signed whom, as the chip found it, for the n items of the image: n li
 With all the exit status is 0 where every signer has a chain, else 7.
 
 Example:
-  vrbolist pack /tmp/xo.image --day 20261115 --anchor tests/data/made/xo-anchor-1.der \\
+  vrbolist pack xo.image --day 20261115 --anchor tests/data/made/xo-anchor-1.der \\
     --signer tests/data/made/xo-signer-1.der --crl tests/data/made/xo-crl.der --force
-  printf '111\\n000\\n000\\n' > /tmp/xo.table
-  vrbolist chain /tmp/xo.image --table /tmp/xo.table --at 20261115120000 --signer 1
+  printf '111\\n000\\n000\\n' > xo.table
+  vrbolist chain xo.image --table xo.table --at 20261115120000 --signer 1
 ",
     takes: Takes { alone: &["IMAGE"], options: &["--table", "--at", "--signer"], switches: &[] },
     run,

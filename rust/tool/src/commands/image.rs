@@ -21,8 +21,8 @@ With --day an image of another day is refused with 6: run this before flashing. 
 not pass its profile is told and does not refuse the image: no chain ever uses it.
 
 Example:
-  vrbolist pack /tmp/small.image --day 20261115 --anchor tests/data/made/ut-anchor-1.der --force
-  vrbolist image /tmp/small.image --day 20261115
+  vrbolist pack small.image --day 20261115 --anchor tests/data/made/ut-anchor-1.der --force
+  vrbolist image small.image --day 20261115
 ",
     takes: Takes { alone: &["FILE"], options: &["--day"], switches: &[] },
     run,

@@ -21,7 +21,7 @@ Writes a trust image of the given items, any number of each; their places are in
 OUT is written whole or not at all, and is not written over without --force. Items are DER or PEM.
 
 Example:
-  vrbolist pack /tmp/ut.image --day 20261115 --anchor tests/data/made/ut-anchor-1.der \\
+  vrbolist pack ut.image --day 20261115 --anchor tests/data/made/ut-anchor-1.der \\
     --signer tests/data/made/ut-signer-1.der --crl tests/data/made/ut-crl-today.der --force
 ",
     takes: Takes {

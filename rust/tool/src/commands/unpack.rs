@@ -23,8 +23,8 @@ Writes each item of a trust image to a file in DIR, named by place and kind: 00-
 empty. With --force the files are written into a folder that has others, each of them whole.
 
 Example:
-  vrbolist pack /tmp/one.image --day 20261115 --anchor tests/data/made/ut-anchor-1.der --force
-  vrbolist unpack /tmp/one.image /tmp/one --force
+  vrbolist pack one.image --day 20261115 --anchor tests/data/made/ut-anchor-1.der --force
+  vrbolist unpack one.image one --force
 ",
     takes: Takes { alone: &["IMAGE", "DIR"], options: &[], switches: &["--force"] },
     run,
