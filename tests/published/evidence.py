@@ -132,14 +132,21 @@ def extensions_of(item, seen, rule):
     return None
 
 
+def loaded(load, octets):
+    """The item as both readers have it, or the rule that keeps them from reading it."""
+    try:
+        return load(octets), Printed(octets), None
+    except x509.InvalidVersion as fault:
+        return None, None, {2: 'version number is %d' % fault.parsed_version}
+    except ValueError as fault:
+        return None, None, {1: 'not read: %s' % fault}
+
+
 def of_certificate(octets, role):
     seen = Seen()
-    try:
-        item, printed = x509.load_der_x509_certificate(octets), Printed(octets)
-    except x509.InvalidVersion as fault:
-        return {2: 'version number is %d' % fault.parsed_version}
-    except ValueError as fault:
-        return {1: 'not read: %s' % fault}
+    item, printed, fault = loaded(x509.load_der_x509_certificate, octets)
+    if fault:
+        return fault
     tbs, outer, _ = printed.members(printed.rows[0])
     _, serial, inner, issuer, validity, subject, _, *rest = printed.members(tbs)
     seen.unless(item.version == x509.Version.v3, 2, 'version is %s' % item.version.name)
@@ -167,12 +174,9 @@ def of_certificate(octets, role):
 
 def of_crl(octets):
     seen = Seen()
-    try:
-        item, printed = x509.load_der_x509_crl(octets), Printed(octets)
-    except x509.InvalidVersion as fault:
-        return {2: 'version number is %d' % fault.parsed_version}
-    except ValueError as fault:
-        return {1: 'not read: %s' % fault}
+    item, printed, fault = loaded(x509.load_der_x509_crl, octets)
+    if fault:
+        return fault
     tbs, outer, _ = printed.members(printed.rows[0])
     members = printed.members(tbs)
     types = ' '.join(row.type for row in members)

@@ -66,6 +66,47 @@ macro_rules! ask {
     }};
 }
 
+/// The number that a side answers, and what it tells first.
+macro_rules! tell {
+    ($side:path, $asker:ident) => {{
+        use $side as side;
+        match &$asker.input {
+            Input::Walk(item) => {
+                let told = side::walk(item);
+                vec![told.number, told.detail, told.count]
+            }
+            Input::Certificate(item, role) => {
+                let told = side::certificate(item, *role);
+                vec![told.number, told.detail, told.start, told.authority_key_id_at]
+            }
+            Input::Crl(item) => {
+                let told = side::crl(item);
+                vec![told.number, told.detail, told.entries]
+            }
+            Input::Days(first, second) => {
+                let told = side::day_difference(*first, *second);
+                vec![told.number, told.detail, told.days as u64]
+            }
+            Input::Age(item, day) => {
+                let told = side::crl_age(item, *day);
+                vec![told.number, told.detail, told.days as u64]
+            }
+            Input::Image(image) => {
+                let told = side::image(image);
+                vec![told.number, told.detail, told.entries]
+            }
+            Input::Write { items, kinds, flags, lengths, day } => {
+                let told = side::write(items, kinds, flags, lengths, *day, &mut $asker.out);
+                vec![told.number, told.detail, told.length, sum(&$asker.out)]
+            }
+            Input::Chain { image, table, moment, targets } => {
+                let ask = |&target: &u64| side::chain(image, table, *moment, target);
+                lengths(targets.iter().map(ask).map(|told| (told.number, told.length, sum(&told.places))))
+            }
+        }
+    }};
+}
+
 impl Asker {
     pub fn new(input: Input) -> Asker {
         let room = if let Input::Write { .. } = input { 262_144 } else { 0 };
@@ -82,84 +123,9 @@ impl Asker {
 
     /// What both sides answer, in short, if they answer alike.
     pub fn agreed(&mut self) -> Option<String> {
-        let library = self.library();
+        let (library, plain) = (tell!(answers, self), tell!(plain, self));
         let told = library.iter().map(|part| part.to_string()).collect::<Vec<_>>().join(" ");
-        (library == self.plain()).then_some(told)
-    }
-
-    /// The number, and what the answer tells first.
-    fn library(&mut self) -> Vec<u64> {
-        match &self.input {
-            Input::Walk(item) => {
-                let told = answers::walk(item);
-                vec![told.number, told.detail, told.count]
-            }
-            Input::Certificate(item, role) => {
-                let told = answers::certificate(item, *role);
-                vec![told.number, told.detail, told.start, told.authority_key_id_at]
-            }
-            Input::Crl(item) => {
-                let told = answers::crl(item);
-                vec![told.number, told.detail, told.entries]
-            }
-            Input::Days(first, second) => {
-                let told = answers::day_difference(*first, *second);
-                vec![told.number, told.detail, told.days as u64]
-            }
-            Input::Age(item, day) => {
-                let told = answers::crl_age(item, *day);
-                vec![told.number, told.detail, told.days as u64]
-            }
-            Input::Image(image) => {
-                let told = answers::image(image);
-                vec![told.number, told.detail, told.entries]
-            }
-            Input::Write { items, kinds, flags, lengths, day } => {
-                let told = answers::write(items, kinds, flags, lengths, *day, &mut self.out);
-                vec![told.number, told.detail, told.length, sum(&self.out)]
-            }
-            Input::Chain { image, table, moment, targets } => {
-                let ask = |&target: &u64| answers::chain(image, table, *moment, target);
-                lengths(targets.iter().map(ask).map(|told| (told.number, told.length, sum(&told.places))))
-            }
-        }
-    }
-
-    fn plain(&mut self) -> Vec<u64> {
-        match &self.input {
-            Input::Walk(item) => {
-                let told = plain::walk(item);
-                vec![told.number, told.detail, told.count]
-            }
-            Input::Certificate(item, role) => {
-                let told = plain::certificate(item, *role);
-                vec![told.number, told.detail, told.start, told.authority_key_id_at]
-            }
-            Input::Crl(item) => {
-                let told = plain::crl(item);
-                vec![told.number, told.detail, told.entries]
-            }
-            Input::Days(first, second) => {
-                let told = plain::day_difference(*first, *second);
-                vec![told.number, told.detail, told.days as u64]
-            }
-            Input::Age(item, day) => {
-                let told = plain::crl_age(item, *day);
-                vec![told.number, told.detail, told.days as u64]
-            }
-            Input::Image(image) => {
-                let told = plain::image(image);
-                vec![told.number, told.detail, told.entries]
-            }
-            Input::Write { items, kinds, flags, lengths, day } => {
-                let told = plain::write(items, kinds, flags, lengths, *day, &mut self.out);
-                vec![told.number, told.detail, told.length, sum(&self.out)]
-            }
-            Input::Chain { image, table, moment, targets } => {
-                let ask = |&target: &u64| plain::chain(image, table, *moment, target);
-                lengths(targets.iter().map(ask).map(|told| (told.number, told.length, sum(&told.places))))
-            }
-        }
+        (library == plain).then_some(told)
     }
 }
 

@@ -1,6 +1,7 @@
 //! Certificates of each role.
 
-use crate::der::{bit_string, element, integer, push_header, sequence, SEQUENCE};
+use crate::der::{bit_string, element, integer, sequence, SEQUENCE};
+use crate::envelope::Envelope;
 use crate::extension::{self, known, Extension};
 use crate::name;
 use crate::random::Random;
@@ -63,16 +64,7 @@ pub struct Certificate {
     /// What stands between the key and the extensions.
     pub unique_ids: Vec<u8>,
     pub extensions: Vec<Extension>,
-    /// The A3 element, if it is not to be made of the extensions.
-    pub extensions_block: Option<Vec<u8>>,
-    /// What stands after the A3 element.
-    pub after_extensions: Vec<u8>,
-    pub outer_algorithm: Vec<u8>,
-    pub signature: Vec<u8>,
-    /// What stands after the signature.
-    pub after_signature: Vec<u8>,
-    pub tbs_tag: u8,
-    pub outermost_tag: u8,
+    pub envelope: Envelope,
 }
 
 /// ECDSA with SHA-256.
@@ -94,13 +86,9 @@ pub fn key() -> Vec<u8> {
 impl Certificate {
     /// A certificate that keeps every rule, for parameters that do.
     pub fn new(parameters: &Parameters) -> Certificate {
-        let mut letters = [0; 2];
-        if let Some(at) = parameters.issuer.windows(5).position(|part| part == [0x55, 4, 6, 0x13, 2]) {
-            letters.copy_from_slice(&parameters.issuer[at + 5..at + 7]);
-        }
         Certificate {
             role: parameters.role,
-            letters,
+            letters: name::letters_in(&parameters.issuer),
             version: vec![0xA0, 3, 2, 1, 2],
             serial: integer(&parameters.serial),
             algorithm: algorithm(),
@@ -112,13 +100,7 @@ impl Certificate {
             key: key(),
             unique_ids: Vec::new(),
             extensions: extensions(parameters),
-            extensions_block: None,
-            after_extensions: Vec::new(),
-            outer_algorithm: algorithm(),
-            signature: bit_string(&[0x5A; 70]),
-            after_signature: Vec::new(),
-            tbs_tag: SEQUENCE,
-            outermost_tag: SEQUENCE,
+            envelope: Envelope::good(),
         }
     }
 
@@ -132,7 +114,7 @@ impl Certificate {
         let mut made = Certificate::new(&varied_parameters(random, role));
         if random.percent(30) {
             made.algorithm = varied_algorithm(random);
-            made.outer_algorithm = made.algorithm.clone();
+            made.envelope.outer_algorithm = made.algorithm.clone();
         }
         if random.percent(30) {
             let length = random.below(300);
@@ -143,7 +125,7 @@ impl Certificate {
         }
         if random.percent(20) {
             let length = random.below(260);
-            made.signature = bit_string(&random.octets(length));
+            made.envelope.signature = bit_string(&random.octets(length));
         }
         let strangers = if random.percent(3) { random.between(10, 40) } else { random.below(3) };
         let from = random.below(1000);
@@ -163,11 +145,7 @@ impl Certificate {
             Some(whole) => whole.clone(),
             None => sequence(&[&self.start, &self.end]),
         };
-        let block = match &self.extensions_block {
-            Some(whole) => whole.clone(),
-            None => element(0xA3, &extension::list(&self.extensions)),
-        };
-        let parts: [&[u8]; 10] = [
+        let parts: [&[u8]; 8] = [
             &self.version,
             &self.serial,
             &self.algorithm,
@@ -176,31 +154,9 @@ impl Certificate {
             &self.subject,
             &self.key,
             &self.unique_ids,
-            &block,
-            &self.after_extensions,
         ];
-        signed(
-            self.outermost_tag,
-            self.tbs_tag,
-            &parts,
-            &[&self.outer_algorithm, &self.signature, &self.after_signature],
-        )
+        self.envelope.around(&parts, 0xA3, &self.extensions)
     }
-}
-
-/// An element around the tbs and what follows it.
-pub(crate) fn signed(outermost_tag: u8, tbs_tag: u8, tbs: &[&[u8]], rest: &[&[u8]]) -> Vec<u8> {
-    let length: usize = tbs.iter().map(|part| part.len()).sum();
-    let after: usize = rest.iter().map(|part| part.len()).sum();
-    let mut header = Vec::with_capacity(5);
-    push_header(&mut header, tbs_tag, length);
-    let mut item = Vec::with_capacity(length + after + 10);
-    push_header(&mut item, outermost_tag, header.len() + length + after);
-    item.extend_from_slice(&header);
-    for part in tbs.iter().chain(rest) {
-        item.extend_from_slice(part);
-    }
-    item
 }
 
 /// The extensions of a good certificate.

@@ -55,9 +55,9 @@ pub(crate) fn tag(element: &mut [u8], id: u8) {
 }
 
 const SHAPE: &[Way] = &[
-    way(1, "outermost a SET", ALL, |c, _| c.outermost_tag = 0x31),
-    way(1, "tbs a SET", ALL, |c, _| c.tbs_tag = 0x31),
-    way(1, "tbs an OCTET STRING", ALL, |c, _| c.tbs_tag = 4),
+    way(1, "outermost a SET", ALL, |c, _| c.envelope.outermost_tag = 0x31),
+    way(1, "tbs a SET", ALL, |c, _| c.envelope.tbs_tag = 0x31),
+    way(1, "tbs an OCTET STRING", ALL, |c, _| c.envelope.tbs_tag = 4),
     way(1, "no version", ALL, |c, _| c.version.clear()),
     way(1, "version empty", ALL, |c, _| c.version = vec![0xA0, 0]),
     way(1, "version twice", ALL, |c, _| c.version = vec![0xA0, 6, 2, 1, 2, 2, 1, 2]),
@@ -70,14 +70,14 @@ const SHAPE: &[Way] = &[
     way(1, "no inner algorithm", ALL, |c, _| c.algorithm.clear()),
     way(1, "inner algorithm a SET", ALL, |c, _| c.algorithm = vec![0x31, 0]),
     way(1, "inner algorithm a NULL", ALL, |c, _| c.algorithm = vec![5, 0]),
-    way(1, "no outer algorithm", ALL, |c, _| c.outer_algorithm.clear()),
-    way(1, "outer algorithm a SET", ALL, |c, _| tag(&mut c.outer_algorithm, 0x31)),
-    way(1, "signature an OCTET STRING", ALL, |c, _| tag(&mut c.signature, 4)),
-    way(1, "no signature", ALL, |c, _| c.signature.clear()),
-    way(1, "more after the signature", ALL, |c, _| c.after_signature = vec![5, 0]),
-    way(1, "more after the extensions", ALL, |c, _| c.after_extensions = vec![0xA4, 0]),
-    way(1, "extensions twice", ALL, |c, _| c.after_extensions = vec![0xA3, 2, 0x30, 0]),
-    way(1, "an 81 after the extensions", ALL, |c, _| c.after_extensions = vec![0x81, 1, 0]),
+    way(1, "no outer algorithm", ALL, |c, _| c.envelope.outer_algorithm.clear()),
+    way(1, "outer algorithm a SET", ALL, |c, _| tag(&mut c.envelope.outer_algorithm, 0x31)),
+    way(1, "signature an OCTET STRING", ALL, |c, _| tag(&mut c.envelope.signature, 4)),
+    way(1, "no signature", ALL, |c, _| c.envelope.signature.clear()),
+    way(1, "more after the signature", ALL, |c, _| c.envelope.after_signature = vec![5, 0]),
+    way(1, "more after the extensions", ALL, |c, _| c.envelope.after_extensions = vec![0xA4, 0]),
+    way(1, "extensions twice", ALL, |c, _| c.envelope.after_extensions = vec![0xA3, 2, 0x30, 0]),
+    way(1, "an 81 after the extensions", ALL, |c, _| c.envelope.after_extensions = vec![0x81, 1, 0]),
     way(1, "82 before 81", ALL, |c, _| c.unique_ids = vec![0x82, 1, 0, 0x81, 1, 0]),
     way(1, "81 twice", ALL, |c, _| c.unique_ids = vec![0x81, 1, 0, 0x81, 1, 0]),
     way(1, "82 twice", ALL, |c, _| c.unique_ids = vec![0x82, 1, 0, 0x82, 1, 0]),
@@ -100,14 +100,14 @@ const SHAPE_OF_PARTS: &[Way] = &[
     way(1, "start of another tag", ALL, |c, r| tag(&mut c.start, *r.pick(&[0x16, 0x19, 0x80, 4]))),
     way(1, "end of another tag", ALL, |c, r| tag(&mut c.end, *r.pick(&[0x16, 0x19, 0x80, 4]))),
     way(1, "no validity", ALL, |c, _| c.validity = Some(Vec::new())),
-    way(1, "no A3", ALL, |c, _| c.extensions_block = Some(Vec::new())),
-    way(1, "A3 empty", ALL, |c, _| c.extensions_block = Some(vec![0xA3, 0])),
+    way(1, "no A3", ALL, |c, _| c.envelope.extensions_block = Some(Vec::new())),
+    way(1, "A3 empty", ALL, |c, _| c.envelope.extensions_block = Some(vec![0xA3, 0])),
     way(1, "A3 around two", ALL, |c, _| {
-        c.extensions_block = Some(element(0xA3, &[extension::list(&c.extensions), vec![0x30, 0]].concat()))
+        c.envelope.extensions_block = Some(element(0xA3, &[extension::list(&c.extensions), vec![0x30, 0]].concat()))
     }),
-    way(1, "A3 around a SET", ALL, |c, _| c.extensions_block = Some(vec![0xA3, 2, 0x31, 0])),
-    way(1, "A4 for A3", ALL, |c, _| c.extensions_block = Some(element(0xA4, &extension::list(&c.extensions)))),
-    way(1, "a bare list of extensions", ALL, |c, _| c.extensions_block = Some(extension::list(&c.extensions))),
+    way(1, "A3 around a SET", ALL, |c, _| c.envelope.extensions_block = Some(vec![0xA3, 2, 0x31, 0])),
+    way(1, "A4 for A3", ALL, |c, _| c.envelope.extensions_block = Some(element(0xA4, &extension::list(&c.extensions)))),
+    way(1, "a bare list of extensions", ALL, |c, _| c.envelope.extensions_block = Some(extension::list(&c.extensions))),
     way(1, "an extension of a broken shape", ALL, |c, r| {
         let mut broken = Extension::new(&[], false, &[]);
         broken.whole = Some(r.pick(extension::BAD_SHAPE)());
@@ -139,21 +139,21 @@ const SERIAL: &[Way] = &[
 
 const ALGORITHM: &[Way] = &[
     way(4, "outer algorithm empty", ALL, |c, _| {
-        c.outer_algorithm = vec![0x30, 0];
+        c.envelope.outer_algorithm = vec![0x30, 0];
         c.algorithm = rsa_algorithm();
     }),
     way(4, "another outer algorithm", ALL, |c, _| {
-        c.outer_algorithm = rsa_algorithm();
+        c.envelope.outer_algorithm = rsa_algorithm();
         c.algorithm = vec![0x30, 2, 5, 0];
     }),
     way(4, "last octet of the outer algorithm", ALL, |c, _| {
         c.algorithm = rsa_algorithm();
-        c.outer_algorithm = rsa_algorithm();
-        c.outer_algorithm[12] ^= 1;
+        c.envelope.outer_algorithm = rsa_algorithm();
+        c.envelope.outer_algorithm[12] ^= 1;
     }),
     way(4, "outer algorithm with parameters", ALL, |c, _| {
         c.algorithm = vec![0x30, 3, 6, 1, 0x2A];
-        c.outer_algorithm = vec![0x30, 5, 6, 1, 0x2A, 5, 0];
+        c.envelope.outer_algorithm = vec![0x30, 5, 6, 1, 0x2A, 5, 0];
     }),
 ];
 

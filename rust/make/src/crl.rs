@@ -1,7 +1,8 @@
 //! CRLs.
 
-use crate::certificate::{self, algorithm, rsa_algorithm, signed};
-use crate::der::{bit_string, element, integer, sequence, SEQUENCE};
+use crate::certificate::{self, algorithm, rsa_algorithm};
+use crate::der::{element, integer, sequence, SEQUENCE};
+use crate::envelope::Envelope;
 use crate::extension::{self, known, Extension, AUTHORITY_KEY_ID, CRL_NUMBER};
 use crate::name;
 use crate::random::Random;
@@ -47,14 +48,7 @@ pub struct Crl {
     /// The list, if it is not to be made of the entries.
     pub list: Option<Vec<u8>>,
     pub extensions: Vec<Extension>,
-    /// The A0 element, if it is not to be made of the extensions.
-    pub extensions_block: Option<Vec<u8>>,
-    pub after_extensions: Vec<u8>,
-    pub outer_algorithm: Vec<u8>,
-    pub signature: Vec<u8>,
-    pub after_signature: Vec<u8>,
-    pub tbs_tag: u8,
-    pub outermost_tag: u8,
+    pub envelope: Envelope,
 }
 
 /// An entry: serial, time, and extensions if there are any.
@@ -69,13 +63,9 @@ pub fn entry(serial: &[u8], moment: &[u8], extensions: &[Extension]) -> Vec<u8> 
 impl Crl {
     /// A CRL that keeps every rule, for parameters that do.
     pub fn new(parameters: &Parameters) -> Crl {
-        let mut letters = [0; 2];
-        if let Some(at) = parameters.issuer.windows(5).position(|part| part == [0x55, 4, 6, 0x13, 2]) {
-            letters.copy_from_slice(&parameters.issuer[at + 5..at + 7]);
-        }
         let revoked = time::time(20230704101112);
         Crl {
-            letters,
+            letters: name::letters_in(&parameters.issuer),
             version: vec![2, 1, 1],
             algorithm: algorithm(),
             issuer: parameters.issuer.clone(),
@@ -87,13 +77,7 @@ impl Crl {
                 Extension::new(&AUTHORITY_KEY_ID, false, &extension::authority_key_id(&parameters.authority_key_id)),
                 Extension::new(&CRL_NUMBER, false, &[2, 1, 7]),
             ],
-            extensions_block: None,
-            after_extensions: Vec::new(),
-            outer_algorithm: algorithm(),
-            signature: bit_string(&[0x5A; 70]),
-            after_signature: Vec::new(),
-            tbs_tag: SEQUENCE,
-            outermost_tag: SEQUENCE,
+            envelope: Envelope::good(),
         }
     }
 
@@ -122,7 +106,7 @@ impl Crl {
         }
         if random.percent(20) {
             made.algorithm = rsa_algorithm();
-            made.outer_algorithm = made.algorithm.clone();
+            made.envelope.outer_algorithm = made.algorithm.clone();
         }
         let from = random.below(1000);
         for number in 0..random.below(3) {
@@ -144,26 +128,9 @@ impl Crl {
             None if self.entries.is_empty() => Vec::new(),
             None => element(SEQUENCE, &self.entries.concat()),
         };
-        let block = match &self.extensions_block {
-            Some(whole) => whole.clone(),
-            None => element(0xA0, &extension::list(&self.extensions)),
-        };
-        let parts: [&[u8]; 8] = [
-            &self.version,
-            &self.algorithm,
-            &self.issuer,
-            &self.this_update,
-            &self.next_update,
-            &list,
-            &block,
-            &self.after_extensions,
-        ];
-        signed(
-            self.outermost_tag,
-            self.tbs_tag,
-            &parts,
-            &[&self.outer_algorithm, &self.signature, &self.after_signature],
-        )
+        let parts: [&[u8]; 6] =
+            [&self.version, &self.algorithm, &self.issuer, &self.this_update, &self.next_update, &list];
+        self.envelope.around(&parts, 0xA0, &self.extensions)
     }
 }
 

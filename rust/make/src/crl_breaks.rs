@@ -25,35 +25,35 @@ pub fn ways() -> Vec<&'static Way> {
 }
 
 const SHAPE: &[Way] = &[
-    way(1, "outermost a SET", |c, _| c.outermost_tag = 0x31),
-    way(1, "tbs a SET", |c, _| c.tbs_tag = 0x31),
-    way(1, "tbs an OCTET STRING", |c, _| c.tbs_tag = 4),
+    way(1, "outermost a SET", |c, _| c.envelope.outermost_tag = 0x31),
+    way(1, "tbs a SET", |c, _| c.envelope.tbs_tag = 0x31),
+    way(1, "tbs an OCTET STRING", |c, _| c.envelope.tbs_tag = 4),
     way(1, "no version", |c, _| c.version.clear()),
     way(1, "version in A0", |c, _| c.version = vec![0xA0, 3, 2, 1, 1]),
     way(1, "version an OCTET STRING", |c, _| c.version = vec![4, 1, 1]),
     way(1, "version twice", |c, _| c.version = vec![2, 1, 1, 2, 1, 1]),
     way(1, "no inner algorithm", |c, _| c.algorithm.clear()),
     way(1, "inner algorithm a SET", |c, _| c.algorithm = vec![0x31, 0]),
-    way(1, "no outer algorithm", |c, _| c.outer_algorithm.clear()),
-    way(1, "outer algorithm a SET", |c, _| tag(&mut c.outer_algorithm, 0x31)),
-    way(1, "signature an OCTET STRING", |c, _| tag(&mut c.signature, 4)),
-    way(1, "no signature", |c, _| c.signature.clear()),
-    way(1, "more after the signature", |c, _| c.after_signature = vec![5, 0]),
-    way(1, "more after the extensions", |c, _| c.after_extensions = vec![0xA1, 0]),
+    way(1, "no outer algorithm", |c, _| c.envelope.outer_algorithm.clear()),
+    way(1, "outer algorithm a SET", |c, _| tag(&mut c.envelope.outer_algorithm, 0x31)),
+    way(1, "signature an OCTET STRING", |c, _| tag(&mut c.envelope.signature, 4)),
+    way(1, "no signature", |c, _| c.envelope.signature.clear()),
+    way(1, "more after the signature", |c, _| c.envelope.after_signature = vec![5, 0]),
+    way(1, "more after the extensions", |c, _| c.envelope.after_extensions = vec![0xA1, 0]),
     way(1, "issuer of a broken shape", |c, r| c.issuer = r.pick(name::BAD_SHAPE)(c.letters)),
     way(1, "no this update", |c, _| c.this_update.clear()),
     way(1, "no next update", |c, _| c.next_update.clear()),
     way(1, "three times", |c, _| c.next_update = [time::utc("300101000000Z"), time::utc("300101000000Z")].concat()),
     way(1, "this update of another tag", |c, r| tag(&mut c.this_update, *r.pick(&[0x16, 0x19, 0x80, 4]))),
     way(1, "next update of another tag", |c, r| tag(&mut c.next_update, *r.pick(&[0x16, 0x19, 0x80, 4]))),
-    way(1, "no A0", |c, _| c.extensions_block = Some(Vec::new())),
-    way(1, "A0 empty", |c, _| c.extensions_block = Some(vec![0xA0, 0])),
-    way(1, "A0 around a SET", |c, _| c.extensions_block = Some(vec![0xA0, 2, 0x31, 0])),
+    way(1, "no A0", |c, _| c.envelope.extensions_block = Some(Vec::new())),
+    way(1, "A0 empty", |c, _| c.envelope.extensions_block = Some(vec![0xA0, 0])),
+    way(1, "A0 around a SET", |c, _| c.envelope.extensions_block = Some(vec![0xA0, 2, 0x31, 0])),
     way(1, "A0 around two", |c, _| {
-        c.extensions_block = Some(element(0xA0, &[extension::list(&c.extensions), vec![0x30, 0]].concat()))
+        c.envelope.extensions_block = Some(element(0xA0, &[extension::list(&c.extensions), vec![0x30, 0]].concat()))
     }),
-    way(1, "A0 twice", |c, _| c.after_extensions = vec![0xA0, 2, 0x30, 0]),
-    way(1, "A3 for A0", |c, _| c.extensions_block = Some(element(0xA3, &extension::list(&c.extensions)))),
+    way(1, "A0 twice", |c, _| c.envelope.after_extensions = vec![0xA0, 2, 0x30, 0]),
+    way(1, "A3 for A0", |c, _| c.envelope.extensions_block = Some(element(0xA3, &extension::list(&c.extensions)))),
     way(1, "an extension of a broken shape", |c, r| {
         let mut broken = Extension::new(&[], false, &[]);
         broken.whole = Some(r.pick(extension::BAD_SHAPE)());
@@ -95,12 +95,12 @@ const VERSION: &[Way] = &[
 const ALGORITHM: &[Way] = &[
     way(3, "another outer algorithm", |c, _| {
         c.algorithm = rsa_algorithm();
-        c.outer_algorithm = vec![0x30, 0];
+        c.envelope.outer_algorithm = vec![0x30, 0];
     }),
     way(3, "last octet of the outer algorithm", |c, _| {
         c.algorithm = rsa_algorithm();
-        c.outer_algorithm = rsa_algorithm();
-        c.outer_algorithm[12] ^= 1;
+        c.envelope.outer_algorithm = rsa_algorithm();
+        c.envelope.outer_algorithm[12] ^= 1;
     }),
 ];
 

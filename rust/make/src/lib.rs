@@ -9,6 +9,7 @@ pub mod change;
 pub mod crl;
 pub mod crl_breaks;
 pub mod der;
+pub mod envelope;
 pub mod extension;
 pub mod image;
 pub mod name;

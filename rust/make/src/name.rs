@@ -130,3 +130,9 @@ pub const BAD_SHAPE: &[Way] = &[
     |letters| element(0xA0, &country(letters)),
     |letters| element(4, &country(letters)),
 ];
+
+/// The letters of a name's countryName, zeros where it has none as a PrintableString of two.
+pub fn letters_in(name: &[u8]) -> [u8; 2] {
+    let at = name.windows(5).position(|part| part == [0x55, 4, 6, 0x13, 2]);
+    at.and_then(|at| name.get(at + 5..at + 7)?.try_into().ok()).unwrap_or_default()
+}

@@ -9,7 +9,7 @@ use crate::der::{self, integer};
 use crate::image::{self, Image, BAD_DAYS};
 use crate::random::Random;
 use crate::table;
-use crate::time::{second_after, second_before};
+use crate::time::{second_after, second_before, BAD_MOMENTS};
 use crate::tree;
 use crate::world::{World, MOMENT, SIGNER};
 use crate::Break;
@@ -361,19 +361,8 @@ fn moment(random: &mut Random, world: &World) -> u64 {
         15 | 16 => end,
         17 => second_after(end),
         18 => second_before(end),
-        _ => *random.pick(&[
-            0,
-            20240301,
-            20240230120000,
-            20240301240000,
-            20240301126000,
-            20240301120060,
-            19491231235959,
-            21000101000000,
-            20991231235959,
-            19500101000000,
-            u64::MAX,
-        ]),
+        _ if random.percent(20) => *random.pick(&[20991231235959, 19500101000000]),
+        _ => *random.pick(&BAD_MOMENTS),
     }
 }
 

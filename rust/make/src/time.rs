@@ -113,3 +113,16 @@ pub fn second_before(moment: u64) -> u64 {
         moment
     }
 }
+
+/// Numbers that are no moment of 1950 to 2099.
+pub const BAD_MOMENTS: [u64; 9] = [
+    0,
+    20240301,
+    20240230120000,
+    20240301240000,
+    20240301126000,
+    20240301120060,
+    19491231235959,
+    21000101000000,
+    u64::MAX,
+];

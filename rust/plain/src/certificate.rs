@@ -125,9 +125,7 @@ fn shape<'a>(reader: &mut Reader<'a>) -> Option<Shape<'a>> {
     let version = reader.integer()?;
     reader.leave(in_tbs)?;
     let serial = reader.integer()?;
-    let before = reader.count;
-    let algorithm = reader.whole(SEQUENCE, 3)?;
-    let algorithm_count = reader.count - before;
+    let algorithm = reader.algorithm()?;
     let issuer = name(reader)?;
     let in_tbs = reader.enter(SEQUENCE)?;
     let start = one_time(reader)?;
@@ -140,11 +138,7 @@ fn shape<'a>(reader: &mut Reader<'a>) -> Option<Shape<'a>> {
     let extensions = extensions(reader)?;
     reader.leave(in_tbs)?;
     reader.leave(in_item)?;
-    let algorithms_equal = reader.repeats(algorithm, algorithm_count);
-    if !algorithms_equal {
-        reader.whole(SEQUENCE, 2)?;
-    }
-    reader.bit_string()?;
+    let algorithms_equal = reader.sealed(algorithm)?;
     reader.leave(outside)?;
     Some(Shape { version, serial, issuer, subject, start, end, key, unique_ids, algorithms_equal, extensions })
 }

@@ -100,9 +100,7 @@ fn shape<'a>(reader: &mut Reader<'a>) -> Option<Shape<'a>> {
     let outside = reader.enter(SEQUENCE)?;
     let in_item = reader.enter(SEQUENCE)?;
     let version = reader.integer()?;
-    let before = reader.count;
-    let algorithm = reader.whole(SEQUENCE, 3)?;
-    let algorithm_count = reader.count - before;
+    let algorithm = reader.algorithm()?;
     let issuer = name(reader)?;
     let this_update = one_time(reader)?;
     let next_update = one_time(reader)?;
@@ -111,11 +109,7 @@ fn shape<'a>(reader: &mut Reader<'a>) -> Option<Shape<'a>> {
     let extensions = extensions(reader)?;
     reader.leave(in_tbs)?;
     reader.leave(in_item)?;
-    let algorithms_equal = reader.repeats(algorithm, algorithm_count);
-    if !algorithms_equal {
-        reader.whole(SEQUENCE, 2)?;
-    }
-    reader.bit_string()?;
+    let algorithms_equal = reader.sealed(algorithm)?;
     reader.leave(outside)?;
     Some(Shape { version, algorithms_equal, issuer, this_update, next_update, entries, extensions })
 }

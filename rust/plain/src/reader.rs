@@ -4,7 +4,7 @@
 //! then walks the item again: that walk names a DER fault or a limit, and if it
 //! passes, it was the shape that is broken.
 
-use crate::der::{self, Element, BIT_STRING, COUNT_LIMIT, INTEGER, ITEM_LIMIT, OID};
+use crate::der::{self, Element, BIT_STRING, COUNT_LIMIT, INTEGER, ITEM_LIMIT, OID, SEQUENCE};
 use crate::refusal::Refusal;
 
 /// Reads an item's elements one after the other. Parts come out as slices of it.
@@ -146,10 +146,29 @@ impl<'a> Reader<'a> {
         Some(self.since(before))
     }
 
+    /// The algorithm in a tbs, with the number of its elements.
+    #[inline(always)]
+    pub fn algorithm(&mut self) -> Option<(&'a [u8], usize)> {
+        let before = self.count;
+        let whole = self.whole(SEQUENCE, 3)?;
+        Some((whole, self.count - before))
+    }
+
+    /// What stands after the tbs: algorithm and signature. Tells whether the algorithm is that of the tbs again.
+    #[inline(always)]
+    pub fn sealed(&mut self, (algorithm, count): (&'a [u8], usize)) -> Option<bool> {
+        let equal = self.repeats(algorithm, count);
+        if !equal {
+            self.whole(SEQUENCE, 2)?;
+        }
+        self.bit_string()?;
+        Some(equal)
+    }
+
     /// An element that repeats, octet by octet, one that was read in `count`
     /// elements and stood deeper or as deep: it is not read again.
     #[inline(always)]
-    pub fn repeats(&mut self, earlier: &[u8], count: usize) -> bool {
+    fn repeats(&mut self, earlier: &[u8], count: usize) -> bool {
         match self.rest.strip_prefix(earlier) {
             Some(after) => {
                 self.rest = after;

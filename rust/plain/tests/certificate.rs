@@ -206,9 +206,9 @@ fn what_is_judged_by_its_tag_alone() {
     for role in ROLES {
         let mut made = Made::typical(role);
         made.algorithm = vec![0x30, 0];
-        made.outer_algorithm = vec![0x30, 0];
+        made.envelope.outer_algorithm = vec![0x30, 0];
         made.key = vec![0x30, 0];
-        made.signature = bit_string(&[]);
+        made.envelope.signature = bit_string(&[]);
         assert_eq!(rule(&made), 0);
         made.subject = name::name(*b"UT", "another");
         assert_eq!(rule(&made), 0);
@@ -280,7 +280,7 @@ fn order_of_refusals() {
     let after = [&item[..], &[0]].concat();
     assert_eq!(certificate(&after, LINK), refused(2, item.len() as u64));
     // A DER fault late in the item, before rule 1 and 2.
-    made.signature = vec![3, 2, 7, 0x81];
+    made.envelope.signature = vec![3, 2, 7, 0x81];
     made.version.clear();
     let item = made.encode();
     assert_eq!(certificate(&item, LINK), refused(2, item.len() as u64 - 4));
@@ -319,7 +319,7 @@ fn elements_at_the_limit() {
         assert_eq!(certificate(&made.encode(), LINK).number, number);
         let mut made = Made::typical(LINK);
         made.algorithm = make::der::nested(depth);
-        made.outer_algorithm = made.algorithm.clone();
+        made.envelope.outer_algorithm = made.algorithm.clone();
         assert_eq!(certificate(&made.encode(), LINK).number, number);
     }
 }

@@ -342,17 +342,7 @@ fn order_of_the_question() {
     assert_eq!(chain(&image, &[&table[..], &[0]].concat(), MOMENT, 3), refused(1, 0));
     assert_eq!(chain(&image, &[], MOMENT, 3), refused(1, 0));
     // Moments.
-    for moment in [
-        0,
-        20240301,
-        20240230120000,
-        20240301240000,
-        20240301126000,
-        20240301120060,
-        19491231235959,
-        21000101000000,
-        u64::MAX,
-    ] {
+    for moment in make::time::BAD_MOMENTS {
         assert_eq!(chain(&image, &table, moment, 3), refused(1, 0));
     }
     // Targets.
