@@ -4,11 +4,11 @@ use make::certificate::{Certificate, ANCHOR, LINK, SIGNER};
 use make::crl::{Crl, Parameters};
 use make::extension::Extension;
 use make::image::Image;
+use make::questions::Question;
 use make::random::Random;
 use make::world::{Plan, World, MOMENT};
 use make::{der, name, table};
 
-use crate::ask::Input;
 
 /// The questions of the table.
 pub const QUESTIONS: &[&str] = &[
@@ -60,35 +60,38 @@ pub const GROWTH: &[&str] = &[
 
 /// The most bytes of an item.
 const ITEM: usize = 16_384;
+/// The most bytes of an image.
+const ROOM: usize = 262_144;
 const DAY: u64 = 20240301;
 
-/// What is asked under a name.
-pub fn named(name: &str) -> Option<Input> {
+/// The questions of a name.
+pub fn named(name: &str) -> Option<Vec<Question>> {
     if let Some((what, number)) = name.rsplit_once('-') {
         if let Ok(number) = number.parse() {
             return sized(what, number);
         }
     }
-    Some(match name {
-        "walk-certificate" => Input::Walk(Certificate::typical(SIGNER).encode()),
-        "walk-16k" => Input::Walk(many(ITEM)),
-        "anchor" => Input::Certificate(Certificate::typical(ANCHOR).encode(), ANCHOR),
-        "link" => Input::Certificate(Certificate::typical(LINK).encode(), LINK),
-        "signer" => Input::Certificate(Certificate::typical(SIGNER).encode(), SIGNER),
-        "crl-16k" => Input::Crl(crl_of_16k()),
-        "crl-age-16k" => Input::Age(crl_of_16k(), DAY),
-        "image-read" => Input::Image(realistic(World::line, 96, 40).0.encode()),
+    let question = match name {
+        "walk-certificate" => Question::Walk(Certificate::typical(SIGNER).encode()),
+        "walk-16k" => Question::Walk(many(ITEM)),
+        "anchor" => Question::Certificate(Certificate::typical(ANCHOR).encode(), ANCHOR),
+        "link" => Question::Certificate(Certificate::typical(LINK).encode(), LINK),
+        "signer" => Question::Certificate(Certificate::typical(SIGNER).encode(), SIGNER),
+        "crl-16k" => Question::Crl(crl_of_16k()),
+        "crl-age-16k" => Question::Age(crl_of_16k(), DAY),
+        "image-read" => Question::Image(realistic(World::line, 96, 40).0.encode()),
         "image-write" => {
             let (image, _) = realistic(World::line, 96, 40);
-            Input::Write {
+            Question::Write {
                 items: image.items.concat(),
                 lengths: image.lengths(),
                 day: image.day as u64,
                 kinds: image.kinds,
                 flags: image.flags,
+                room: ROOM,
             }
         }
-        "days" => Input::Days(19500101, 20240301),
+        "days" => Question::Days(19500101, 20240301),
         _ => {
             let (how_many, shape) = name.split_once('-')?;
             let every = match how_many {
@@ -96,21 +99,23 @@ pub fn named(name: &str) -> Option<Input> {
                 "signers" => true,
                 _ => return None,
             };
-            chain(shape, 96, 40, every)?
+            return chain(shape, 96, 40, every);
         }
-    })
+    };
+    Some(vec![question])
 }
 
-fn sized(what: &str, number: usize) -> Option<Input> {
-    Some(match what {
-        "walk-bytes" => Input::Walk(many(number)),
-        "signer-extensions" => Input::Certificate(extended(number), SIGNER),
-        "crl-entries" => Input::Crl(Crl::typical(number).encode()),
-        "chain-dense-places" => chain("dense", number, 40, false)?,
-        "chain-line-places" => chain("line", number, 40, false)?,
-        "chain-line-entries" => chain("line", 24, number, false)?,
+fn sized(what: &str, number: usize) -> Option<Vec<Question>> {
+    let question = match what {
+        "walk-bytes" => Question::Walk(many(number)),
+        "signer-extensions" => Question::Certificate(extended(number), SIGNER),
+        "crl-entries" => Question::Crl(Crl::typical(number).encode()),
+        "chain-dense-places" => return chain("dense", number, 40, false),
+        "chain-line-places" => return chain("line", number, 40, false),
+        "chain-line-entries" => return chain("line", 24, number, false),
         _ => return None,
-    })
+    };
+    Some(vec![question])
 }
 
 /// An item of at most so many bytes: a SEQUENCE of SEQUENCEs of an INTEGER, an OID, a string and a NULL.
@@ -154,7 +159,7 @@ fn realistic(maker: Maker, places: usize, entries: usize) -> (Image, World) {
 }
 
 /// A chain question, for the first signer that has a chain or for every signer.
-fn chain(shape: &str, places: usize, entries: usize, every: bool) -> Option<Input> {
+fn chain(shape: &str, places: usize, entries: usize, every: bool) -> Option<Vec<Question>> {
     let maker: Maker = if shape == "line" { World::line } else { World::alike };
     let (image, world) = realistic(maker, places, entries);
     let table = match shape {
@@ -175,5 +180,6 @@ fn chain(shape: &str, places: usize, entries: usize, every: bool) -> Option<Inpu
         let one = targets.iter().copied().find(has_chain).or(targets.first().copied());
         targets = one.into_iter().collect();
     }
-    Some(Input::Chain { image, table, moment: MOMENT, targets })
+    let question = |target| Question::Chain { image: image.clone(), table: table.clone(), moment: MOMENT, target };
+    Some(targets.into_iter().map(question).collect())
 }

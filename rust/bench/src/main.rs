@@ -11,7 +11,8 @@ mod ask;
 mod inputs;
 mod timing;
 
-use ask::{Asker, Side};
+use ask::Asker;
+use differ::{Library, Plain, Reader};
 use inputs::{GROWTH, QUESTIONS};
 
 fn main() {
@@ -40,17 +41,17 @@ fn list(names: &[&str]) -> bool {
 
 /// Asks one question on one side only.
 fn count(name: &str, side: &str, number: &str) -> bool {
-    let side = match side {
-        "library" => Side::Library,
-        "plain" => Side::Plain,
+    let reader: &dyn Reader = match side {
+        "library" => &Library,
+        "plain" => &Plain,
         _ => return false,
     };
-    let (Some(input), Ok(number)) = (inputs::named(name), number.parse::<u64>()) else {
+    let (Some(questions), Ok(number)) = (inputs::named(name), number.parse::<u64>()) else {
         return false;
     };
-    let mut asker = Asker::new(input);
+    let mut asker = Asker::new(questions);
     for _ in 0..number {
-        asker.ask(side);
+        asker.ask(reader);
     }
     true
 }
