@@ -5,18 +5,13 @@ use mathlib.Core.Bool.{true}
 use mathlib.Core.List.{List}
 use borrow.Author.Tests.{eq-eqb}
 use Rattle.der.specs.Heading.{identifierGood}
-use Rattle.elements.specs.declared.elements.Element.{Element}
 use Rattle.elements.specs.declared.elements.Found.the-variants.{One}
 use Rattle.elements.specs.Elements.{foundAt, withTag, foundTagged, onFound}
 use Rattle.elements.specs.Short.{shortEnd}
-use Rattle.elements.proofs.Shorts.{short-found}
+use Rattle.elements.proofs.Shorts.{brief, short-found}
 use Rattle.times.specs.Times.{timeTag, timeAt, timeOf}
 use Rattle.crl.specs.declared.entries.Entry.the-variants.{Bare}
 use Rattle.crl.specs.Entries.{entryOf, shaped, isTime, timely, calm, Plain}
-
--- an element with a header of two octets
-abbrev pub brief : ℕ → ℕ → ℕ → Element
-brief tag at end = record { tag = tag; at = at; contents = at + 2; end = end }
 
 module _ (s : List ℕ) (at end : ℕ) {after time : ℕ} where
   bare-entry :

@@ -14,6 +14,7 @@ use Rattle.der.specs.Heading.{identifierGood, headingOf}
 use Rattle.der.specs.Member.{placed, memberOf}
 use Rattle.der.proofs.Laws.{short-header}
 use Rattle.der.proofs.Bounds.{cond-by}
+use Rattle.elements.specs.declared.elements.Element.{Element}
 use Rattle.elements.specs.declared.elements.Found.the-variants.{One}
 use Rattle.elements.specs.Elements.{stepped, foundAt}
 use Rattle.elements.specs.Short.{shortEnd}
@@ -77,10 +78,14 @@ short-told s from end tag =
     none : {A : Type 0} → A → Told 0
     none a h = absurd (omega arith)
 
+-- an element with a header of two octets
+abbrev pub brief : ℕ → ℕ → ℕ → Element
+brief tag at end = record { tag = tag; at = at; contents = at + 2; end = end }
+
 -- the element with a good tag that ends there
 pub short-found :
     (s : List ℕ) (from end tag : ℕ) {r : ℕ} → identifierGood tag ≡ true → 0 < r → r ≡ shortEnd s from end tag
-    → foundAt s from end ≡ One (record { tag = tag; at = from; contents = from + 2; end = r })
+    → foundAt s from end ≡ One (brief tag from r)
 unfolding foundAt stepped memberOf placed
 short-found s from end tag {r} good some is =
     let t : ShortAt s from end tag r = rw is (short-told s from end tag (rw (sym is) some)) in
@@ -101,3 +106,8 @@ pub short-within : (s : List ℕ) (from end tag : ℕ) {r : ℕ} → r ≡ short
 short-within s from end tag is some =
     let t = short-told s from end tag (rw (sym is) some) in
     (omega (arith, is, t .ends), omega (arith, is, t .fits))
+
+pub short-inside : (s : List ℕ) (from end tag : ℕ) {r : ℕ} → r ≡ shortEnd s from end tag → 0 < r → r ≤ length s
+short-inside s from end tag is some =
+    let t = short-told s from end tag (rw (sym is) some) in
+    omega (arith, is, t .fits, t .inside)
