@@ -192,6 +192,9 @@ fn leaf(s: &[u8], depth: usize, count: usize) -> usize
         return 0;
     }
     let end = 2 + size;
+    if 6 < tag {
+        return end;
+    }
     if contents_good(tag, &s[2..end]) {
         return end;
     }
