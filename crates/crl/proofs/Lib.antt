@@ -3,3 +3,4 @@ pub mod Surveys
 pub mod Firsts
 pub mod Serials
 pub mod Theorems
+pub mod Plains

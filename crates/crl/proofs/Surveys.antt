@@ -2,7 +2,7 @@
 use Prim.Native.Nat.{ℕ, zero, suc, _+_, _≤_}
 use mathlib.Core.Bool.{Bool, true, false, cond, _&&_, not, and-true, and-assoc}
 use mathlib.Core.List.{List, [], _∷_}
-use mathlib.Core.Path.{_≡_, sym, _∙_}
+use mathlib.Core.Path.{_≡_, refl, sym, ap, _∙_}
 use native.Mathlib.Omega.{arith}
 use lib.ListN.{length}
 use Rattle.elements.specs.declared.elements.Element.{Element}
@@ -15,7 +15,7 @@ use Rattle.elements.proofs.Members.{members-none, members-more}
 use Rattle.crl.specs.declared.entries.Entry.the-variants.{Bare, Extended, Misshapen}
 use Rattle.crl.specs.declared.entries.Survey.{Survey}
 use Rattle.crl.specs.declared.entries.Survey.the-variants.{Entries, Shapeless}
-use Rattle.crl.specs.Entries.{entryOf, shaped, isTime, timely, calm, allShaped, allTimely, allCalm, surveyOf}
+use Rattle.crl.specs.Entries.{entryOf, shaped, isTime, timely, calm, allShaped, allTimely, allCalm, surveyOf, Plain}
 
 -- there are no more members than octets
 members-in-few : (fuel : ℕ) (s : List ℕ) (from end : ℕ) → length (membersIn fuel s from end) ≤ fuel
@@ -82,3 +82,13 @@ module _ {s : List ℕ} {e serial time : Element} {times quiet times' quiet' : B
   pub extended-adds : {extensions : Element} → entryOf s e ≡ Extended serial time extensions → times' ≡ (times && isTime (timeOf s time)) → quiet' ≡ (quiet && not (criticalOf s extensions false)) → Adds s e times quiet times' quiet'
   unfolding shaped timely calm
   extended-adds h t q = record { fit = rw h; timed = rw (h, t); calmed = rw (h, q) }
+
+-- an entry that has nothing to tell is counted
+pub plain-on :
+    (s : List ℕ) (from end count : ℕ) (times quiet : Bool) (at : ℕ) {past : ℕ} → Plain s at end past
+    → (count + length (membersOf s at end) ≤ length s) × (surveyOf s from end ≡ surveyWith s count times quiet (membersOf s at end))
+    → (count + 1 + length (membersOf s past end) ≤ length s) × (surveyOf s from end ≡ surveyWith s (count + 1) times quiet (membersOf s past end))
+plain-on s from end count times quiet at p (room, is) =
+    let adds : Adds s (p .e) times quiet times quiet =
+    record { fit = p .fit; timed = stays times (p .timed) refl; calmed = stays quiet (p .calmed) refl } in
+    rw (sym (p .ends)) (omega (arith, room, ap length (members-more s at end (p .found))), is ∙ survey-on s count times quiet at end (p .found) adds)

@@ -3,13 +3,15 @@ use elements::Element;
 use elements::Found;
 use elements::element_at;
 use elements::element_tagged;
+use elements::short_end;
 use extensions::extensions_shaped;
 use extensions::some_critical;
 use times::Time;
 use times::time_at;
 use times::time_of;
 ghost use mathlib.Core.Path.{_≡_};
-ghost use Rattle.crl.specs.Entries.{isTime, entryOf, surveyOf};
+ghost use Prim.Native.Nat.{_<_};
+ghost use Rattle.crl.specs.Entries.{isTime, entryOf, surveyOf, Plain};
 ghost use Rattle.times.specs.Times.{timeOf};
 
 // An entry's serial, time and extensions.
@@ -44,6 +46,12 @@ pub(crate) fn survey_of(item: &[u8], from: usize, end: usize) -> Survey
     let mut calm = true;
     let mut at = from;
     loop {
+        let past = plain_entry(item, at, end);
+        if 0 < past {
+            count += 1;
+            at = past;
+            continue;
+        }
         let Found::One(e) = element_at(item, at, end) else {
             return Survey::Entries {
                 count,
@@ -74,6 +82,35 @@ pub(crate) fn survey_of(item: &[u8], from: usize, end: usize) -> Survey
         count += 1;
         at = e.end;
     }
+}
+
+// Where the entry at `at` ends if it is SEQUENCE {INTEGER, UTCTime} with short headers and its time is one; else 0.
+fn plain_entry(item: &[u8], at: usize, end: usize) -> usize
+    ensures { λ r. ⌜ (0 < r → Plain (now (item .entry)) at end r) ⌝ }
+{
+    let after = short_end(item, at, end, 0x30);
+    if after == 0 {
+        return 0;
+    }
+    let time = short_end(item, at + 2, after, 0x02);
+    if time == 0 {
+        return 0;
+    }
+    if short_end(item, time, after, 0x17) != after {
+        return 0;
+    }
+    if is_time(
+        item,
+        Element {
+            tag: 0x17,
+            at: time,
+            contents: time + 2,
+            end: after,
+        },
+    ) {
+        return after;
+    }
+    0
 }
 
 // SEQUENCE {INTEGER, time, optional SEQUENCE of extensions}.

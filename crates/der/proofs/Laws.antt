@@ -3,6 +3,7 @@ use mathlib.Core.Path.{_≡_, refl}
 use mathlib.Core.Bool.{Bool, true, false, cond}
 use mathlib.Core.List.{List, []}
 use Prim.Native.Nat.{ℕ, suc, _+_, _*_, _≤_, _<_}
+use native.Mathlib.Omega.{arith}
 use borrow.Author.Tests.{lt-ltb, le-ltb, le-leb, lt-leb, eq-eqb, ne-eqb}
 use lib.ListN.{length, getD, take, drop}
 use Rattle.refusal.specs.declared.Refusal.{Refusal}
@@ -23,6 +24,18 @@ pub short-header :
     → headingOf forms s ≡ Header (getD s 0 0) 2 (getD s 1 0)
 unfolding headingOf within
 short-header forms s two good short fits = simp (le-ltb _ _ two, good, lt-ltb _ _ short, le-leb _ _ fits)
+
+-- a primitive that is not judged
+pub unjudged : (tag : ℕ) (c : List ℕ) → 6 < tag → contentsGood tag c ≡ true
+unfolding contentsGood
+unjudged tag c h =
+    rw (
+      ne-eqb tag 1 (λ e. omega arith),
+      ne-eqb tag 2 (λ e. omega arith),
+      ne-eqb tag 3 (λ e. omega arith),
+      ne-eqb tag 5 (λ e. omega arith),
+      ne-eqb tag 6 (λ e. omega arith),
+    )
 
 module _ (forms : Forms) (fuel : ℕ) (s : List ℕ) (base depth count : ℕ) where
   pub element-bad : headingOf forms s ≡ Bad → elementAt (suc fuel) forms s base depth count ≡ Fault (Der base)

@@ -3,3 +3,4 @@ pub mod Bounds
 pub mod Enough
 pub mod Weights
 pub mod Faults
+pub mod Stacks

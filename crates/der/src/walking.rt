@@ -115,59 +115,57 @@ fn outermost(item: &[u8]) -> usize
     if end != item.len() {
         return 0;
     }
-    sound(&item[skip..end], 2, 1)
+    sound(&item[skip..end])
 }
 
-// The count of elements after those that fill `s`, if nothing is wrong with any; else 0.
-fn sound(s: &[u8], depth: usize, count: usize) -> usize
-    requires { ⌜ (length (now s) ≤ 16384) × (depth ≤ 17) × (count ≤ 4096) ⌝ }
-    ensures { λ r. ⌜ (0 < r → (base fuel : ℕ) → 2 * length (now (s .entry)) + 2 ≤ fuel → Passed r ≡ listAt fuel paper (now (s .entry)) base depth count) ⌝ }
+// The count of elements when those that fill `s` have been read, the contents of the outermost, if nothing is wrong with
+// any; else 0. `ends` has the end of each element that is open, the innermost at `top`.
+fn sound(s: &[u8]) -> usize
+    requires { ⌜ length (now s) ≤ 16384 ⌝ }
+    ensures { λ r. ⌜ (0 < r → (base fuel : ℕ) → 2 * length (now (s .entry)) + 2 ≤ fuel → Passed r ≡ listAt fuel paper (now (s .entry)) base 2 1) ⌝ }
 {
+    let mut ends = [s.len(); 16];
+    let mut top = 0;
     let mut i = 0;
-    let mut read = count;
-    while i < s.len() {
-        if 16 < depth {
+    let mut read = 1;
+    loop {
+        let end = ends[top];
+        if end <= i {
+            if top == 0 {
+                return read;
+            }
+            top -= 1;
+            continue;
+        }
+        if 15 <= top {
             return 0;
         }
         if 4096 <= read {
             return 0;
         }
-        let taken = leaf(&s[i..], depth, read);
+        let taken = leaf(&s[i..end], top + 2, read);
         if 0 < taken {
             i += taken;
             read += 1;
             continue;
         }
-        let wide = branch(&s[i..]);
-        if 0 < wide {
-            let end = i + wide;
-            read = sound(&s[i + 2..end], depth + 1, read + 1);
-            if read == 0 {
-                return 0;
-            }
-            i = end;
-            continue;
-        }
-        let Heading::Header { tag, skip, size } = header(&s[i..]) else {
+        let Heading::Header { tag, skip, size } = header(&s[i..end]) else {
             return 0;
         };
         let from = i + skip;
-        let end = from + size;
+        let after = from + size;
+        read += 1;
         if tag / 32 % 2 == 1 {
-            read = sound(&s[from..end], depth + 1, read + 1);
-            if read == 0 {
-                return 0;
-            }
-            i = end;
+            top += 1;
+            ends[top] = after;
+            i = from;
             continue;
         }
-        if !contents_good(tag, &s[from..end]) {
+        if !contents_good(tag, &s[from..after]) {
             return 0;
         }
-        read += 1;
-        i = end;
+        i = after;
     }
-    read
 }
 
 // The octets of the element at the front of `s` if it is primitive, its length in the short form, and nothing is wrong
@@ -194,33 +192,11 @@ fn leaf(s: &[u8], depth: usize, count: usize) -> usize
         return 0;
     }
     let end = 2 + size;
+    if 6 < tag {
+        return end;
+    }
     if contents_good(tag, &s[2..end]) {
         return end;
     }
     0
-}
-
-// The octets of the element at the front of `s` if it is constructed, its length in the short form and its header good;
-// else 0.
-fn branch(s: &[u8]) -> usize
-    ensures { λ r. ⌜ (0 < r → (2 ≤ r) × (r ≤ length (now (s .entry))) × (constructed (getD (now (s .entry)) 0 0) ≡ true) × (headingOf paper (now (s .entry)) ≡ Header (getD (now (s .entry)) 0 0) 2 (r - 2))) ⌝ }
-{
-    if s.len() < 2 {
-        return 0;
-    }
-    let tag = s[0];
-    if tag / 32 % 2 != 1 {
-        return 0;
-    }
-    if !identifier(tag) {
-        return 0;
-    }
-    let size = s[1] as usize;
-    if 128 <= size {
-        return 0;
-    }
-    if s.len() - 2 < size {
-        return 0;
-    }
-    2 + size
 }

@@ -1,3 +1,4 @@
 pub mod Likeness
 pub mod Members
 pub mod Enclosed
+pub mod Shorts

@@ -2,3 +2,4 @@ pub mod Octets
 pub mod Elements
 pub mod Envelope
 pub mod Steps
+pub mod Short

@@ -2,6 +2,7 @@
 mod elements;
 mod envelopes;
 mod equality;
+mod short;
 mod steps;
 
 pub use elements::Element;
@@ -13,6 +14,7 @@ pub use elements::whole;
 pub use envelopes::Envelope;
 pub use envelopes::envelope_of;
 pub use equality::same;
+pub use short::short_end;
 pub use steps::between;
 pub use steps::only_member;
 pub use steps::past;

@@ -1,4 +1,7 @@
 // Extensions: their shape, the look-up by OID, and that none stands twice.
+mod brief;
+
+use brief::brief_extension;
 use elements::Element;
 use elements::Found;
 use elements::contents;
@@ -24,6 +27,24 @@ pub enum Extension {
 
 // SEQUENCE {OID, optional BOOLEAN which is then TRUE, OCTET STRING}.
 fn extension_of(item: &[u8], e: Element) -> Extension
+    ensures { λ r. ⌜ r ≡ extensionOf (now (item .entry)) e ⌝ }
+{
+    match brief_extension(item, e) {
+        Extension::Is {
+            oid,
+            critical,
+            value,
+        } => Extension::Is {
+            oid,
+            critical,
+            value,
+        },
+        Extension::Absent => any_extension(item, e),
+    }
+}
+
+// The same with headers of any kind.
+fn any_extension(item: &[u8], e: Element) -> Extension
     ensures { λ r. ⌜ r ≡ extensionOf (now (item .entry)) e ⌝ }
 {
     if e.tag != 0x30 {

@@ -10,7 +10,7 @@ use Rattle.names.specs.declared.Attribute.the-variants.{Country, Other, 
 use Rattle.names.specs.declared.Seen.{Seen}
 use Rattle.names.specs.declared.Name.the-variants.{Holds, Shapeless}
 use Rattle.elements.specs.Elements.{foundAt, membersOf, inside}
-use Rattle.names.specs.Names.{attributeOf, oneMore, attributed, attributesOf, oneSet, afterSet, setsOf}
+use Rattle.names.specs.Names.{attributeOf, oneMore, attributed, attributesOf, oneSet, afterSet, setsOf, Plain}
 use Rattle.elements.proofs.Members.{members-none, members-more}
 
 -- one attribute, and those after it
@@ -60,3 +60,7 @@ module _ (s : List ℕ) (at end : ℕ) (seen : Seen) where
     pub sets-more : {more : Seen} → oneSet s e seen ≡ Holds more → setsOf s (membersOf s at end) seen ≡ setsOf s (membersOf s (e .end) end) more
     unfolding setsOf afterSet
     sets-more h = rw (members-more s at end found) (simp h)
+
+  -- a SET that has no countryName
+  pub sets-plain : {past : ℕ} → Plain s at end past → setsOf s (membersOf s at end) seen ≡ setsOf s (membersOf s past end) seen
+  sets-plain p = rw (← p .ends) (sets-more (p .found) (p .holds seen))

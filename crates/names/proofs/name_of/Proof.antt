@@ -7,7 +7,7 @@ use borrow.Author.Tests.{eq-eqb, ne-eqb}
 use Rattle.elements.specs.Elements.{membersOf, inside}
 use Rattle.names.specs.Names.{setsOf, nameOf}
 use Rattle.elements.proofs.Members.{found-within}
-use Rattle.names.proofs.Sets.{sets-done, sets-bad, sets-more}
+use Rattle.names.proofs.Sets.{sets-done, sets-bad, sets-more, sets-plain}
 use Rattle.names.proofs.name_of.Statement.{statement}
 use Rattle.names.proofs.name_of.Tie as tie
 
@@ -25,6 +25,15 @@ loop-holds : tie.Need-loop-holds Inv-loop μ-loop
 unfolding nameOf inside
 loop-holds c = simp (eq-eqb _ _ (c .if1 .left))
 
+plain-set-requires : tie.Need-plain-set-requires Inv-loop μ-loop
+plain-set-requires c κs = search needs
+
+loop-less : tie.Need-loop-less Inv-loop μ-loop
+loop-less c = let p = c .before .plain-set .ensures (c .if2 .taken) in omega (arith, p .ends, found-within _ _ _ (p .found))
+
+loop-again : tie.Need-loop-again Inv-loop μ-loop
+loop-again c = sym (sets-plain _ _ _ _ (c .before .plain-set .ensures (c .if2 .taken))) ∙ c .before .before .loop .inv
+
 element-at-requires : tie.Need-element-at-requires Inv-loop μ-loop
 element-at-requires c κs = search needs
 
@@ -35,7 +44,7 @@ enum-told : tie.Need-enum-told Inv-loop μ-loop
 enum-told c = search needs
 
 returns-2 : tie.Need-returns-2 Inv-loop μ-loop
-returns-2 c = sym (sets-done _ _ _ _ (sym (c .before .before .element-at .ensures) ∙ c .enum-told .given .1)) ∙ c .before .before .before .loop .inv
+returns-2 c = sym (sets-done _ _ _ _ (sym (c .before .before .element-at .ensures) ∙ c .enum-told .given .1)) ∙ c .before .before .before .before .before .loop .inv
 
 set-of-requires : tie.Need-set-of-requires Inv-loop μ-loop
 set-of-requires c κs = search needs
@@ -47,13 +56,13 @@ enum-told-2 : tie.Need-enum-told-2 Inv-loop μ-loop
 enum-told-2 c = search needs
 
 returns-3 : tie.Need-returns-3 Inv-loop μ-loop
-returns-3 c = sym (sets-bad _ _ _ _ (sym (c .before .before .before .before .before .before .element-at .ensures) ∙ c .before .before .before .before .set .given .1) (sym (c .before .before .set-of .ensures) ∙ c .enum-told2 .given .1)) ∙ c .before .before .before .before .before .before .before .loop .inv
+returns-3 c = sym (sets-bad _ _ _ _ (sym (c .before .before .before .before .before .before .element-at .ensures) ∙ c .before .before .before .before .set .given .1) (sym (c .before .before .set-of .ensures) ∙ c .enum-told2 .given .1)) ∙ c .before .before .before .before .before .before .before .before .before .loop .inv
 
-loop-less : tie.Need-loop-less Inv-loop μ-loop
-loop-less c = omega (arith, found-within _ _ _ (sym (c .before .before .before .before .before .before .before .element-at .ensures) ∙ c .before .before .before .before .before .set .given .1))
+loop-less-2 : tie.Need-loop-less-2 Inv-loop μ-loop
+loop-less-2 c = omega (arith, found-within _ _ _ (sym (c .before .before .before .before .before .before .before .element-at .ensures) ∙ c .before .before .before .before .before .set .given .1))
 
-loop-again : tie.Need-loop-again Inv-loop μ-loop
-loop-again c = sym (sets-more _ _ _ _ (sym (c .before .before .before .before .before .before .before .element-at .ensures) ∙ c .before .before .before .before .before .set .given .1) (sym (c .before .before .before .set-of .ensures) ∙ c .before .more .given .1)) ∙ c .before .before .before .before .before .before .before .before .loop .inv
+loop-again-2 : tie.Need-loop-again-2 Inv-loop μ-loop
+loop-again-2 c = sym (sets-more _ _ _ _ (sym (c .before .before .before .before .before .before .before .element-at .ensures) ∙ c .before .before .before .before .before .set .given .1) (sym (c .before .before .before .set-of .ensures) ∙ c .before .more .given .1)) ∙ c .before .before .before .before .before .before .before .before .before .before .loop .inv
 
 pub name-of-spec : {M : Type 1} → statement M
 name-of-spec =
@@ -63,6 +72,9 @@ name-of-spec =
     μ-loop
     returns
     loop-holds
+    plain-set-requires
+    loop-less
+    loop-again
     element-at-requires
     enum-known-set
     enum-told
@@ -71,5 +83,5 @@ name-of-spec =
     enum-known-more
     enum-told-2
     returns-3
-    loop-less
-    loop-again)
+    loop-less-2
+    loop-again-2)

@@ -1,0 +1,191 @@
+-- Each turn keeps what is left of the open elements: one is closed, one is read, or one is opened.
+use Prim.Native.Nat.{_+_, _-_, _*_}
+use mathlib.Core.Path.{refl, sym, _∙_}
+use native.Mathlib.Omega.{arith}
+use borrow.Author.Tests.{eq-eqb, ne-eqb, not-false}
+use borrow.Author.Needs.{needs}
+use lib.ListN.{length}
+use Rattle.der.specs.Heading.{constructed}
+use Rattle.der.proofs.Stacks.{Open, open-start, open-done, open-end, open-pop, open-head, open-past, open-leaf, open-push}
+use Rattle.der.proofs.walking.sound.Statement.{statement}
+use Rattle.der.proofs.walking.sound.Tie as tie
+use Rattle.der.proofs.walking.sound.Reads as reads
+use Rattle.der.proofs.walking.sound.Lts as lts
+use Rattle.der.proofs.contents.contents_good.Reads as contents-good-reads
+use Rattle.der.proofs.heading.header.Reads as header-reads
+use Rattle.der.proofs.walking.leaf.Reads as leaf-reads
+
+abbrev Inv-loop : tie.InvT-loop
+Inv-loop s ends₀ top₀ i₀ read₀ ends top i read = Open s ends top i read
+
+abbrev μ-loop : tie.MeasureT-loop
+μ-loop s ends₀ top₀ i₀ read₀ ends top i read = 2 * (length s - i) + top
+
+loop-holds : tie.Need-loop-holds Inv-loop μ-loop
+loop-holds c = open-start _
+
+mul-end : tie.Need-mul-end Inv-loop μ-loop
+mul-end c = search needs
+
+array-read-end : tie.Need-array-read-end Inv-loop μ-loop
+array-read-end c = search needs
+
+returns : tie.Need-returns Inv-loop μ-loop
+returns c = λ some. open-done (c .before .before .loop .inv) (c .if2 .taken) (c .before .if1 .taken)
+
+sub-top : tie.Need-sub-top Inv-loop μ-loop
+sub-top c = search needs
+
+loop-less : tie.Need-loop-less Inv-loop μ-loop
+loop-less c = omega (arith, open-end (c .before .before .loop .inv))
+
+loop-again : tie.Need-loop-again Inv-loop μ-loop
+loop-again c = open-pop _ _ _ _ _ (c .before .before .loop .inv) (c .if2 .left) (c .before .if1 .taken)
+
+returns-2 : tie.Need-returns-2 Inv-loop μ-loop
+returns-2 c = λ some base fuel enough. absurd (omega arith)
+
+returns-3 : tie.Need-returns-3 Inv-loop μ-loop
+returns-3 c = λ some base fuel enough. absurd (omega arith)
+
+sub-leaf : tie.Need-sub-leaf Inv-loop μ-loop
+sub-leaf c = omega (arith, open-end (c .before .before .before .loop .inv))
+
+part-leaf-start : tie.Need-part-leaf-start Inv-loop μ-loop
+part-leaf-start c = omega (arith, open-end (c .before .before .before .loop .inv))
+
+part-leaf-end : tie.Need-part-leaf-end Inv-loop μ-loop
+part-leaf-end c = omega (arith, open-end (c .before .before .before .loop .inv))
+
+add-leaf : tie.Need-add-leaf Inv-loop μ-loop
+add-leaf c = search needs
+
+leaf-requires : tie.Need-leaf-requires Inv-loop μ-loop
+leaf-requires c κs = search needs
+
+add-i : tie.Need-add-i Inv-loop μ-loop
+add-i c = omega (arith, open-end (c .before .before .before .before .before .before .loop .inv), c .before .before .before .before .before .before .before .before .pre, (open-past _ _ _ _ (c .before .before .before .before .before .before .loop .inv) (c .before .before .before .before .before .if1 .left) (c .before .leaf .ensures (c .if5 .taken)) refl) .here)
+
+add-read : tie.Need-add-read Inv-loop μ-loop
+add-read c = search needs
+
+loop-less-2 : tie.Need-loop-less-2 Inv-loop μ-loop
+loop-less-2 c = omega (arith, open-end (c .before .before .before .before .before .before .loop .inv), c .if5 .taken, (open-past _ _ _ _ (c .before .before .before .before .before .before .loop .inv) (c .before .before .before .before .before .if1 .left) (c .before .leaf .ensures (c .if5 .taken)) refl) .here)
+
+loop-again-2 : tie.Need-loop-again-2 Inv-loop μ-loop
+loop-again-2 c = open-past _ _ _ _ (c .before .before .before .before .before .before .loop .inv) (c .before .before .before .before .before .if1 .left) (c .before .leaf .ensures (c .if5 .taken)) refl
+
+sub-header : tie.Need-sub-header Inv-loop μ-loop
+sub-header c = omega (arith, open-end (c .before .before .before .before .before .before .loop .inv))
+
+part-header-start : tie.Need-part-header-start Inv-loop μ-loop
+part-header-start c = omega (arith, open-end (c .before .before .before .before .before .before .loop .inv))
+
+part-header-end : tie.Need-part-header-end Inv-loop μ-loop
+part-header-end c = omega (arith, open-end (c .before .before .before .before .before .before .loop .inv))
+
+header-requires : tie.Need-header-requires Inv-loop μ-loop
+header-requires c κs = search needs
+
+enum-known-tag : tie.Need-enum-known-tag Inv-loop μ-loop
+enum-known-tag c = search needs
+
+enum-told : tie.Need-enum-told Inv-loop μ-loop
+enum-told c = search needs
+
+returns-4 : tie.Need-returns-4 Inv-loop μ-loop
+returns-4 c = λ some base fuel enough. absurd (omega arith)
+
+add-from : tie.Need-add-from Inv-loop μ-loop
+add-from c = omega (arith, c .before .before .before .before .before .before .before .before .before .before .before .before .before .pre, open-end (c .before .before .before .before .before .before .before .before .before .before .before .loop .inv), open-head _ _ _ _ (c .before .before .before .before .before .before .before .before .before .before .before .loop .inv) (c .before .before .before .before .before .before .before .before .before .before .if1 .left) (sym (c .before .before .before .header .ensures) ∙ c .before .tag .given .1))
+
+add-after : tie.Need-add-after Inv-loop μ-loop
+add-after c = omega (arith, c .before .before .before .before .before .before .before .before .before .before .before .before .before .pre, open-end (c .before .before .before .before .before .before .before .before .before .before .before .loop .inv), open-head _ _ _ _ (c .before .before .before .before .before .before .before .before .before .before .before .loop .inv) (c .before .before .before .before .before .before .before .before .before .before .if1 .left) (sym (c .before .before .before .header .ensures) ∙ c .before .tag .given .1))
+
+add-read-2 : tie.Need-add-read-2 Inv-loop μ-loop
+add-read-2 c = search needs
+
+add-top : tie.Need-add-top Inv-loop μ-loop
+add-top c = search needs
+
+mul-ends : tie.Need-mul-ends Inv-loop μ-loop
+mul-ends c = search needs
+
+array-write-ends : tie.Need-array-write-ends Inv-loop μ-loop
+array-write-ends c = search needs
+
+loop-less-3 : tie.Need-loop-less-3 Inv-loop μ-loop
+loop-less-3 c = omega (arith, open-end (c .before .before .before .before .before .before .before .before .before .before .before .before .loop .inv), open-head _ _ _ _ (c .before .before .before .before .before .before .before .before .before .before .before .before .loop .inv) (c .before .before .before .before .before .before .before .before .before .before .before .if1 .left) (sym (c .before .before .before .before .header .ensures) ∙ c .before .before .tag .given .1))
+
+loop-again-3 : tie.Need-loop-again-3 Inv-loop μ-loop
+unfolding constructed
+loop-again-3 c = open-push _ _ _ _ (c .before .before .before .before .before .before .before .before .before .before .before .before .loop .inv) (c .before .before .before .before .before .before .before .before .before .before .before .if1 .left) refl (sym (c .before .before .before .before .header .ensures) ∙ c .before .before .tag .given .1) refl refl (eq-eqb _ _ (c .if6 .taken)) (c .before .before .before .before .before .before .before .before .before .before .if3 .left) (c .before .before .before .before .before .before .before .before .before .if4 .left)
+
+sub-contents-good : tie.Need-sub-contents-good Inv-loop μ-loop
+sub-contents-good c = search needs
+
+part-contents-good-start : tie.Need-part-contents-good-start Inv-loop μ-loop
+part-contents-good-start c = search needs
+
+part-contents-good-end : tie.Need-part-contents-good-end Inv-loop μ-loop
+part-contents-good-end c = omega (arith, open-end (c .before .before .before .before .before .before .before .before .before .before .before .before .loop .inv), open-head _ _ _ _ (c .before .before .before .before .before .before .before .before .before .before .before .before .loop .inv) (c .before .before .before .before .before .before .before .before .before .before .before .if1 .left) (sym (c .before .before .before .before .header .ensures) ∙ c .before .before .tag .given .1))
+
+contents-good-requires : tie.Need-contents-good-requires Inv-loop μ-loop
+contents-good-requires c κs = search needs
+
+returns-5 : tie.Need-returns-5 Inv-loop μ-loop
+returns-5 c = λ some base fuel enough. absurd (omega arith)
+
+loop-less-4 : tie.Need-loop-less-4 Inv-loop μ-loop
+loop-less-4 c = omega (arith, open-end (c .before .before .before .before .before .before .before .before .before .before .before .before .before .before .before .loop .inv), open-head _ _ _ _ (c .before .before .before .before .before .before .before .before .before .before .before .before .before .before .before .loop .inv) (c .before .before .before .before .before .before .before .before .before .before .before .before .before .before .if1 .left) (sym (c .before .before .before .before .before .before .before .header .ensures) ∙ c .before .before .before .before .before .tag .given .1))
+
+loop-again-4 : tie.Need-loop-again-4 Inv-loop μ-loop
+unfolding constructed
+loop-again-4 c = open-leaf _ _ _ _ (c .before .before .before .before .before .before .before .before .before .before .before .before .before .before .before .loop .inv) (c .before .before .before .before .before .before .before .before .before .before .before .before .before .before .if1 .left) (sym (c .before .before .before .before .before .before .before .header .ensures) ∙ c .before .before .before .before .before .tag .given .1) refl refl (ne-eqb _ _ (c .before .before .before .if6 .left)) (sym (c .before .contents-good .ensures) ∙ not-false _ (c .if7 .left)) (c .before .before .before .before .before .before .before .before .before .before .before .before .before .if3 .left) (c .before .before .before .before .before .before .before .before .before .before .before .before .if4 .left)
+
+pub sound-spec : {M : Type 1} → statement M
+sound-spec =
+    tie.close
+    (tie.spec
+    Inv-loop
+    μ-loop
+    loop-holds
+    mul-end
+    array-read-end
+    returns
+    sub-top
+    loop-less
+    loop-again
+    returns-2
+    returns-3
+    sub-leaf
+    part-leaf-start
+    part-leaf-end
+    add-leaf
+    leaf-requires
+    add-i
+    add-read
+    loop-less-2
+    loop-again-2
+    sub-header
+    part-header-start
+    part-header-end
+    header-requires
+    enum-known-tag
+    enum-told
+    returns-4
+    add-from
+    add-after
+    add-read-2
+    add-top
+    mul-ends
+    array-write-ends
+    loop-less-3
+    loop-again-3
+    sub-contents-good
+    part-contents-good-start
+    part-contents-good-end
+    contents-good-requires
+    returns-5
+    loop-less-4
+    loop-again-4)

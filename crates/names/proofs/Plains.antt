@@ -1,0 +1,66 @@
+-- A SET with one attribute, all headers short, whose OID does not end as that of countryName.
+use Prim.Native.Nat.{ℕ, _+_, _-_, _<_, _≤_}
+use mathlib.Core.Path.{_≡_, refl, sym, ap, _∙_}
+use mathlib.Core.Bool.{Bool, true, false, cond}
+use mathlib.Core.List.{List, [], _∷_}
+use native.Mathlib.Omega.{arith}
+use borrow.Author.Tests.{eq-eqb}
+use lib.ListN.{length, getD, take, drop, length-take, length-drop}
+use lib.Seq.{getD-take, getD-drop}
+use Rattle.der.specs.Heading.{identifierGood}
+use Rattle.elements.specs.declared.elements.Element.{Element}
+use Rattle.elements.specs.declared.elements.Found.{Found}
+use Rattle.elements.specs.declared.elements.Found.the-variants.{One, Missing}
+use Rattle.elements.specs.Elements.{foundAt, withTag, foundTagged, onFound, contentsOf}
+use Rattle.elements.specs.Octets.{alike}
+use Rattle.elements.specs.Short.{shortEnd}
+use Rattle.elements.proofs.Likeness.{alike-is, unequal-unlike}
+use Rattle.elements.proofs.Members.{found-within}
+use Rattle.elements.proofs.Shorts.{brief, short-found, short-inside}
+use Rattle.names.specs.declared.Attribute.the-variants.{Other}
+use Rattle.names.specs.declared.Name.the-variants.{Holds}
+use Rattle.names.specs.declared.Seen.{Seen}
+use Rattle.names.specs.Names.{countryName, attributeOf, oneSet, Plain}
+use Rattle.names.proofs.Sets.{attributes-other, attributes-done, set-filled}
+
+-- nothing starts at the end
+at-end : (s : List ℕ) (end : ℕ) → foundAt s end end ≡ Missing
+at-end s end = go (foundAt s end end) refl
+  where
+    go : (f : Found) → foundAt s end end ≡ f → f ≡ Missing
+    go Missing e = refl
+    go (One x) e = absurd (omega (arith, found-within s end end e))
+
+-- an OID that does not end in 6
+unlike : (s : List ℕ) (at end : ℕ) → end ≤ length s → (getD s (end - 1) 0 ≡ 6 → ⊥) → alike (take (end - at) (drop at s)) countryName ≡ false
+unlike s at end h n = unequal-unlike _ _ λ e. n (last e)
+  where
+    last : take (end - at) (drop at s) ≡ countryName → getD s (end - 1) 0 ≡ 6
+    last e =
+        let three : length (take (end - at) (drop at s)) ≡ 3 = ap length e in
+        let wide : end - at ≡ 3 = omega (arith, three, length-take (end - at) (drop at s), length-drop at s) in
+        let place : end - 1 ≡ at + 2 = omega arith in
+        let there : getD (take (end - at) (drop at s)) 2 0 ≡ 6 = ap (λ (l : List ℕ). getD l 2 0) e in
+        rw place (sym (getD-take (end - at) (drop at s) 2 0 (omega arith) ∙ getD-drop at s 2 0) ∙ there)
+
+module _ (s : List ℕ) (at end tag : ℕ) {after value : ℕ} (some : 0 < after) (set : after ≡ shortEnd s at end 0x31) where
+  other :
+      foundAt s (at + 2 + 2) after ≡ One (brief 0x06 (at + 2 + 2) value) → foundAt s value after ≡ One (brief tag value after)
+      → value ≤ length s → (getD s (value - 1) 0 ≡ 6 → ⊥) → attributeOf s (brief 0x30 (at + 2) after) ≡ Other
+  unfolding attributeOf foundTagged withTag onFound contentsOf
+  other h g l n = rw (h, g, eq-eqb after after refl, unlike s (at + 2 + 2 + 2) value l n)
+
+  pub plain-set :
+      after ≡ shortEnd s (at + 2) after 0x30 → 0 < value → value ≡ shortEnd s (at + 4) after 0x06 → (getD s (value - 1) 0 ≡ 6 → ⊥)
+      → identifierGood tag ≡ true → after ≡ shortEnd s value after tag → Plain s at end after
+  unfolding identifierGood
+  plain-set attribute one oid n good last =
+      let four : at + 4 ≡ at + 2 + 2 = omega arith in
+      let first = short-found s (at + 2) after 0x30 refl some attribute in
+      let is = other (rw (← four) (short-found s (at + 4) after 0x06 refl one oid)) (short-found s value after tag good some last) (short-inside s (at + 4) after 0x06 oid one) n in
+      record {
+        e = brief 0x31 at after;
+        found = short-found s at end 0x31 refl some set;
+        ends = refl;
+        holds = λ seen. set-filled s (brief 0x31 at after) seen refl first ∙ attributes-other s _ _ seen is ∙ attributes-done s after after seen (at-end s after);
+      }
