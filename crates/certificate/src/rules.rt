@@ -11,16 +11,15 @@ use elements::element_at;
 use elements::same;
 use elements::whole;
 use extensions::Extension;
-use extensions::doubled;
 use extensions::extension_in;
-use extensions::some_critical;
 use names::Letters;
 use names::letters_of;
 use times::Time;
 use times::in_order;
 use times::time_of;
+ghost use mathlib.Core.Bool.{true};
 ghost use mathlib.Core.Path.{_≡_};
-ghost use Rattle.extensions.specs.Extensions.{Placed};
+ghost use Rattle.extensions.specs.Extensions.{Placed, criticalOf, doubledOf};
 ghost use Rattle.refusal.specs.Rules.{firstBroken};
 ghost use Rattle.certificate.specs.Rules.{bothKeys, criticalWith, keyGood, plain, readingsOf, rule2, rule3, rule4, rule8, rule9, rule10, rule12, rule13, rules2to8, rules9to14, sameTwo};
 
@@ -60,7 +59,8 @@ pub(crate) fn readings_of(item: &[u8], l: Layout, slots: [usize; 23]) -> Reading
 }
 
 // The first of rules 2 to 8 that is broken, else 0.
-pub(crate) fn rules_2_to_8(item: &[u8], l: Layout, r: Readings) -> u64
+pub(crate) fn rules_2_to_8(item: &[u8], l: Layout, r: Readings, doubled: bool) -> u64
+    requires { ⌜ doubled ≡ doubledOf (now item) (l .extensions) ⌝ }
     ensures { λ rule. ⌜ rule ≡ firstBroken 2 (rules2to8 (now (item .entry)) l r) ⌝ }
 {
     if !version_good(item, l) {
@@ -85,7 +85,7 @@ pub(crate) fn rules_2_to_8(item: &[u8], l: Layout, r: Readings) -> u64
     if !in_order(start, finish) {
         return 7;
     }
-    if !extensions_once(item, l) {
+    if !extensions_once(item, l, doubled) {
         return 8;
     }
     0
@@ -96,10 +96,11 @@ pub(crate) fn rules_9_to_14(
     item: &[u8],
     extensions: Element,
     slots: [usize; 23],
+    critical: bool,
     r: Readings,
     role: u64,
 ) -> u64
-    requires { ⌜ Placed (now item) extensions slots ⌝ }
+    requires { ⌜ (Placed (now item) extensions slots) × (critical ≡ criticalOf (now item) extensions true) ⌝ }
     ensures { λ rule. ⌜ rule ≡ firstBroken 9 (rules9to14 (now (item .entry)) extensions r role) ⌝ }
 {
     if !usage_good(item, extensions, slots, role) {
@@ -119,7 +120,7 @@ pub(crate) fn rules_9_to_14(
     if !documents_good(item, extensions, slots, role) {
         return 13;
     }
-    if some_critical(item, extensions, true) {
+    if critical {
         return 14;
     }
     0
@@ -185,14 +186,15 @@ fn same_two(one: Letters, other: Letters) -> bool
 }
 
 // 8: at least one extension, and no extension OID stands twice.
-fn extensions_once(item: &[u8], l: Layout) -> bool
+fn extensions_once(item: &[u8], l: Layout, doubled: bool) -> bool
+    requires { ⌜ doubled ≡ doubledOf (now item) (l .extensions) ⌝ }
     ensures { λ r. ⌜ r ≡ rule8 (now (item .entry)) l ⌝ }
 {
     let extensions = l.extensions;
     let Found::One(_) = element_at(item, extensions.contents, extensions.end) else {
         return false;
     };
-    !doubled(item, extensions)
+    !doubled
 }
 
 // 9: keyUsage critical, its contents by role.

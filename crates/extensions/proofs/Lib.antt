@@ -1,4 +1,6 @@
 pub mod Oids
 pub mod Places
 pub mod Slots
+pub mod Strangers
+pub mod Passing
 pub mod Theorems

@@ -1,6 +1,6 @@
 -- The slots of OIDs, and the table of places: a slot that is the end is open, and its place is the one among the extensions left.
 use mathlib.Core.Path.{_≡_, refl, sym, ap, _∙_}
-use mathlib.Core.Bool.{Bool, true, false, cond}
+use mathlib.Core.Bool.{Bool, true, false, cond, _&&_, _||_, not}
 use mathlib.Core.List.{List, [], _∷_}
 use Prim.Native.Nat.{ℕ, _+_, _-_, _<_, _≤_}
 use native.Mathlib.Omega.{arith}
@@ -10,11 +10,13 @@ use lib.ListN.{length, getD, set, replicate, getD-replicate, length-set}
 use lib.Seq.{getD-set-same, getD-set-other}
 use Rattle.elements.specs.declared.elements.Element.{Element}
 use Rattle.elements.specs.declared.elements.Found.the-variants.{One, Missing}
+use Rattle.extensions.specs.declared.Extension.{Extension}
+use Rattle.extensions.specs.declared.Extension.the-variants.{Is}
 use Rattle.elements.specs.Octets.{alike}
 use Rattle.elements.specs.Elements.{foundAt, membersOf}
 use Rattle.elements.proofs.Likeness.{alike-is, is-alike, unequal-unlike}
 use Rattle.elements.proofs.Members.{found-within, members-none, members-more}
-use Rattle.extensions.specs.Extensions.{extensionOf, placeIn, oidOf, Slotted}
+use Rattle.extensions.specs.Extensions.{extensionOf, hasOid, placeIn, oidOf, usual, refusedCritical, Slotted}
 
 -- a test of two numbers is any other that says the same
 same-test : (m n : ℕ) (x : Bool) → (m ≡ n → x ≡ true) → (x ≡ true → m ≡ n) → eqb m n ≡ x
@@ -83,6 +85,12 @@ module _ (c : List ℕ) (k : ℕ) (l : k < 23) where
       oid-by c k e (λ m f. n (ap length f))
       (λ m f. let z : true ≡ false = sym (is-alike _ _ f) ∙ h in let y : _≡_ {A = ℕ} 0 1 = cc in absurd (omega arith))
 
+-- whether an extension is critical that may not be, by its slot
+module _ {s : List ℕ} {oid value : Element} {critical : Bool} {slot : ℕ} (h : Slotted s (Is oid critical value) slot) where
+  pub harsh-slot : refusedCritical s true (Is oid critical value) ≡ (critical && not (eqb slot 1 || eqb slot 5))
+  unfolding refusedCritical usual hasOid oidOf
+  harsh-slot = rw (← h .each 1 (omega arith), ← h .each 5 (omega arith))
+
 -- the table while the extensions from `at` on are left
 pub record Open (s : List ℕ) (from end : ℕ) (slots : List ℕ) (at : ℕ) : Type 0 where
   pub long : length slots ≡ 23
@@ -105,11 +113,11 @@ module _ {s : List ℕ} {from end at : ℕ} {slots : List ℕ} (o : Open s from 
   module _ {e : Element} {slot : ℕ} (f : foundAt s at end ≡ One e) (h : Slotted s (extensionOf s e) slot) where
     next : (k : ℕ) → k < 23 → (slot ≡ k → ⊥) → placeIn s (oidOf k) (membersOf s from end) end ≡ cond (eqb (getD slots k 0) end) (placeIn s (oidOf k) (membersOf s (e .end) end) end) (getD slots k 0)
     unfolding placeIn
-    next k l n = o .each k l ∙ rw (members-more s at end f, ← h k l, ne-eqb slot k n)
+    next k l n = o .each k l ∙ rw (members-more s at end f, ← h .each k l, ne-eqb slot k n)
 
     there : (k : ℕ) → k < 23 → slot ≡ k → placeIn s (oidOf k) (membersOf s from end) end ≡ cond (eqb (getD slots k 0) end) at (getD slots k 0)
     unfolding placeIn
-    there k l q = o .each k l ∙ rw (members-more s at end f, ← h k l, eq-eqb slot k q, found-within s at end f .0)
+    there k l q = o .each k l ∙ rw (members-more s at end f, ← h .each k l, eq-eqb slot k q, found-within s at end f .0)
 
     pub open-set : slot < 23 → getD slots slot 0 ≡ end → Open s from end (set slots slot at) (e .end)
     open-set room g = record { long = rw length-set (o .long); each = λ k l. go k l (eqb slot k) refl }

@@ -10,6 +10,7 @@ use Rattle.elements.specs.declared.elements.Found.{Found}
 use Rattle.elements.specs.declared.elements.Found.the-variants.{One}
 use Rattle.extensions.specs.declared.Extension.{Extension}
 use Rattle.extensions.specs.declared.Extension.the-variants.{Is, Absent}
+use Rattle.extensions.specs.declared.Overview.{Overview}
 use Rattle.elements.specs.Octets.{alike}
 use Rattle.elements.specs.Elements.{foundAt, foundTagged, withTag, onFound, inside, contentsOf}
 
@@ -64,9 +65,10 @@ unfoldable pub oidOf : ℕ → List ℕ
 oidOf k =
     cond (ltb k 22) (0x55 ∷ 0x1D ∷ (k + 14) ∷ []) (0x67 ∷ 0x81 ∷ 0x08 ∷ 0x01 ∷ 0x01 ∷ 0x06 ∷ 0x02 ∷ [])
 
--- an extension has the slot of its OID
-abbrev pub Slotted : List ℕ → Extension → ℕ → Type 0
-Slotted s extension slot = (k : ℕ) → k < 23 → eqb slot k ≡ hasOid s (oidOf k) extension
+-- an extension has the slot of its OID; what is none has slot 24
+pub record Slotted (s : List ℕ) (extension : Extension) (slot : ℕ) : Type 0 where
+  pub there : present extension ≡ not (eqb slot 24)
+  pub each : (k : ℕ) → k < 23 → eqb slot k ≡ hasOid s (oidOf k) extension
 
 -- each slot holds where the first extension with its OID starts, or the end where there is none
 pub record Placed (s : List ℕ) (extensions : Element) (slots : List ℕ) : Type 0 where
@@ -110,3 +112,10 @@ someCritical s allow (e ∷ rest) = cond (refusedCritical s allow (extensionOf s
 
 unfoldable pub criticalOf : List ℕ → Element → Bool → Bool
 criticalOf s extensions allow = someCritical s allow (inside s extensions)
+
+-- what one pass over the extensions tells
+pub record Viewed (s : List ℕ) (extensions : Element) (o : Overview) : Type 0 where
+  pub shaped : o .shaped ≡ extensionsShaped s extensions
+  pub critical : o .critical ≡ criticalOf s extensions true
+  pub doubled : o .doubled ≡ doubledOf s extensions
+  pub placed : Placed s extensions (o .slots)

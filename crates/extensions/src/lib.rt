@@ -6,10 +6,11 @@ use elements::element_at;
 use elements::element_tagged;
 use elements::same;
 ghost use mathlib.Core.Path.{_≡_};
+ghost use mathlib.Core.Bool.{true};
 ghost use mathlib.Core.List.{[], _∷_};
 ghost use Prim.Native.Nat.{ℕ, _<_};
 ghost use lib.Dec.{eqb};
-ghost use Rattle.extensions.specs.Extensions.{holdingOf, extensionOf, extensionsShaped, lookupOf, doubledOf, hasOid, placeIn, sameOids, refusedCritical, criticalOf, oidOf, Slotted, Placed, extensionAt};
+ghost use Rattle.extensions.specs.Extensions.{holdingOf, extensionOf, extensionsShaped, lookupOf, doubledOf, hasOid, placeIn, sameOids, refusedCritical, criticalOf, oidOf, Slotted, Viewed, extensionAt};
 ghost use Rattle.elements.specs.Elements.{membersOf};
 ghost use Rattle.elements.specs.Octets.{alike};
 
@@ -104,33 +105,85 @@ pub fn lookup(item: &[u8], extensions: Element, oid: &[u8]) -> Extension
     extension_of(item, e)
 }
 
-// Where the first extension of each slot's OID starts, or the end where there is none: 2.5.29.14 to 2.5.29.35 in slots
-// 0 to 21, the document type list in slot 22.
-pub struct Offsets {
+// What one pass over the extensions tells: that each member is one; that one beside keyUsage and basicConstraints is
+// critical; that an OID stands twice; where the first extension of each slot's OID starts, or the end where there is none:
+// 2.5.29.14 to 2.5.29.35 in slots 0 to 21, the document type list in slot 22.
+pub struct Overview {
+    pub shaped: bool,
+    pub critical: bool,
+    pub doubled: bool,
     pub slots: [usize; 23],
 }
 
-pub fn all_places(item: &[u8], extensions: Element) -> Offsets
-    ensures { λ r. ⌜ Placed (now (item .entry)) extensions (r .slots) ⌝ }
+pub fn one_pass(item: &[u8], extensions: Element) -> Overview
+    ensures { λ r. ⌜ Viewed (now (item .entry)) extensions r ⌝ }
 {
     let end = extensions.end;
+    let mut shaped = extensions.tag == 0x30;
+    let mut critical = false;
+    let mut repeated = false;
+    let mut strange = false;
+    let mut unsure = false;
     let mut slots = [end; 23];
     let mut at = extensions.contents;
     loop {
         let Found::One(e) = element_at(item, at, end) else {
-            return Offsets { slots };
+            break;
         };
-        let slot = slot_of(item, extension_of(item, e));
+        let own = extension_of(item, e);
+        let slot = slot_of(item, own);
+        shaped = shaped & (slot != 24);
+        critical = critical | unusual(item, own, slot);
         if slot < 23 {
             if slots[slot] == end {
                 slots[slot] = at;
+            } else {
+                repeated = true;
+            }
+        } else {
+            if slot != 24 {
+                unsure = unsure | strange;
+                strange = true;
             }
         }
         at = e.end;
     }
+    if !repeated {
+        if unsure {
+            repeated = doubled(item, extensions);
+        }
+    }
+    Overview {
+        shaped,
+        critical,
+        doubled: repeated,
+        slots,
+    }
 }
 
-// The slot of an extension's OID, 23 for one that has no slot.
+// Whether an extension is critical and neither keyUsage nor basicConstraints, by its slot.
+fn unusual(item: &[u8], extension: Extension, slot: usize) -> bool
+    requires { ⌜ Slotted (now item) extension slot ⌝ }
+    ensures { λ r. ⌜ r ≡ refusedCritical (now (item .entry)) true extension ⌝ }
+{
+    let Extension::Is {
+        oid: _,
+        critical,
+        value: _,
+    } = extension
+    else {
+        return false;
+    };
+    if slot == 1 {
+        return false;
+    }
+    if slot == 5 {
+        return false;
+    }
+    critical
+}
+
+// The slot of an extension's OID, 23 for one that has no slot, 24 for what is no extension.
 fn slot_of(item: &[u8], extension: Extension) -> usize
     ensures { λ r. ⌜ Slotted (now (item .entry)) extension r ⌝ }
 {
@@ -140,7 +193,7 @@ fn slot_of(item: &[u8], extension: Extension) -> usize
         value: _,
     } = extension
     else {
-        return 23;
+        return 24;
     };
     let own = contents(item, oid);
     if own.len() == 3 {
@@ -154,7 +207,7 @@ fn slot_of(item: &[u8], extension: Extension) -> usize
 
 // The slot of an OID of three octets.
 fn slot_by(a: u8, b: u8, c: u8) -> usize
-    ensures { λ r. ⌜ ((k : ℕ) → k < 23 → eqb r k ≡ alike (a ∷ b ∷ c ∷ []) (oidOf k)) ⌝ }
+    ensures { λ r. ⌜ (r < 24) × ((k : ℕ) → k < 23 → eqb r k ≡ alike (a ∷ b ∷ c ∷ []) (oidOf k)) ⌝ }
 {
     if a != 0x55 {
         return 23;

@@ -43,16 +43,13 @@ returns-5 : tie.Need-returns-5
 unfolding rules9to14 rule11 rule14
 returns-5 c = sym (broken-later _ _ (sym (c .before .before .before .before .before .before .before .before .before .usage-good .ensures) ∙ not-false _ (c .before .before .before .before .before .before .before .before .if1 .left)) ∙ broken-later _ _ (sym (c .before .before .before .before .before .before .before .constraints-good .ensures) ∙ not-false _ (c .before .before .before .before .before .before .if2 .left)) ∙ broken-later _ _ (sym (c .before .before .before .before .before .keys-good .ensures) ∙ not-false _ (c .before .before .before .before .if3 .left)) ∙ broken-later _ _ (sym (c .before .before .before .four-plain .ensures) ∙ not-false _ (c .before .before .if4 .left)) ∙ broken-here _ _ (sym (c .before .documents-good .ensures) ∙ not-true _ (c .if5 .taken)))
 
-some-critical-requires : tie.Need-some-critical-requires
-some-critical-requires c κs = search needs
-
 returns-6 : tie.Need-returns-6
 unfolding rules9to14 rule11 rule14
-returns-6 c = sym (broken-later _ _ (sym (c .before .before .before .before .before .before .before .before .before .before .before .usage-good .ensures) ∙ not-false _ (c .before .before .before .before .before .before .before .before .before .before .if1 .left)) ∙ broken-later _ _ (sym (c .before .before .before .before .before .before .before .before .before .constraints-good .ensures) ∙ not-false _ (c .before .before .before .before .before .before .before .before .if2 .left)) ∙ broken-later _ _ (sym (c .before .before .before .before .before .before .before .keys-good .ensures) ∙ not-false _ (c .before .before .before .before .before .before .if3 .left)) ∙ broken-later _ _ (sym (c .before .before .before .before .before .four-plain .ensures) ∙ not-false _ (c .before .before .before .before .if4 .left)) ∙ broken-later _ _ (sym (c .before .before .before .documents-good .ensures) ∙ not-false _ (c .before .before .if5 .left)) ∙ broken-here _ _ (ap not (sym (c .before .some-critical .ensures) ∙ c .if6 .taken)))
+returns-6 c = sym (broken-later _ _ (sym (c .before .before .before .before .before .before .before .before .before .before .usage-good .ensures) ∙ not-false _ (c .before .before .before .before .before .before .before .before .before .if1 .left)) ∙ broken-later _ _ (sym (c .before .before .before .before .before .before .before .before .constraints-good .ensures) ∙ not-false _ (c .before .before .before .before .before .before .before .if2 .left)) ∙ broken-later _ _ (sym (c .before .before .before .before .before .before .keys-good .ensures) ∙ not-false _ (c .before .before .before .before .before .if3 .left)) ∙ broken-later _ _ (sym (c .before .before .before .before .four-plain .ensures) ∙ not-false _ (c .before .before .before .if4 .left)) ∙ broken-later _ _ (sym (c .before .before .documents-good .ensures) ∙ not-false _ (c .before .if5 .left)) ∙ broken-here _ _ (ap not (sym (c .before .before .before .before .before .before .before .before .before .before .before .before .pre .1) ∙ c .if6 .taken)))
 
 returns-7 : tie.Need-returns-7
 unfolding rules9to14 rule11 rule14
-returns-7 c = sym (broken-later _ _ (sym (c .before .before .before .before .before .before .before .before .before .before .before .usage-good .ensures) ∙ not-false _ (c .before .before .before .before .before .before .before .before .before .before .if1 .left)) ∙ broken-later _ _ (sym (c .before .before .before .before .before .before .before .before .before .constraints-good .ensures) ∙ not-false _ (c .before .before .before .before .before .before .before .before .if2 .left)) ∙ broken-later _ _ (sym (c .before .before .before .before .before .before .before .keys-good .ensures) ∙ not-false _ (c .before .before .before .before .before .before .if3 .left)) ∙ broken-later _ _ (sym (c .before .before .before .before .before .four-plain .ensures) ∙ not-false _ (c .before .before .before .before .if4 .left)) ∙ broken-later _ _ (sym (c .before .before .before .documents-good .ensures) ∙ not-false _ (c .before .before .if5 .left)) ∙ broken-later _ _ (ap not (sym (c .before .some-critical .ensures) ∙ c .if6 .left)) ∙ none-broken _)
+returns-7 c = sym (broken-later _ _ (sym (c .before .before .before .before .before .before .before .before .before .before .usage-good .ensures) ∙ not-false _ (c .before .before .before .before .before .before .before .before .before .if1 .left)) ∙ broken-later _ _ (sym (c .before .before .before .before .before .before .before .before .constraints-good .ensures) ∙ not-false _ (c .before .before .before .before .before .before .before .if2 .left)) ∙ broken-later _ _ (sym (c .before .before .before .before .before .before .keys-good .ensures) ∙ not-false _ (c .before .before .before .before .before .if3 .left)) ∙ broken-later _ _ (sym (c .before .before .before .before .four-plain .ensures) ∙ not-false _ (c .before .before .before .if4 .left)) ∙ broken-later _ _ (sym (c .before .before .documents-good .ensures) ∙ not-false _ (c .before .if5 .left)) ∙ broken-later _ _ (ap not (sym (c .before .before .before .before .before .before .before .before .before .before .before .before .pre .1) ∙ c .if6 .left)) ∙ none-broken _)
 
 pub rules-9-to-14-spec : {M : Type 1} → statement M
 rules-9-to-14-spec =
@@ -68,6 +65,5 @@ rules-9-to-14-spec =
     returns-4
     documents-good-requires
     returns-5
-    some-critical-requires
     returns-6
     returns-7)
