@@ -82,7 +82,7 @@ fn profile(item: &[u8], role: u64) -> Judged
     if early != 0 {
         return Judged::Refused(Refusal::Profile { rule: early });
     }
-    let late = rules_9_to_14(item, extensions, slots, seen.critical, r, role);
+    let late = rules_9_to_14(item, slots, seen.critical, r, role);
     if late != 0 {
         return Judged::Refused(Refusal::Profile { rule: late });
     }

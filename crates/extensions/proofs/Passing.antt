@@ -1,29 +1,30 @@
 -- What the pass knows where the extensions from `at` on are left.
 use mathlib.Core.Path.{_≡_, refl, sym, ap, _∙_}
 use mathlib.Core.Bool.{Bool, true, false, cond, _&&_, _||_, not}
-use mathlib.Core.List.{List, [], _∷_}
+use mathlib.Core.List.{List}
 use Prim.Native.Nat.{ℕ, _<_, _≤_}
 use native.Mathlib.Omega.{arith}
 use borrow.Author.Tests.{eq-eqb}
 use lib.Dec.{eqb}
-use lib.ListN.{length, getD, set, replicate}
+use lib.ListN.{getD, set, replicate}
 use Rattle.elements.specs.declared.elements.Element.{Element}
 use Rattle.elements.specs.declared.elements.Found.the-variants.{One, Missing}
 use Rattle.extensions.specs.declared.Extension.{Extension}
 use Rattle.extensions.specs.declared.Extension.the-variants.{Is, Absent}
+use Rattle.extensions.specs.declared.Held.{Held}
 use Rattle.elements.specs.Elements.{foundAt, membersOf, inside}
 use Rattle.elements.proofs.Members.{members-none, members-more}
-use Rattle.extensions.specs.Extensions.{extensionOf, present, allShaped, extensionsShaped, doubledOf, refusedCritical, someCritical, criticalOf, Slotted, Placed}
-use Rattle.extensions.proofs.Slots.{Open, open-start, open-none, open-set, open-left}
+use Rattle.extensions.specs.Extensions.{extensionOf, present, allShaped, extensionsShaped, doubledOf, refusedCritical, someCritical, criticalOf, oidOf, heldOf, lookupOf, Slotted, Placed}
+use Rattle.extensions.proofs.Slots.{has-there, held-there, Open, open-start, open-none, open-set, open-left}
 use Rattle.extensions.proofs.Strangers.{Apart, apart-start, apart-none, apart-again, apart-new, apart-stranger, apart-absent}
 
-pub record Far (s : List ℕ) (x : Element) (shaped critical twice strange unsure : Bool) (slots : List ℕ) (at : ℕ) : Type 0 where
+pub record Far (s : List ℕ) (x : Element) (shaped critical twice strange unsure : Bool) (slots : List Held) (at : ℕ) : Type 0 where
   pub shape : extensionsShaped s x ≡ (shaped && allShaped s (membersOf s at (x .end)))
   pub harsh : criticalOf s x true ≡ (critical || someCritical s true (membersOf s at (x .end)))
   pub table : Open s (x .contents) (x .end) slots at
   pub apart : Apart s (x .contents) (x .end) slots twice strange unsure at
 
-pub far-start : (s : List ℕ) (x : Element) → Far s x (eqb (x .tag) 0x30) false false false false (replicate 23 (x .end)) (x .contents)
+pub far-start : (s : List ℕ) (x : Element) → Far s x (eqb (x .tag) 0x30) false false false false (replicate 23 (heldOf Absent)) (x .contents)
 unfolding extensionsShaped criticalOf inside
 far-start s x =
     record {
@@ -37,7 +38,7 @@ far-start s x =
     go true = refl
     go false = refl
 
-module _ {s : List ℕ} {x : Element} {shaped critical twice strange unsure : Bool} {slots : List ℕ} {at : ℕ} (p : Far s x shaped critical twice strange unsure slots at) where
+module _ {s : List ℕ} {x : Element} {shaped critical twice strange unsure : Bool} {slots : List Held} {at : ℕ} (p : Far s x shaped critical twice strange unsure slots at) where
   module _ (f : foundAt s at (x .end) ≡ Missing) where
     pub end-shape : shaped ≡ extensionsShaped s x
     unfolding allShaped
@@ -56,7 +57,7 @@ module _ {s : List ℕ} {x : Element} {shaped critical twice strange unsure : Bo
         go false = refl
 
     pub end-placed : Placed s x slots
-    unfolding inside
+    unfolding lookupOf inside
     end-placed = record { each = open-none (p .table) f }
 
     pub end-apart : twice ≡ false → unsure ≡ false → twice ≡ doubledOf s x
@@ -86,16 +87,19 @@ module _ {s : List ℕ} {x : Element} {shaped critical twice strange unsure : Bo
         go false true c = refl
         go false false c = refl
 
-    abbrev Next : Bool → Bool → Bool → List ℕ → Type 0
+    abbrev Next : Bool → Bool → Bool → List Held → Type 0
     Next twice strange unsure slots = Far s x (shaped && not (eqb slot 24)) (critical || told) twice strange unsure slots (e .end)
 
-    far-next : {after : List ℕ} {doubled stranger doubt : Bool} → Open s (x .contents) (x .end) after (e .end) → Apart s (x .contents) (x .end) after doubled stranger doubt (e .end) → Next doubled stranger doubt after
+    far-next : {after : List Held} {doubled stranger doubt : Bool} → Open s (x .contents) (x .end) after (e .end) → Apart s (x .contents) (x .end) after doubled stranger doubt (e .end) → Next doubled stranger doubt after
     far-next o a = record { shape = shape-next; harsh = harsh-next; table = o; apart = a }
 
-    pub far-new : slot < 23 → getD slots slot 0 ≡ x .end → Next twice strange unsure (set slots slot at)
-    far-new l g = far-next (open-set (p .table) f h l g) (apart-new (p .apart) f h (p .table .long) l g)
+    pub far-new : {held : Held} → held ≡ heldOf (extensionOf s e) → slot < 23 → getD slots slot (heldOf Absent) .there ≡ false → Next twice strange unsure (set slots slot held)
+    far-new {held} new l g = far-next (open-set (p .table) f h new l g) (apart-new (p .apart) f h held there (p .table .long) l g)
+      where
+        there : held .there ≡ true
+        there = ap (λ (f : Held). f .there) new ∙ held-there (extensionOf s e) (has-there s (oidOf slot) (extensionOf s e) (sym (h .each slot l) ∙ eq-eqb slot slot refl))
 
-    pub far-again : slot < 23 → (getD slots slot 0 ≡ x .end → ⊥) → Next true strange unsure slots
+    pub far-again : slot < 23 → getD slots slot (heldOf Absent) .there ≡ true → Next true strange unsure slots
     far-again l n = far-next (open-left (p .table) f h (λ r. n)) (apart-again (p .apart) f h l n)
 
     pub far-stranger : 23 ≤ slot → Next twice true (unsure || strange) slots

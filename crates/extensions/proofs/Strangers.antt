@@ -1,6 +1,6 @@
 -- No OID stands twice among the extensions that were met, as far as the slots and the ones without a slot tell.
 use mathlib.Core.Path.{_≡_, refl, sym, ap, _∙_}
-use mathlib.Core.Bool.{Bool, true, false, cond, _||_, not}
+use mathlib.Core.Bool.{Bool, true, false, cond, _||_}
 use mathlib.Core.List.{List, [], _∷_}
 use Prim.Native.Nat.{ℕ, _<_, _≤_}
 use native.Mathlib.Omega.{arith}
@@ -12,11 +12,12 @@ use Rattle.elements.specs.declared.elements.Element.{Element}
 use Rattle.elements.specs.declared.elements.Found.the-variants.{One, Missing}
 use Rattle.extensions.specs.declared.Extension.{Extension}
 use Rattle.extensions.specs.declared.Extension.the-variants.{Is, Absent}
+use Rattle.extensions.specs.declared.Held.{Held}
 use Rattle.elements.specs.Octets.{alike}
 use Rattle.elements.specs.Elements.{foundAt, membersOf, contentsOf}
 use Rattle.elements.proofs.Likeness.{alike-is, is-alike, unequal-unlike}
-use Rattle.elements.proofs.Members.{found-within, members-none, members-more}
-use Rattle.extensions.specs.Extensions.{extensionOf, present, hasOid, sameOids, standsIn, doubledIn, oidOf, Slotted}
+use Rattle.elements.proofs.Members.{members-none, members-more}
+use Rattle.extensions.specs.Extensions.{extensionOf, hasOid, sameOids, standsIn, doubledIn, oidOf, heldOf, Slotted}
 
 -- the OIDs that were met, as a test; whether an extension has one of them, and those with its own
 module _ (s : List ℕ) (seen : List ℕ → Bool) where
@@ -109,27 +110,27 @@ module _ (s : List ℕ) (seen : List ℕ → Bool) where
 
 -- The OIDs that were met before `at`. The slots tell which of theirs were met; where no stranger was, no other was. While
 -- nothing was met twice and at most one stranger, what is left decides.
-pub record Apart (s : List ℕ) (from end : ℕ) (slots : List ℕ) (twice strange unsure : Bool) (at : ℕ) : Type 0 where
+pub record Apart (s : List ℕ) (from end : ℕ) (slots : List Held) (twice strange unsure : Bool) (at : ℕ) : Type 0 where
   pub seen : List ℕ → Bool
-  pub filled : (k : ℕ) → k < 23 → seen (oidOf k) ≡ not (eqb (getD slots k 0) end)
+  pub filled : (k : ℕ) → k < 23 → seen (oidOf k) ≡ getD slots k (heldOf Absent) .there
   pub others : strange ≡ false → (o : List ℕ) → ((k : ℕ) → k < 23 → o ≡ oidOf k → ⊥) → seen o ≡ false
   pub sound : left s seen (membersOf s at end) ≡ true → doubledIn s (membersOf s from end) ≡ true
   pub told : twice ≡ true → doubledIn s (membersOf s from end) ≡ true
   pub whole : twice ≡ false → unsure ≡ false → doubledIn s (membersOf s from end) ≡ left s seen (membersOf s at end)
 
-pub apart-start : (s : List ℕ) (from end : ℕ) → Apart s from end (replicate 23 end) false false false from
-unfolding left
+pub apart-start : (s : List ℕ) (from end : ℕ) → Apart s from end (replicate 23 (heldOf Absent)) false false false from
+unfolding left heldOf
 apart-start s from end =
     record {
       seen = λ o. false;
-      filled = λ k l. rw (getD-replicate 23 k end 0 l, eq-eqb end end refl);
+      filled = λ k l. rw (getD-replicate 23 k (heldOf Absent) (heldOf Absent) l);
       others = λ t o n. refl;
       sound = λ t. rw (none-known s (membersOf s from end)) at t;
       told = λ t. let y : _≡_ {A = ℕ} 0 1 = cc in absurd (omega arith);
       whole = λ t u. rw (none-known s (membersOf s from end));
     }
 
-module _ {s : List ℕ} {from end at : ℕ} {slots : List ℕ} {twice strange unsure : Bool} (a : Apart s from end slots twice strange unsure at) where
+module _ {s : List ℕ} {from end at : ℕ} {slots : List Held} {twice strange unsure : Bool} (a : Apart s from end slots twice strange unsure at) where
   pub apart-none : foundAt s at end ≡ Missing → twice ≡ false → unsure ≡ false → doubledIn s (membersOf s from end) ≡ false
   unfolding left someKnown doubledIn
   apart-none h t u = a .whole t u ∙ rw (members-none s at end h)
@@ -138,10 +139,10 @@ module _ {s : List ℕ} {from end at : ℕ} {slots : List ℕ} {twice strange un
     own : slot < 23 → hasOid s (oidOf slot) (extensionOf s e) ≡ true
     own l = sym (h .each slot l) ∙ eq-eqb slot slot refl
 
-    known-slot : slot < 23 → known s (a .seen) (extensionOf s e) ≡ not (eqb (getD slots slot 0) end)
+    known-slot : slot < 23 → known s (a .seen) (extensionOf s e) ≡ getD slots slot (heldOf Absent) .there
     known-slot l = known-oid s (a .seen) (oidOf slot) (extensionOf s e) (own l) ∙ a .filled slot l
 
-    kept : (k : ℕ) → k < 23 → (slot ≡ k → ⊥) → also s (a .seen) (extensionOf s e) (oidOf k) ≡ not (eqb (getD slots k 0) end)
+    kept : (k : ℕ) → k < 23 → (slot ≡ k → ⊥) → also s (a .seen) (extensionOf s e) (oidOf k) ≡ getD slots k (heldOf Absent) .there
     kept k l n = also-other s (a .seen) (oidOf k) (extensionOf s e) (sym (h .each k l) ∙ ne-eqb slot k n) ∙ a .filled k l
 
     step : left s (a .seen) (membersOf s at end) ≡ (known s (a .seen) (extensionOf s e) || left s (also s (a .seen) (extensionOf s e)) (membersOf s (e .end) end))
@@ -158,8 +159,8 @@ module _ {s : List ℕ} {from end at : ℕ} {slots : List ℕ} {twice strange un
     whole-next : known s (a .seen) (extensionOf s e) ≡ false → twice ≡ false → unsure ≡ false → doubledIn s (membersOf s from end) ≡ left s (also s (a .seen) (extensionOf s e)) (membersOf s (e .end) end)
     whole-next n t u = a .whole t u ∙ step ∙ rw n
 
-    pub apart-new : length slots ≡ 23 → slot < 23 → getD slots slot 0 ≡ end → Apart s from end (set slots slot at) twice strange unsure (e .end)
-    apart-new long l g =
+    pub apart-new : (held : Held) → held .there ≡ true → length slots ≡ 23 → slot < 23 → getD slots slot (heldOf Absent) .there ≡ false → Apart s from end (set slots slot held) twice strange unsure (e .end)
+    apart-new held new long l g =
         record {
           seen = also s (a .seen) (extensionOf s e);
           filled = λ k room. go k room (eqb slot k) refl;
@@ -167,20 +168,19 @@ module _ {s : List ℕ} {from end at : ℕ} {slots : List ℕ} {twice strange un
               also-other s (a .seen) o (extensionOf s e) (other-oid s (a .seen) o (extensionOf s e) (oidOf slot) (own l) (n slot l)) ∙ a .others t o n;
           sound = sound-next;
           told = a .told;
-          whole = whole-next (known-slot l ∙ rw (eq-eqb (getD slots slot 0) end g));
+          whole = whole-next (known-slot l ∙ g);
         }
       where
-        here : also s (a .seen) (extensionOf s e) (oidOf slot) ≡ not (eqb (getD (set slots slot at) slot 0) end)
+        here : also s (a .seen) (extensionOf s e) (oidOf slot) ≡ getD (set slots slot held) slot (heldOf Absent) .there
         here =
             let fits : slot < length slots = omega arith in
-            rw (getD-set-same slots slot at 0 fits, ne-eqb at end (λ (q : at ≡ end). omega (arith, found-within s at end f)))
-            (also-oid s (a .seen) (oidOf slot) (extensionOf s e) (own l))
+            rw (getD-set-same slots slot held (heldOf Absent) fits) (also-oid s (a .seen) (oidOf slot) (extensionOf s e) (own l) ∙ sym new)
 
-        go : (k : ℕ) → k < 23 → (t : Bool) → eqb slot k ≡ t → also s (a .seen) (extensionOf s e) (oidOf k) ≡ not (eqb (getD (set slots slot at) k 0) end)
+        go : (k : ℕ) → k < 23 → (t : Bool) → eqb slot k ≡ t → also s (a .seen) (extensionOf s e) (oidOf k) ≡ getD (set slots slot held) k (heldOf Absent) .there
         go k room true q = rw (sym (eqb-true slot k q)) here
-        go k room false q = rw (getD-set-other slots slot k at 0 (λ w. eqb-false slot k q (sym w))) (kept k room (eqb-false slot k q))
+        go k room false q = rw (getD-set-other slots slot k held (heldOf Absent) (λ w. eqb-false slot k q (sym w))) (kept k room (eqb-false slot k q))
 
-    pub apart-again : slot < 23 → (getD slots slot 0 ≡ end → ⊥) → Apart s from end slots true strange unsure (e .end)
+    pub apart-again : slot < 23 → getD slots slot (heldOf Absent) .there ≡ true → Apart s from end slots true strange unsure (e .end)
     apart-again l n =
         record {
           seen = a .seen;
@@ -192,7 +192,7 @@ module _ {s : List ℕ} {from end at : ℕ} {slots : List ℕ} {twice strange un
         }
       where
         doubles : doubledIn s (membersOf s from end) ≡ true
-        doubles = a .sound (step ∙ rw (known-slot l, ne-eqb (getD slots slot 0) end n))
+        doubles = a .sound (step ∙ rw (known-slot l ∙ n))
 
     pub apart-stranger : 23 ≤ slot → Apart s from end slots twice true (unsure || strange) (e .end)
     apart-stranger far =

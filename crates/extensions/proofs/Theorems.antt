@@ -7,19 +7,21 @@ use native.Mathlib.Omega.{arith}
 use lib.ListN.{length}
 use lib.Seq.{ext-getD}
 use Rattle.elements.specs.declared.elements.Element.{Element}
+use Rattle.extensions.specs.declared.Extension.the-variants.{Absent}
+use Rattle.extensions.specs.declared.Held.{Held}
 use Rattle.extensions.specs.declared.Overview.{Overview}
-use Rattle.extensions.specs.Extensions.{Placed, Viewed}
+use Rattle.extensions.specs.Extensions.{heldOf, Placed, Viewed}
 
 one-table :
-    (s : List ℕ) (extensions : Element) (r q : List ℕ) → length r ≡ 23 → length q ≡ 23 → Placed s extensions r
+    (s : List ℕ) (extensions : Element) (r q : List Held) → length r ≡ 23 → length q ≡ 23 → Placed s extensions r
     → Placed s extensions q → r ≡ q
 one-table s extensions r q m n a b =
-    ext-getD 0 r q (m ∙ sym n) (λ k h. let l : k < 23 = omega (arith, h, m) in a .each k l ∙ sym (b .each k l))
+    ext-getD (heldOf Absent) r q (m ∙ sym n) (λ k h. let l : k < 23 = omega (arith, h, m) in a .each k l ∙ sym (b .each k l))
 
-unfoldable made : Bool → Bool → Bool → List ℕ → Overview
+unfoldable made : Bool → Bool → Bool → List Held → Overview
 made shaped critical doubled slots = record { shaped = shaped; critical = critical; doubled = doubled; slots = slots }
 
-same-made : {a b c d e f : Bool} {t u : List ℕ} → a ≡ d → b ≡ e → c ≡ f → t ≡ u → made a b c t ≡ made d e f u
+same-made : {a b c d e f : Bool} {t u : List Held} → a ≡ d → b ≡ e → c ≡ f → t ≡ u → made a b c t ≡ made d e f u
 same-made p q r w = cc
 
 pub one-overview :

@@ -10,6 +10,7 @@ use Rattle.elements.specs.declared.elements.Found.{Found}
 use Rattle.elements.specs.declared.elements.Found.the-variants.{One}
 use Rattle.extensions.specs.declared.Extension.{Extension}
 use Rattle.extensions.specs.declared.Extension.the-variants.{Is, Absent}
+use Rattle.extensions.specs.declared.Held.{Held}
 use Rattle.extensions.specs.declared.Overview.{Overview}
 use Rattle.elements.specs.Octets.{alike}
 use Rattle.elements.specs.Elements.{foundAt, foundTagged, withTag, onFound, inside, contentsOf}
@@ -70,13 +71,15 @@ pub record Slotted (s : List ℕ) (extension : Extension) (slot : ℕ) : Type 0 
   pub there : present extension ≡ not (eqb slot 24)
   pub each : (k : ℕ) → k < 23 → eqb slot k ≡ hasOid s (oidOf k) extension
 
--- each slot holds where the first extension with its OID starts, or the end where there is none
-pub record Placed (s : List ℕ) (extensions : Element) (slots : List ℕ) : Type 0 where
-  pub each : (k : ℕ) → k < 23 → getD slots k 0 ≡ placeIn s (oidOf k) (inside s extensions) (extensions .end)
+-- what is held of an extension: that it is there, whether it is critical, where the contents of its value start and end
+unfoldable pub heldOf : Extension → Held
+heldOf Absent = record { there = false; critical = false; start = 0; end = 0 }
+heldOf (Is oid critical value) =
+    record { there = true; critical = critical; start = value .contents; end = value .end }
 
--- the extension that starts at `at`, before `end`
-unfoldable pub extensionAt : List ℕ → ℕ → ℕ → Extension
-extensionAt s at end = onFound (foundAt s at end) Absent (extensionOf s)
+-- each slot holds the first extension with its OID
+pub record Placed (s : List ℕ) (extensions : Element) (slots : List Held) : Type 0 where
+  pub each : (k : ℕ) → k < 23 → getD slots k (heldOf Absent) ≡ heldOf (lookupOf s extensions (oidOf k))
 
 -- whether two extensions have one OID
 unfoldable pub sameOids : List ℕ → Extension → Extension → Bool

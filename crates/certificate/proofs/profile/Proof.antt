@@ -43,14 +43,14 @@ rules-9-to-14-requires c κs = search needs
 
 returns-4 : tie.Need-returns-4
 unfolding profileOf
-returns-4 c = shape-good _ (laid-good _ (sym (c .before .before .before .before .before .before .before .before .before .before .before .before .before .parts-of .ensures) ∙ c .before .before .before .before .before .before .before .before .before .before .before .l .given .1) (sym (c .before .before .before .before .before .before .before .before .one-pass .ensures .shaped) ∙ not-false _ (c .before .before .before .before .before .before .if1 .left))) (rw (← c .before .before .before .before .readings-of .ensures) (graded-broken _ (rules-late _ _ _ _ (c .before .before .before .rules-2-to-8 .ensures) (c .before .before .if2 .left) (c .before .rules-9-to-14 .ensures)) (c .if3 .taken)))
+returns-4 c = shape-good _ (laid-good _ (sym (c .before .before .before .before .before .before .before .before .before .before .before .before .before .parts-of .ensures) ∙ c .before .before .before .before .before .before .before .before .before .before .before .l .given .1) (sym (c .before .before .before .before .before .before .before .before .one-pass .ensures .shaped) ∙ not-false _ (c .before .before .before .before .before .before .if1 .left))) (rw (← c .before .before .before .before .readings-of .ensures) (graded-broken _ (rules-late _ _ _ _ (c .before .before .before .rules-2-to-8 .ensures) (c .before .before .if2 .left) (c .before .rules-9-to-14 .ensures _ (c .before .before .before .before .before .before .before .before .one-pass .ensures .placed) (c .before .before .before .before .before .before .before .before .one-pass .ensures .critical))) (c .if3 .taken)))
 
 fields-of-requires : tie.Need-fields-of-requires
 fields-of-requires c κs = search needs
 
 returns-5 : tie.Need-returns-5
 unfolding profileOf
-returns-5 c = shape-good _ (laid-good _ (sym (c .before .before .before .before .before .before .before .before .before .before .before .before .before .before .parts-of .ensures) ∙ c .before .before .before .before .before .before .before .before .before .before .before .before .l .given .1) (sym (c .before .before .before .before .before .before .before .before .before .one-pass .ensures .shaped) ∙ not-false _ (c .before .before .before .before .before .before .before .if1 .left))) (rw (← c .before .before .before .before .before .readings-of .ensures) (graded-whole (rules-late _ _ _ _ (c .before .before .before .before .rules-2-to-8 .ensures) (c .before .before .before .if2 .left) (c .before .before .rules-9-to-14 .ensures) ∙ c .before .if3 .left) (c .fields-of .ensures)))
+returns-5 c = shape-good _ (laid-good _ (sym (c .before .before .before .before .before .before .before .before .before .before .before .before .before .before .parts-of .ensures) ∙ c .before .before .before .before .before .before .before .before .before .before .before .before .l .given .1) (sym (c .before .before .before .before .before .before .before .before .before .one-pass .ensures .shaped) ∙ not-false _ (c .before .before .before .before .before .before .before .if1 .left))) (rw (← c .before .before .before .before .before .readings-of .ensures) (graded-whole (rules-late _ _ _ _ (c .before .before .before .before .rules-2-to-8 .ensures) (c .before .before .before .if2 .left) (c .before .before .rules-9-to-14 .ensures _ (c .before .before .before .before .before .before .before .before .before .one-pass .ensures .placed) (c .before .before .before .before .before .before .before .before .before .one-pass .ensures .critical)) ∙ c .before .if3 .left) (c .fields-of .ensures)))
 
 pub profile-spec : {M : Type 1} → statement M
 profile-spec =

@@ -16,16 +16,16 @@ enum-told c = search needs
 
 returns : tie.Need-returns
 unfolding refusedCritical
-returns c = rw (c .enum-told .given .1)
+returns c = λ s h. rw (c .enum-told .given .1)
 
 returns-2 : tie.Need-returns-2
-returns-2 c = sym (rw (c .before .before .extension .given .1) (harsh-slot (rw (c .before .before .extension .given .1) at (c .before .before .before .before .pre)) ∙ rw (eq-eqb _ _ (c .if1 .taken)) (and-false (c .before .before .extension .given .0 .1 .0))))
+returns-2 c = λ s h. sym (rw (c .before .before .extension .given .1) (harsh-slot (rw (c .before .before .extension .given .1) at h) ∙ rw (eq-eqb _ _ (c .if1 .taken)) (and-false (c .before .before .extension .given .0 .1 .0))))
 
 returns-3 : tie.Need-returns-3
-returns-3 c = sym (rw (c .before .before .before .extension .given .1) (harsh-slot (rw (c .before .before .before .extension .given .1) at (c .before .before .before .before .before .pre)) ∙ rw (ne-eqb _ _ (c .before .if1 .left), eq-eqb _ _ (c .if2 .taken)) (and-false (c .before .before .before .extension .given .0 .1 .0))))
+returns-3 c = λ s h. sym (rw (c .before .before .before .extension .given .1) (harsh-slot (rw (c .before .before .before .extension .given .1) at h) ∙ rw (ne-eqb _ _ (c .before .if1 .left), eq-eqb _ _ (c .if2 .taken)) (and-false (c .before .before .before .extension .given .0 .1 .0))))
 
 returns-4 : tie.Need-returns-4
-returns-4 c = sym (rw (c .before .before .before .extension .given .1) (harsh-slot (rw (c .before .before .before .extension .given .1) at (c .before .before .before .before .before .pre)) ∙ rw (ne-eqb _ _ (c .before .if1 .left), ne-eqb _ _ (c .if2 .left)) (and-true _)))
+returns-4 c = λ s h. sym (rw (c .before .before .before .extension .given .1) (harsh-slot (rw (c .before .before .before .extension .given .1) at h) ∙ rw (ne-eqb _ _ (c .before .if1 .left), ne-eqb _ _ (c .if2 .left)) (and-true _)))
 
 pub unusual-spec : {M : Type 1} → statement M
 unusual-spec =
