@@ -1,10 +1,12 @@
 -- What is said of a part that is there, and of one that is not.
 use Prim.Native.Nat.{ℕ}
-use mathlib.Core.Bool.{Bool}
+use mathlib.Core.Bool.{Bool, true, false}
+use mathlib.Core.List.{List}
 use mathlib.Core.Path.{_≡_}
 use borrow.Author.Tests.{eq-eqb, ne-eqb}
 use Rattle.refusal.specs.declared.Refusal.the-variants.{Profile}
 use Rattle.elements.specs.declared.elements.Element.{Element}
+use Rattle.extensions.specs.Extensions.{extensionsShaped}
 use Rattle.certificate.specs.declared.shapes.Shape.{Shape}
 use Rattle.certificate.specs.declared.shapes.Shape.the-variants.{Parts, Broken}
 use Rattle.certificate.specs.declared.shapes.Front.{Front}
@@ -18,7 +20,7 @@ use Rattle.certificate.specs.declared.Fields.{Fields}
 use Rattle.certificate.specs.declared.Judged.{Judged}
 use Rattle.certificate.specs.declared.Judged.the-variants.{Passed, Refused}
 use Rattle.certificate.specs.Answer.{onShape, graded}
-use Rattle.certificate.specs.Shape.{onFront, onValidity, onBack}
+use Rattle.certificate.specs.Shape.{onFront, onValidity, onBack, onParts, partsOf, layoutOf}
 
 module _ {x : Front} (next : Element → Element → Element → Element → Element → Shape) where
   pub front-bad : x ≡ Frontless → Broken ≡ onFront x next
@@ -64,3 +66,18 @@ graded-broken fields h g = rw (h, ne-eqb _ _ g)
 pub graded-whole : {fields f : Fields} {rule : ℕ} → rule ≡ 0 → f ≡ fields → Passed f ≡ graded rule fields
 unfolding graded
 graded-whole h g = rw (g, eq-eqb _ _ h)
+
+-- the shape, and the extensions'
+module _ (s : List ℕ) where
+  pub laid-none : partsOf s ≡ Broken → layoutOf s ≡ Broken
+  unfolding layoutOf onParts
+  laid-none h = rw h
+
+  module _ {l : Layout} (h : partsOf s ≡ Parts l) where
+    pub laid-bad : extensionsShaped s (l .extensions) ≡ false → layoutOf s ≡ Broken
+    unfolding layoutOf onParts
+    laid-bad g = rw (h, g)
+
+    pub laid-good : extensionsShaped s (l .extensions) ≡ true → layoutOf s ≡ Parts l
+    unfolding layoutOf onParts
+    laid-good g = rw (h, g)

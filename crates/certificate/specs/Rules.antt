@@ -90,11 +90,11 @@ basicConstraints = 0x55 ∷ 0x1D ∷ 0x13 ∷ []
 abbrev pub signingOnce : List ℕ
 signingOnce = 0x30 ∷ 0x06 ∷ 0x01 ∷ 0x01 ∷ 0xFF ∷ 0x02 ∷ 0x01 ∷ 0x00 ∷ []
 
+unfoldable pub constrained : List ℕ → ℕ → Extension → Bool
+constrained s role constraints = cond (eqb role 3) (not (present constraints)) (criticalWith s signingOnce constraints)
+
 unfoldable pub rule10 : List ℕ → Element → ℕ → Bool
-rule10 s extensions role =
-    cond (eqb role 3)
-    (not (present (lookupOf s extensions basicConstraints)))
-    (criticalWith s signingOnce (lookupOf s extensions basicConstraints))
+rule10 s extensions role = constrained s role (lookupOf s extensions basicConstraints)
 
 -- 11: subject key identifier in anchor and link, authority key identifier in link and DS; each of its form where it stands
 unfoldable pub keyGood : Bool → KeyId → Bool

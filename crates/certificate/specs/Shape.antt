@@ -10,6 +10,7 @@ use Rattle.extensions.specs.Extensions.{extensionsShaped}
 use Rattle.names.specs.Names.{nameOf, onName}
 use Rattle.elements.specs.Steps.{onlyOf, pastOf}
 use Rattle.times.specs.Times.{timeAt}
+use Rattle.certificate.specs.declared.shapes.Layout.{Layout}
 use Rattle.certificate.specs.declared.shapes.Shape.{Shape}
 use Rattle.certificate.specs.declared.shapes.Shape.the-variants.{Parts, Broken}
 use Rattle.certificate.specs.declared.shapes.Front.{Front}
@@ -64,17 +65,20 @@ unfoldable pub onBack : Back → (Element → Element → Bool → Element → S
 onBack Backless next = Broken
 onBack (Closes subject key unique extensions) next = next subject key unique extensions
 
--- SEQUENCE of tbs, algorithm, BIT STRING; the tbs's members in order; names and extensions of their shape
-unfoldable pub layoutOf : List ℕ → Shape
-layoutOf s =
+unfoldable pub onParts : Shape → (Layout → Shape) → Shape
+onParts Broken next = Broken
+onParts (Parts l) next = next l
+
+-- SEQUENCE of tbs, algorithm, BIT STRING; the tbs's members in order; names of their shape
+unfoldable pub partsOf : List ℕ → Shape
+partsOf s =
     onEnvelope (envelopeOf s) Broken λ tbs outer.
     onFront (frontOf s tbs) λ version serial inner issuer validity.
     onValidity (validityOf s validity) λ start finish.
     onBack (backOf s (validity .end) (tbs .end)) λ subject key unique extensions.
     onName (nameOf s issuer) Broken λ issuerCountry.
     onName (nameOf s subject) Broken λ subjectCountry.
-    cond (extensionsShaped s extensions)
-    (Parts (record {
+    Parts (record {
       version = version;
       serial = serial;
       inner = inner;
@@ -88,5 +92,8 @@ layoutOf s =
       extensions = extensions;
       «issuer_country» = issuerCountry;
       «subject_country» = subjectCountry;
-    }))
-    Broken
+    })
+
+-- rule 1: these parts, and extensions of their shape
+unfoldable pub layoutOf : List ℕ → Shape
+layoutOf s = onParts (partsOf s) λ l. cond (extensionsShaped s (l .extensions)) (Parts l) Broken

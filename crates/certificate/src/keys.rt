@@ -7,11 +7,11 @@ use elements::contents;
 use elements::element_at;
 use elements::element_tagged;
 use elements::same;
-use extensions::Extension;
-use extensions::extension_in;
+use extensions::Held;
 ghost use mathlib.Core.Path.{_≡_};
-ghost use Rattle.extensions.specs.Extensions.{Placed};
-ghost use Rattle.certificate.specs.Keys.{walks, octetString, firstOf, subjectKey, authorityKey, typesIn, listGood, documentTypes};
+ghost use Rattle.extensions.specs.declared.Extension.{Extension};
+ghost use Rattle.extensions.specs.Extensions.{heldOf};
+ghost use Rattle.certificate.specs.Keys.{walks, octetString, firstOf, keyIn, valueOf, typesIn, listGood, documentsIn};
 
 // Where the contents of a key identifier start and end; that there is none; that it has not its form.
 pub enum KeyId {
@@ -20,46 +20,48 @@ pub enum KeyId {
     Misformed,
 }
 
-pub(crate) fn subject_key(item: &[u8], extensions: Element, slots: [usize; 23]) -> KeyId
-    requires { ⌜ Placed (now item) extensions slots ⌝ }
-    ensures { λ r. ⌜ r ≡ subjectKey (now (item .entry)) extensions ⌝ }
+pub(crate) fn subject_key(item: &[u8], held: Held) -> KeyId
+    ensures { λ r. ⌜ ((x : Extension) → held ≡ heldOf x → r ≡ keyIn (now (item .entry)) x (octetString (now (item .entry)))) ⌝ }
 {
-    let Extension::Is {
-        oid: _,
-        critical,
-        value,
-    } = extension_in(item, slots[0], extensions.end)
-    else {
+    if !held.there {
         return KeyId::Keyless;
-    };
-    if critical {
+    }
+    if held.critical {
         return KeyId::Misformed;
     }
+    let value = value_of(held);
     if !walks_alone(item, value) {
         return KeyId::Misformed;
     }
     octet_string(item, value)
 }
 
-pub(crate) fn authority_key(item: &[u8], extensions: Element, slots: [usize; 23]) -> KeyId
-    requires { ⌜ Placed (now item) extensions slots ⌝ }
-    ensures { λ r. ⌜ r ≡ authorityKey (now (item .entry)) extensions ⌝ }
+pub(crate) fn authority_key(item: &[u8], held: Held) -> KeyId
+    ensures { λ r. ⌜ ((x : Extension) → held ≡ heldOf x → r ≡ keyIn (now (item .entry)) x (firstOf (now (item .entry)))) ⌝ }
 {
-    let Extension::Is {
-        oid: _,
-        critical,
-        value,
-    } = extension_in(item, slots[21], extensions.end)
-    else {
+    if !held.there {
         return KeyId::Keyless;
-    };
-    if critical {
+    }
+    if held.critical {
         return KeyId::Misformed;
     }
+    let value = value_of(held);
     if !walks_alone(item, value) {
         return KeyId::Misformed;
     }
     first_of(item, value)
+}
+
+// The value of an extension, from its contents on.
+pub(crate) fn value_of(held: Held) -> Element
+    ensures { λ r. ⌜ r ≡ valueOf held ⌝ }
+{
+    Element {
+        tag: 0x04,
+        at: held.start,
+        contents: held.start,
+        end: held.end,
+    }
 }
 
 // Whether an extension's contents pass the walk, depth and count from the start.
@@ -102,21 +104,16 @@ fn first_of(item: &[u8], value: Element) -> KeyId
 }
 
 // The document type list, not critical.
-pub(crate) fn document_types(item: &[u8], extensions: Element, slots: [usize; 23]) -> bool
-    requires { ⌜ Placed (now item) extensions slots ⌝ }
-    ensures { λ r. ⌜ r ≡ documentTypes (now (item .entry)) extensions ⌝ }
+pub(crate) fn document_types(item: &[u8], held: Held) -> bool
+    ensures { λ r. ⌜ ((x : Extension) → held ≡ heldOf x → r ≡ documentsIn (now (item .entry)) x) ⌝ }
 {
-    let Extension::Is {
-        oid: _,
-        critical,
-        value,
-    } = extension_in(item, slots[22], extensions.end)
-    else {
-        return false;
-    };
-    if critical {
+    if !held.there {
         return false;
     }
+    if held.critical {
+        return false;
+    }
+    let value = value_of(held);
     if !walks_alone(item, value) {
         return false;
     }

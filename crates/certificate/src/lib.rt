@@ -6,7 +6,7 @@ mod shapes;
 use der::Walked;
 use der::walk;
 use elements::between;
-use extensions::all_places;
+use extensions::one_pass;
 use keys::KeyId;
 use names::first_letter;
 use names::second_letter;
@@ -17,7 +17,7 @@ use rules::rules_2_to_8;
 use rules::rules_9_to_14;
 use shapes::Layout;
 use shapes::Shape;
-use shapes::layout_of;
+use shapes::parts_of;
 use times::moment;
 ghost use mathlib.Core.Path.{_≡_};
 ghost use Rattle.certificate.specs.Answer.{keyAt, keyLength, fieldsOf, profileOf, judgedOf};
@@ -68,18 +68,21 @@ pub fn judge(item: &[u8], role: u64) -> Judged
 fn profile(item: &[u8], role: u64) -> Judged
     ensures { λ r. ⌜ r ≡ profileOf (now (item .entry)) role ⌝ }
 {
-    let Shape::Parts(l) = layout_of(item) else {
+    let Shape::Parts(l) = parts_of(item) else {
         return Judged::Refused(Refusal::Profile { rule: 1 });
     };
     let extensions = l.extensions;
-    let found = all_places(item, extensions);
-    let slots = found.slots;
+    let seen = one_pass(item, extensions);
+    if !seen.shaped {
+        return Judged::Refused(Refusal::Profile { rule: 1 });
+    }
+    let slots = seen.slots;
     let r = readings_of(item, l, slots);
-    let early = rules_2_to_8(item, l, r);
+    let early = rules_2_to_8(item, l, r, seen.doubled);
     if early != 0 {
         return Judged::Refused(Refusal::Profile { rule: early });
     }
-    let late = rules_9_to_14(item, extensions, slots, r, role);
+    let late = rules_9_to_14(item, slots, seen.critical, r, role);
     if late != 0 {
         return Judged::Refused(Refusal::Profile { rule: late });
     }

@@ -3,6 +3,7 @@ use crate::keys::KeyId;
 use crate::keys::authority_key;
 use crate::keys::document_types;
 use crate::keys::subject_key;
+use crate::keys::value_of;
 use crate::shapes::Layout;
 use elements::Element;
 use elements::Found;
@@ -10,19 +11,22 @@ use elements::contents;
 use elements::element_at;
 use elements::same;
 use elements::whole;
-use extensions::Extension;
-use extensions::doubled;
-use extensions::extension_in;
-use extensions::some_critical;
+use extensions::Held;
 use names::Letters;
 use names::letters_of;
 use times::Time;
 use times::in_order;
 use times::time_of;
+ghost use mathlib.Core.Bool.{true, cond};
+ghost use mathlib.Core.List.{List};
 ghost use mathlib.Core.Path.{_≡_};
-ghost use Rattle.extensions.specs.Extensions.{Placed};
+ghost use Prim.Native.Nat.{ℕ};
+ghost use lib.Dec.{eqb};
+ghost use Rattle.extensions.specs.declared.Extension.{Extension};
+ghost use Rattle.extensions.specs.Extensions.{heldOf, Placed, criticalOf, doubledOf};
 ghost use Rattle.refusal.specs.Rules.{firstBroken};
-ghost use Rattle.certificate.specs.Rules.{bothKeys, criticalWith, keyGood, plain, readingsOf, rule2, rule3, rule4, rule8, rule9, rule10, rule12, rule13, rules2to8, rules9to14, sameTwo};
+ghost use Rattle.certificate.specs.Keys.{documentsIn};
+ghost use Rattle.certificate.specs.Rules.{bothKeys, constrained, criticalWith, keyGood, plain, readingsOf, rule2, rule3, rule4, rule8, rule12, rules2to8, rules9to14, sameTwo, usageOf};
 
 // What several rules and the answer read, each once.
 pub struct Readings {
@@ -34,7 +38,7 @@ pub struct Readings {
     pub authority: KeyId,
 }
 
-pub(crate) fn readings_of(item: &[u8], l: Layout, slots: [usize; 23]) -> Readings
+pub(crate) fn readings_of(item: &[u8], l: Layout, slots: [Held; 23]) -> Readings
     requires { ⌜ Placed (now item) (l .extensions) slots ⌝ }
     ensures { λ r. ⌜ r ≡ readingsOf (now (item .entry)) l ⌝ }
 {
@@ -42,13 +46,14 @@ pub(crate) fn readings_of(item: &[u8], l: Layout, slots: [usize; 23]) -> Reading
     let last = l.finish;
     let issuer_country = l.issuer_country;
     let subject_country = l.subject_country;
-    let extensions = l.extensions;
+    let of_subject = slots[0];
+    let of_authority = slots[21];
     let start = time_of(item, first);
     let finish = time_of(item, last);
     let issuer = letters_of(item, issuer_country);
     let subject = letters_of(item, subject_country);
-    let own = subject_key(item, extensions, slots);
-    let authority = authority_key(item, extensions, slots);
+    let own = subject_key(item, of_subject);
+    let authority = authority_key(item, of_authority);
     Readings {
         start,
         finish,
@@ -60,7 +65,8 @@ pub(crate) fn readings_of(item: &[u8], l: Layout, slots: [usize; 23]) -> Reading
 }
 
 // The first of rules 2 to 8 that is broken, else 0.
-pub(crate) fn rules_2_to_8(item: &[u8], l: Layout, r: Readings) -> u64
+pub(crate) fn rules_2_to_8(item: &[u8], l: Layout, r: Readings, doubled: bool) -> u64
+    requires { ⌜ doubled ≡ doubledOf (now item) (l .extensions) ⌝ }
     ensures { λ rule. ⌜ rule ≡ firstBroken 2 (rules2to8 (now (item .entry)) l r) ⌝ }
 {
     if !version_good(item, l) {
@@ -85,7 +91,7 @@ pub(crate) fn rules_2_to_8(item: &[u8], l: Layout, r: Readings) -> u64
     if !in_order(start, finish) {
         return 7;
     }
-    if !extensions_once(item, l) {
+    if !extensions_once(item, l, doubled) {
         return 8;
     }
     0
@@ -94,18 +100,19 @@ pub(crate) fn rules_2_to_8(item: &[u8], l: Layout, r: Readings) -> u64
 // The first of rules 9 to 14 that is broken, else 0.
 pub(crate) fn rules_9_to_14(
     item: &[u8],
-    extensions: Element,
-    slots: [usize; 23],
+    slots: [Held; 23],
+    critical: bool,
     r: Readings,
     role: u64,
 ) -> u64
-    requires { ⌜ Placed (now item) extensions slots ⌝ }
-    ensures { λ rule. ⌜ rule ≡ firstBroken 9 (rules9to14 (now (item .entry)) extensions r role) ⌝ }
+    ensures { λ rule. ⌜ ((x : Element) → Placed (now (item .entry)) x slots → critical ≡ criticalOf (now (item .entry)) x true → rule ≡ firstBroken 9 (rules9to14 (now (item .entry)) x r role)) ⌝ }
 {
-    if !usage_good(item, extensions, slots, role) {
+    let usage = slots[1];
+    if !usage_good(item, usage, role) {
         return 9;
     }
-    if !constraints_good(item, extensions, slots, role) {
+    let constraints = slots[5];
+    if !constraints_good(item, constraints, role) {
         return 10;
     }
     let own = r.own;
@@ -113,13 +120,14 @@ pub(crate) fn rules_9_to_14(
     if !keys_good(own, authority, role) {
         return 11;
     }
-    if !four_plain(item, extensions, slots) {
+    if !four_plain(slots) {
         return 12;
     }
-    if !documents_good(item, extensions, slots, role) {
+    let documents = slots[22];
+    if !documents_good(item, documents, role) {
         return 13;
     }
-    if some_critical(item, extensions, true) {
+    if critical {
         return 14;
     }
     0
@@ -185,22 +193,21 @@ fn same_two(one: Letters, other: Letters) -> bool
 }
 
 // 8: at least one extension, and no extension OID stands twice.
-fn extensions_once(item: &[u8], l: Layout) -> bool
+fn extensions_once(item: &[u8], l: Layout, doubled: bool) -> bool
+    requires { ⌜ doubled ≡ doubledOf (now item) (l .extensions) ⌝ }
     ensures { λ r. ⌜ r ≡ rule8 (now (item .entry)) l ⌝ }
 {
     let extensions = l.extensions;
     let Found::One(_) = element_at(item, extensions.contents, extensions.end) else {
         return false;
     };
-    !doubled(item, extensions)
+    !doubled
 }
 
 // 9: keyUsage critical, its contents by role.
-fn usage_good(item: &[u8], extensions: Element, slots: [usize; 23], role: u64) -> bool
-    requires { ⌜ Placed (now item) extensions slots ⌝ }
-    ensures { λ r. ⌜ r ≡ rule9 (now (item .entry)) extensions role ⌝ }
+fn usage_good(item: &[u8], usage: Held, role: u64) -> bool
+    ensures { λ r. ⌜ ((x : Extension) → usage ≡ heldOf x → r ≡ criticalWith (now (item .entry)) (usageOf role) x) ⌝ }
 {
-    let usage = extension_in(item, slots[1], extensions.end);
     if role == 3 {
         return critical_with(item, b"\x03\x02\x07\x80", usage);
     }
@@ -208,40 +215,23 @@ fn usage_good(item: &[u8], extensions: Element, slots: [usize; 23], role: u64) -
 }
 
 // 10: basicConstraints critical and of one form in anchor and link, absent in a document signer.
-fn constraints_good(item: &[u8], extensions: Element, slots: [usize; 23], role: u64) -> bool
-    requires { ⌜ Placed (now item) extensions slots ⌝ }
-    ensures { λ r. ⌜ r ≡ rule10 (now (item .entry)) extensions role ⌝ }
+fn constraints_good(item: &[u8], constraints: Held, role: u64) -> bool
+    ensures { λ r. ⌜ ((x : Extension) → constraints ≡ heldOf x → r ≡ constrained (now (item .entry)) role x) ⌝ }
 {
-    let constraints = extension_in(item, slots[5], extensions.end);
     if role == 3 {
-        if let Extension::Is {
-            oid: _,
-            critical: _,
-            value: _,
-        } = constraints {
-            return false;
-        }
-        return true;
+        return !constraints.there;
     }
     critical_with(item, b"\x30\x06\x01\x01\xff\x02\x01\x00", constraints)
 }
 
 // An extension that is critical and has those contents.
-fn critical_with(item: &[u8], octets: &[u8], extension: Extension) -> bool
-    ensures { λ r. ⌜ r ≡ criticalWith (now (item .entry)) (now (octets .entry)) extension ⌝ }
+fn critical_with(item: &[u8], octets: &[u8], held: Held) -> bool
+    ensures { λ r. ⌜ ((x : Extension) → held ≡ heldOf x → r ≡ criticalWith (now (item .entry)) (now (octets .entry)) x) ⌝ }
 {
-    let Extension::Is {
-        oid: _,
-        critical,
-        value,
-    } = extension
-    else {
-        return false;
-    };
-    if !critical {
+    if !held.critical {
         return false;
     }
-    same(contents(item, value), octets)
+    same(contents(item, value_of(held)), octets)
 }
 
 // 11: the subject's key identifier in anchor and link, the authority's in link and document signer.
@@ -265,43 +255,36 @@ fn key_good(wanted: bool, key: KeyId) -> bool
 }
 
 // 12: 2.5.29.16, .17, .18 and .31 present, not critical.
-fn four_plain(item: &[u8], extensions: Element, slots: [usize; 23]) -> bool
-    requires { ⌜ Placed (now item) extensions slots ⌝ }
-    ensures { λ r. ⌜ r ≡ rule12 (now (item .entry)) extensions ⌝ }
+fn four_plain(slots: [Held; 23]) -> bool
+    ensures { λ r. ⌜ ((s : List ℕ) (x : Element) → Placed s x slots → r ≡ rule12 s x) ⌝ }
 {
-    if !plain_there(extension_in(item, slots[2], extensions.end)) {
+    if !plain_there(slots[2]) {
         return false;
     }
-    if !plain_there(extension_in(item, slots[3], extensions.end)) {
+    if !plain_there(slots[3]) {
         return false;
     }
-    if !plain_there(extension_in(item, slots[4], extensions.end)) {
+    if !plain_there(slots[4]) {
         return false;
     }
-    plain_there(extension_in(item, slots[17], extensions.end))
+    plain_there(slots[17])
 }
 
-fn plain_there(extension: Extension) -> bool
-    ensures { λ r. ⌜ r ≡ plain extension ⌝ }
+fn plain_there(held: Held) -> bool
+    ensures { λ r. ⌜ ((x : Extension) → held ≡ heldOf x → r ≡ plain x) ⌝ }
 {
-    let Extension::Is {
-        oid: _,
-        critical,
-        value: _,
-    } = extension
-    else {
+    if !held.there {
         return false;
-    };
-    !critical
+    }
+    !held.critical
 }
 
 // 13: the document type list of a document signer.
-fn documents_good(item: &[u8], extensions: Element, slots: [usize; 23], role: u64) -> bool
-    requires { ⌜ Placed (now item) extensions slots ⌝ }
-    ensures { λ r. ⌜ r ≡ rule13 (now (item .entry)) extensions role ⌝ }
+fn documents_good(item: &[u8], documents: Held, role: u64) -> bool
+    ensures { λ r. ⌜ ((x : Extension) → documents ≡ heldOf x → r ≡ cond (eqb role 3) (documentsIn (now (item .entry)) x) true) ⌝ }
 {
     if role == 3 {
-        return document_types(item, extensions, slots);
+        return document_types(item, documents);
     }
     true
 }

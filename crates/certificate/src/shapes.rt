@@ -6,13 +6,12 @@ use elements::element_tagged;
 use elements::envelope_of;
 use elements::only_member;
 use elements::past;
-use extensions::extensions_shaped;
 use names::Name;
 use names::Seen;
 use names::name_of;
 use times::time_at;
 ghost use mathlib.Core.Path.{_≡_};
-ghost use Rattle.certificate.specs.Shape.{frontOf, validityOf, uniqueEnd, backOf, layoutOf};
+ghost use Rattle.certificate.specs.Shape.{frontOf, validityOf, uniqueEnd, backOf, partsOf};
 
 // The parts that the other rules read; `unique` says that an 81 or 82 stands there.
 pub struct Layout {
@@ -64,8 +63,9 @@ pub enum Back {
     Backless,
 }
 
-pub(crate) fn layout_of(item: &[u8]) -> Shape
-    ensures { λ r. ⌜ r ≡ layoutOf (now (item .entry)) ⌝ }
+// All of rule 1 but the shape of the extensions.
+pub(crate) fn parts_of(item: &[u8]) -> Shape
+    ensures { λ r. ⌜ r ≡ partsOf (now (item .entry)) ⌝ }
 {
     let Envelope::Parts { tbs, algorithm } = envelope_of(item) else {
         return Shape::Broken;
@@ -98,9 +98,6 @@ pub(crate) fn layout_of(item: &[u8]) -> Shape
     let Name::Holds(subject_country) = name_of(item, subject) else {
         return Shape::Broken;
     };
-    if !extensions_shaped(item, extensions) {
-        return Shape::Broken;
-    }
     Shape::Parts(Layout {
         version,
         serial,

@@ -1,5 +1,7 @@
 pub mod Oids
 pub mod Places
 pub mod Slots
+pub mod Strangers
+pub mod Passing
 pub mod Theorems
 pub mod Briefs

@@ -3,16 +3,15 @@
 use mathlib.Core.Path.{_≡_, refl, sym, subst, _∙_}
 use mathlib.Core.Bool.{Bool, true, false, cond}
 use mathlib.Core.List.{List, [], _∷_}
-use Prim.Native.Nat.{ℕ, zero, suc, _<_}
+use Prim.Native.Nat.{ℕ, zero, suc}
 use native.Mathlib.Omega.{arith}
-use lib.ListN.{length, getD}
+use lib.ListN.{length}
 use Rattle.elements.specs.declared.elements.Element.{Element}
 use Rattle.elements.specs.declared.elements.Found.{Found}
 use Rattle.elements.specs.declared.elements.Found.the-variants.{One, Missing}
-use Rattle.extensions.specs.declared.Extension.{Extension}
 use Rattle.extensions.specs.declared.Extension.the-variants.{Absent}
-use Rattle.elements.specs.Elements.{foundAt, onFound, membersIn, membersOf, inside}
-use Rattle.extensions.specs.Extensions.{extensionOf, extensionAt, hasOid, firstWith, lookupOf, placeIn, oidOf, Placed}
+use Rattle.elements.specs.Elements.{foundAt, onFound, membersIn, membersOf}
+use Rattle.extensions.specs.Extensions.{extensionOf, hasOid, firstWith, placeIn}
 use Rattle.elements.proofs.Members.{on-missing, on-found, found-within}
 
 -- what stands where the first of them with the OID starts
@@ -58,8 +57,3 @@ module _ (s oid : List ℕ) (end : ℕ) where
 
     pub place-one : {e : Element} → foundAt s at end ≡ One e → extensionOf s e ≡ firstWith s oid (membersOf s from end)
     place-one h = on-found _ _ h refl ∙ sym place-leads
-
--- so a table of places leads to what is looked up
-pub place-known : {s : List ℕ} {x : Element} {slots : List ℕ} {r : Extension} → Placed s x slots → (k : ℕ) → k < 23 → r ≡ extensionAt s (getD slots k 0) (x .end) → r ≡ lookupOf s x (oidOf k)
-unfolding extensionAt lookupOf inside
-place-known {s} {x} p k l e = e ∙ sym (place-leads s (oidOf k) (x .end) (x .contents) (p .each k l))

@@ -1,6 +1,6 @@
--- The slots of OIDs, and the table of places: a slot that is the end is open, and its place is the one among the extensions left.
+-- The slots of OIDs, and the table of them: what a vacant slot will hold is among the extensions left.
 use mathlib.Core.Path.{_≡_, refl, sym, ap, _∙_}
-use mathlib.Core.Bool.{Bool, true, false, cond}
+use mathlib.Core.Bool.{Bool, true, false, cond, _&&_, _||_, not}
 use mathlib.Core.List.{List, [], _∷_}
 use Prim.Native.Nat.{ℕ, _+_, _-_, _<_, _≤_}
 use native.Mathlib.Omega.{arith}
@@ -10,11 +10,14 @@ use lib.ListN.{length, getD, set, replicate, getD-replicate, length-set}
 use lib.Seq.{getD-set-same, getD-set-other}
 use Rattle.elements.specs.declared.elements.Element.{Element}
 use Rattle.elements.specs.declared.elements.Found.the-variants.{One, Missing}
+use Rattle.extensions.specs.declared.Extension.{Extension}
+use Rattle.extensions.specs.declared.Extension.the-variants.{Is, Absent}
+use Rattle.extensions.specs.declared.Held.{Held}
 use Rattle.elements.specs.Octets.{alike}
 use Rattle.elements.specs.Elements.{foundAt, membersOf}
 use Rattle.elements.proofs.Likeness.{alike-is, is-alike, unequal-unlike}
-use Rattle.elements.proofs.Members.{found-within, members-none, members-more}
-use Rattle.extensions.specs.Extensions.{extensionOf, placeIn, oidOf, Slotted}
+use Rattle.elements.proofs.Members.{members-none, members-more}
+use Rattle.extensions.specs.Extensions.{extensionOf, present, hasOid, firstWith, oidOf, heldOf, usual, refusedCritical, Slotted}
 
 -- a test of two numbers is any other that says the same
 same-test : (m n : ℕ) (x : Bool) → (m ≡ n → x ≡ true) → (x ≡ true → m ≡ n) → eqb m n ≡ x
@@ -83,52 +86,92 @@ module _ (c : List ℕ) (k : ℕ) (l : k < 23) where
       oid-by c k e (λ m f. n (ap length f))
       (λ m f. let z : true ≡ false = sym (is-alike _ _ f) ∙ h in let y : _≡_ {A = ℕ} 0 1 = cc in absurd (omega arith))
 
--- the table while the extensions from `at` on are left
-pub record Open (s : List ℕ) (from end : ℕ) (slots : List ℕ) (at : ℕ) : Type 0 where
-  pub long : length slots ≡ 23
-  pub each : (k : ℕ) → k < 23
-      → placeIn s (oidOf k) (membersOf s from end) end
-      ≡ cond (eqb (getD slots k 0) end) (placeIn s (oidOf k) (membersOf s at end) end) (getD slots k 0)
+-- whether an extension is critical that may not be, by its slot
+module _ {s : List ℕ} {oid value : Element} {critical : Bool} {slot : ℕ} (h : Slotted s (Is oid critical value) slot) where
+  pub harsh-slot : refusedCritical s true (Is oid critical value) ≡ (critical && not (eqb slot 1 || eqb slot 5))
+  unfolding refusedCritical usual hasOid oidOf
+  harsh-slot = rw (← h .each 1 (omega arith), ← h .each 5 (omega arith))
 
-pub open-start : (s : List ℕ) (from end : ℕ) → Open s from end (replicate 23 end) from
-open-start s from end = record { long = refl; each = λ k l. rw (getD-replicate 23 k end 0 l, eq-eqb end end refl) }
+-- A slot while the extensions from some offset on are left: it is vacant, and the first of all is the first of those, or it
+-- holds the first of all.
+pub data Slot (all rest : Extension) (held : Held) : Type 0 where
+  vacant : held ≡ heldOf Absent → all ≡ rest → Slot all rest held
+  taken : held ≡ heldOf all → present all ≡ true → Slot all rest held
 
-module _ {s : List ℕ} {from end at : ℕ} {slots : List ℕ} (o : Open s from end slots at) where
-  pub open-none : foundAt s at end ≡ Missing → (k : ℕ) → k < 23 → getD slots k 0 ≡ placeIn s (oidOf k) (membersOf s from end) end
-  unfolding placeIn
-  open-none h k l = sym (o .each k l ∙ rw (members-none s at end h) (go (eqb (getD slots k 0) end) refl))
+module _ {all rest : Extension} {held : Held} where
+  slot-moved : {next : Extension} → rest ≡ next → Slot all rest held → Slot all next held
+  slot-moved q (vacant h e) = vacant h (e ∙ q)
+  slot-moved q (taken h e) = taken h e
+
+  slot-end : rest ≡ Absent → Slot all rest held → held ≡ heldOf all
+  slot-end q (vacant h e) = h ∙ ap heldOf (sym (e ∙ q))
+  slot-end q (taken h e) = h
+
+  slot-free : held .there ≡ false → Slot all rest held → all ≡ rest
+  unfolding heldOf present
+  slot-free n (vacant h e) = e
+  slot-free n (taken h e) = absurd (go all h e)
     where
-      go : (t : Bool) → eqb (getD slots k 0) end ≡ t → cond t end (getD slots k 0) ≡ getD slots k 0
-      go true e = sym (eqb-true _ _ e)
-      go false e = refl
+      go : (x : Extension) → held ≡ heldOf x → present x ≡ true → ⊥
+      go Absent p q = let z : _≡_ {A = ℕ} 0 1 = cc in omega arith
+      go (Is oid critical value) p q = let z : true ≡ false = sym (ap (λ (f : Held). f .there) p) ∙ n in let y : _≡_ {A = ℕ} 0 1 = cc in omega arith
+
+  slot-full : {next : Extension} → held .there ≡ true → Slot all rest held → Slot all next held
+  unfolding heldOf
+  slot-full n (vacant h e) = let z : true ≡ false = sym n ∙ ap (λ (f : Held). f .there) h in let y : _≡_ {A = ℕ} 0 1 = cc in absurd (omega arith)
+  slot-full n (taken h e) = taken h e
+
+-- the table while the extensions from `at` on are left
+pub record Open (s : List ℕ) (from end : ℕ) (slots : List Held) (at : ℕ) : Type 0 where
+  pub long : length slots ≡ 23
+  pub each : (k : ℕ) → k < 23 → Slot (firstWith s (oidOf k) (membersOf s from end)) (firstWith s (oidOf k) (membersOf s at end)) (getD slots k (heldOf Absent))
+
+pub open-start : (s : List ℕ) (from end : ℕ) → Open s from end (replicate 23 (heldOf Absent)) from
+open-start s from end = record { long = refl; each = λ k l. vacant (getD-replicate 23 k (heldOf Absent) (heldOf Absent) l) refl }
+
+pub has-there : (s oid : List ℕ) (x : Extension) → hasOid s oid x ≡ true → present x ≡ true
+unfolding hasOid present
+has-there s oid Absent h = h
+has-there s oid (Is own critical value) h = refl
+
+pub held-there : (x : Extension) → present x ≡ true → heldOf x .there ≡ true
+unfolding present heldOf
+held-there Absent h = h
+held-there (Is own critical value) h = refl
+
+module _ {s : List ℕ} {from end at : ℕ} {slots : List Held} (o : Open s from end slots at) where
+  pub open-none : foundAt s at end ≡ Missing → (k : ℕ) → k < 23 → getD slots k (heldOf Absent) ≡ heldOf (firstWith s (oidOf k) (membersOf s from end))
+  unfolding firstWith
+  open-none h k l = slot-end (rw (members-none s at end h)) (o .each k l)
 
   module _ {e : Element} {slot : ℕ} (f : foundAt s at end ≡ One e) (h : Slotted s (extensionOf s e) slot) where
-    next : (k : ℕ) → k < 23 → (slot ≡ k → ⊥) → placeIn s (oidOf k) (membersOf s from end) end ≡ cond (eqb (getD slots k 0) end) (placeIn s (oidOf k) (membersOf s (e .end) end) end) (getD slots k 0)
-    unfolding placeIn
-    next k l n = o .each k l ∙ rw (members-more s at end f, ← h k l, ne-eqb slot k n)
+    next : (k : ℕ) → k < 23 → (slot ≡ k → ⊥) → firstWith s (oidOf k) (membersOf s at end) ≡ firstWith s (oidOf k) (membersOf s (e .end) end)
+    unfolding firstWith
+    next k l n = rw (members-more s at end f, ← h .each k l, ne-eqb slot k n)
 
-    there : (k : ℕ) → k < 23 → slot ≡ k → placeIn s (oidOf k) (membersOf s from end) end ≡ cond (eqb (getD slots k 0) end) at (getD slots k 0)
-    unfolding placeIn
-    there k l q = o .each k l ∙ rw (members-more s at end f, ← h k l, eq-eqb slot k q, found-within s at end f .0)
+    here : slot < 23 → firstWith s (oidOf slot) (membersOf s at end) ≡ extensionOf s e
+    unfolding firstWith
+    here l = rw (members-more s at end f, ← h .each slot l, eq-eqb slot slot refl)
 
-    pub open-set : slot < 23 → getD slots slot 0 ≡ end → Open s from end (set slots slot at) (e .end)
-    open-set room g = record { long = rw length-set (o .long); each = λ k l. go k l (eqb slot k) refl }
+    pub open-set : {held : Held} → held ≡ heldOf (extensionOf s e) → slot < 23 → getD slots slot (heldOf Absent) .there ≡ false → Open s from end (set slots slot held) (e .end)
+    open-set {held} new room n = record { long = rw length-set (o .long); each = λ k l. go k l (eqb slot k) refl }
       where
-        own : placeIn s (oidOf slot) (membersOf s from end) end ≡ cond (eqb (getD (set slots slot at) slot 0) end) (placeIn s (oidOf slot) (membersOf s (e .end) end) end) (getD (set slots slot at) slot 0)
+        first : firstWith s (oidOf slot) (membersOf s from end) ≡ extensionOf s e
+        first = slot-free n (o .each slot room) ∙ here room
+
+        own : Slot (firstWith s (oidOf slot) (membersOf s from end)) (firstWith s (oidOf slot) (membersOf s (e .end) end)) (getD (set slots slot held) slot (heldOf Absent))
         own =
             let fits : slot < length slots = omega (arith, o .long) in
-            rw (getD-set-same slots slot at 0 fits, ne-eqb at end (λ (q : at ≡ end). omega (arith, found-within s at end f)))
-            (there slot room refl ∙ rw (eq-eqb (getD slots slot 0) end g))
+            taken (getD-set-same slots slot held (heldOf Absent) fits ∙ new ∙ ap heldOf (sym first))
+            (ap present first ∙ has-there s (oidOf slot) (extensionOf s e) (sym (h .each slot room) ∙ eq-eqb slot slot refl))
 
-        go : (k : ℕ) → k < 23 → (t : Bool) → eqb slot k ≡ t → placeIn s (oidOf k) (membersOf s from end) end ≡ cond (eqb (getD (set slots slot at) k 0) end) (placeIn s (oidOf k) (membersOf s (e .end) end) end) (getD (set slots slot at) k 0)
+        go : (k : ℕ) → k < 23 → (t : Bool) → eqb slot k ≡ t → Slot (firstWith s (oidOf k) (membersOf s from end)) (firstWith s (oidOf k) (membersOf s (e .end) end)) (getD (set slots slot held) k (heldOf Absent))
         go k l true q = rw (sym (eqb-true slot k q)) own
-        go k l false q = rw (getD-set-other slots slot k at 0 (λ w. eqb-false slot k q (sym w))) (next k l (eqb-false slot k q))
+        go k l false q = rw (getD-set-other slots slot k held (heldOf Absent) (λ w. eqb-false slot k q (sym w))) (slot-moved (next k l (eqb-false slot k q)) (o .each k l))
 
-    pub open-left : (slot < 23 → getD slots slot 0 ≡ end → ⊥) → Open s from end slots (e .end)
+    pub open-left : (slot < 23 → getD slots slot (heldOf Absent) .there ≡ true) → Open s from end slots (e .end)
     open-left n = record { long = o .long; each = λ k l. go k l (eqb slot k) refl }
       where
-        go : (k : ℕ) → k < 23 → (t : Bool) → eqb slot k ≡ t → placeIn s (oidOf k) (membersOf s from end) end ≡ cond (eqb (getD slots k 0) end) (placeIn s (oidOf k) (membersOf s (e .end) end) end) (getD slots k 0)
-        go k l true q =
-            let same : slot ≡ k = eqb-true slot k q in
-            there k l same ∙ rw (ne-eqb (getD slots k 0) end (λ w. n (omega arith) (rw same w)))
-        go k l false q = next k l (eqb-false slot k q)
+        go : (k : ℕ) → k < 23 → (t : Bool) → eqb slot k ≡ t → Slot (firstWith s (oidOf k) (membersOf s from end)) (firstWith s (oidOf k) (membersOf s (e .end) end)) (getD slots k (heldOf Absent))
+        go k l true q = let same : slot ≡ k = eqb-true slot k q in slot-full (rw same at (n (omega arith))) (o .each k l)
+        go k l false q = slot-moved (next k l (eqb-false slot k q)) (o .each k l)

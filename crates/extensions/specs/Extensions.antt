@@ -10,6 +10,8 @@ use Rattle.elements.specs.declared.elements.Found.{Found}
 use Rattle.elements.specs.declared.elements.Found.the-variants.{One}
 use Rattle.extensions.specs.declared.Extension.{Extension}
 use Rattle.extensions.specs.declared.Extension.the-variants.{Is, Absent}
+use Rattle.extensions.specs.declared.Held.{Held}
+use Rattle.extensions.specs.declared.Overview.{Overview}
 use Rattle.elements.specs.Octets.{alike}
 use Rattle.elements.specs.Elements.{foundAt, foundTagged, withTag, onFound, inside, contentsOf}
 
@@ -64,17 +66,20 @@ unfoldable pub oidOf : ℕ → List ℕ
 oidOf k =
     cond (ltb k 22) (0x55 ∷ 0x1D ∷ (k + 14) ∷ []) (0x67 ∷ 0x81 ∷ 0x08 ∷ 0x01 ∷ 0x01 ∷ 0x06 ∷ 0x02 ∷ [])
 
--- an extension has the slot of its OID
-abbrev pub Slotted : List ℕ → Extension → ℕ → Type 0
-Slotted s extension slot = (k : ℕ) → k < 23 → eqb slot k ≡ hasOid s (oidOf k) extension
+-- an extension has the slot of its OID; what is none has slot 24
+pub record Slotted (s : List ℕ) (extension : Extension) (slot : ℕ) : Type 0 where
+  pub there : present extension ≡ not (eqb slot 24)
+  pub each : (k : ℕ) → k < 23 → eqb slot k ≡ hasOid s (oidOf k) extension
 
--- each slot holds where the first extension with its OID starts, or the end where there is none
-pub record Placed (s : List ℕ) (extensions : Element) (slots : List ℕ) : Type 0 where
-  pub each : (k : ℕ) → k < 23 → getD slots k 0 ≡ placeIn s (oidOf k) (inside s extensions) (extensions .end)
+-- what is held of an extension: that it is there, whether it is critical, where the contents of its value start and end
+unfoldable pub heldOf : Extension → Held
+heldOf Absent = record { there = false; critical = false; start = 0; end = 0 }
+heldOf (Is oid critical value) =
+    record { there = true; critical = critical; start = value .contents; end = value .end }
 
--- the extension that starts at `at`, before `end`
-unfoldable pub extensionAt : List ℕ → ℕ → ℕ → Extension
-extensionAt s at end = onFound (foundAt s at end) Absent (extensionOf s)
+-- each slot holds the first extension with its OID
+pub record Placed (s : List ℕ) (extensions : Element) (slots : List Held) : Type 0 where
+  pub each : (k : ℕ) → k < 23 → getD slots k (heldOf Absent) ≡ heldOf (lookupOf s extensions (oidOf k))
 
 -- whether two extensions have one OID
 unfoldable pub sameOids : List ℕ → Extension → Extension → Bool
@@ -110,3 +115,10 @@ someCritical s allow (e ∷ rest) = cond (refusedCritical s allow (extensionOf s
 
 unfoldable pub criticalOf : List ℕ → Element → Bool → Bool
 criticalOf s extensions allow = someCritical s allow (inside s extensions)
+
+-- what one pass over the extensions tells
+pub record Viewed (s : List ℕ) (extensions : Element) (o : Overview) : Type 0 where
+  pub shaped : o .shaped ≡ extensionsShaped s extensions
+  pub critical : o .critical ≡ criticalOf s extensions true
+  pub doubled : o .doubled ≡ doubledOf s extensions
+  pub placed : Placed s extensions (o .slots)

@@ -9,10 +9,11 @@ use elements::element_at;
 use elements::element_tagged;
 use elements::same;
 ghost use mathlib.Core.Path.{_≡_};
-ghost use mathlib.Core.List.{[], _∷_};
+ghost use mathlib.Core.Bool.{true};
+ghost use mathlib.Core.List.{List, [], _∷_};
 ghost use Prim.Native.Nat.{ℕ, _<_};
 ghost use lib.Dec.{eqb};
-ghost use Rattle.extensions.specs.Extensions.{holdingOf, extensionOf, extensionsShaped, lookupOf, doubledOf, hasOid, placeIn, sameOids, refusedCritical, criticalOf, oidOf, Slotted, Placed, extensionAt};
+ghost use Rattle.extensions.specs.Extensions.{holdingOf, extensionOf, extensionsShaped, lookupOf, doubledOf, hasOid, placeIn, sameOids, refusedCritical, criticalOf, oidOf, heldOf, Slotted, Viewed};
 ghost use Rattle.elements.specs.Elements.{membersOf};
 ghost use Rattle.elements.specs.Octets.{alike};
 
@@ -125,33 +126,117 @@ pub fn lookup(item: &[u8], extensions: Element, oid: &[u8]) -> Extension
     extension_of(item, e)
 }
 
-// Where the first extension of each slot's OID starts, or the end where there is none: 2.5.29.14 to 2.5.29.35 in slots
-// 0 to 21, the document type list in slot 22.
-pub struct Offsets {
-    pub slots: [usize; 23],
+// Of an extension: whether it is there, whether it is critical, and where the contents of its value start and end.
+pub struct Held {
+    pub there: bool,
+    pub critical: bool,
+    pub start: usize,
+    pub end: usize,
 }
 
-pub fn all_places(item: &[u8], extensions: Element) -> Offsets
-    ensures { λ r. ⌜ Placed (now (item .entry)) extensions (r .slots) ⌝ }
+// What one pass over the extensions tells: whether each member is one; whether one beside keyUsage and basicConstraints is
+// critical; whether an OID stands twice; and what the first extension with each slot's OID holds: 2.5.29.14 to 2.5.29.35
+// in slots 0 to 21, the document type list in slot 22.
+pub struct Overview {
+    pub shaped: bool,
+    pub critical: bool,
+    pub doubled: bool,
+    pub slots: [Held; 23],
+}
+
+// An OID with a slot stands twice where its slot is taken when it is met. Every pair is compared only where two or more
+// OIDs have no slot.
+pub fn one_pass(item: &[u8], extensions: Element) -> Overview
+    ensures { λ r. ⌜ Viewed (now (item .entry)) extensions r ⌝ }
 {
-    let end = extensions.end;
-    let mut slots = [end; 23];
+    let mut shaped = extensions.tag == 0x30;
+    let mut critical = false;
+    let mut repeated = false;
+    let mut strange = false;
+    let mut unsure = false;
+    let none = held_of(Extension::Absent);
+    let mut slots = [none; 23];
     let mut at = extensions.contents;
     loop {
-        let Found::One(e) = element_at(item, at, end) else {
-            return Offsets { slots };
+        let Found::One(e) = element_at(item, at, extensions.end) else {
+            break;
         };
-        let slot = slot_of(item, extension_of(item, e));
+        let own = extension_of(item, e);
+        let slot = slot_of(item, own);
+        shaped = shaped & (slot != 24);
+        critical = critical | unusual(own, slot);
         if slot < 23 {
-            if slots[slot] == end {
-                slots[slot] = at;
+            let first = slots[slot];
+            if first.there {
+                repeated = true;
+            } else {
+                slots[slot] = held_of(own);
             }
+        } else if slot != 24 {
+            unsure = unsure | strange;
+            strange = true;
         }
         at = e.end;
     }
+    if !repeated {
+        if unsure {
+            repeated = doubled(item, extensions);
+        }
+    }
+    Overview {
+        shaped,
+        critical,
+        doubled: repeated,
+        slots,
+    }
 }
 
-// The slot of an extension's OID, 23 for one that has no slot.
+fn held_of(extension: Extension) -> Held
+    ensures { λ r. ⌜ r ≡ heldOf extension ⌝ }
+{
+    let Extension::Is {
+        oid: _,
+        critical,
+        value,
+    } = extension
+    else {
+        return Held {
+            there: false,
+            critical: false,
+            start: 0,
+            end: 0,
+        };
+    };
+    Held {
+        there: true,
+        critical,
+        start: value.contents,
+        end: value.end,
+    }
+}
+
+// Whether an extension is critical and neither keyUsage nor basicConstraints, by its slot.
+fn unusual(extension: Extension, slot: usize) -> bool
+    ensures { λ r. ⌜ ((s : List ℕ) → Slotted s extension slot → r ≡ refusedCritical s true extension) ⌝ }
+{
+    let Extension::Is {
+        oid: _,
+        critical,
+        value: _,
+    } = extension
+    else {
+        return false;
+    };
+    if slot == 1 {
+        return false;
+    }
+    if slot == 5 {
+        return false;
+    }
+    critical
+}
+
+// The slot of an extension's OID, 23 for one that has no slot, 24 for what is no extension.
 fn slot_of(item: &[u8], extension: Extension) -> usize
     ensures { λ r. ⌜ Slotted (now (item .entry)) extension r ⌝ }
 {
@@ -161,7 +246,7 @@ fn slot_of(item: &[u8], extension: Extension) -> usize
         value: _,
     } = extension
     else {
-        return 23;
+        return 24;
     };
     let own = contents(item, oid);
     if own.len() == 3 {
@@ -175,7 +260,7 @@ fn slot_of(item: &[u8], extension: Extension) -> usize
 
 // The slot of an OID of three octets.
 fn slot_by(a: u8, b: u8, c: u8) -> usize
-    ensures { λ r. ⌜ ((k : ℕ) → k < 23 → eqb r k ≡ alike (a ∷ b ∷ c ∷ []) (oidOf k)) ⌝ }
+    ensures { λ r. ⌜ (r < 24) × ((k : ℕ) → k < 23 → eqb r k ≡ alike (a ∷ b ∷ c ∷ []) (oidOf k)) ⌝ }
 {
     if a != 0x55 {
         return 23;
@@ -190,16 +275,6 @@ fn slot_by(a: u8, b: u8, c: u8) -> usize
         return 23;
     }
     c as usize - 14
-}
-
-// The extension that starts at an offset.
-pub fn extension_in(item: &[u8], at: usize, end: usize) -> Extension
-    ensures { λ r. ⌜ r ≡ extensionAt (now (item .entry)) at end ⌝ }
-{
-    let Found::One(found) = element_at(item, at, end) else {
-        return Extension::Absent;
-    };
-    extension_of(item, found)
 }
 
 // Whether some OID stands twice.

@@ -1,6 +1,6 @@
 -- The members of a certificate's tbs, one after the other, by going back through the steps of its shape.
 use Prim.Native.Nat.{ℕ}
-use mathlib.Core.Path.{_≡_, refl, subst, _∙_}
+use mathlib.Core.Path.{_≡_, refl, sym, subst, _∙_}
 use mathlib.Core.Bool.{Bool, true, false}
 use mathlib.Core.List.{List}
 use native.Mathlib.Omega.{arith}
@@ -25,7 +25,7 @@ use Rattle.certificate.specs.declared.shapes.Shape.{Shape}
 use Rattle.certificate.specs.declared.shapes.Shape.the-variants.{Parts, Broken}
 use Rattle.certificate.specs.declared.shapes.Validity.{Validity}
 use Rattle.certificate.specs.declared.shapes.Validity.the-variants.{Times, Timeless}
-use Rattle.certificate.specs.Shape.{onFront, onValidity, onBack, frontOf, validityOf, uniqueEnd, backOf, layoutOf}
+use Rattle.certificate.specs.Shape.{onFront, onValidity, onBack, frontOf, validityOf, uniqueEnd, backOf, onParts, partsOf, layoutOf}
 use Rattle.parts.proofs.Inverse.{went, kept, by-envelope, by-name}
 use Rattle.parts.proofs.Spans.{Spans, Member}
 use Rattle.parts.proofs.Enveloped.{tagged-first, members-inside, only-tree, only-inside}
@@ -57,6 +57,11 @@ unfolding onBack
 by-back Backless k p = absurd (broken p)
 by-back (Closes a b c d) k p = (a, b, c, d, refl, p)
 
+by-parts : {l : Layout} (v : Shape) (k : Layout → Shape) → onParts v k ≡ Parts l → (m : Layout) × (v ≡ Parts m) × (k m ≡ Parts l)
+unfolding onParts
+by-parts Broken k p = absurd (broken p)
+by-parts (Parts m) k p = (m, refl, p)
+
 parts-same : {l m : Layout} → _≡_ {A = Shape} (Parts l) (Parts m) → l ≡ m
 parts-same p = cc
 
@@ -72,16 +77,19 @@ pub record Laid (s : List ℕ) (l : Layout) : Type 0 where
   pub shaped : extensionsShaped s (l .extensions) ≡ true
 
 pub laid : (s : List ℕ) (l : Layout) → layoutOf s ≡ Parts l → Laid s l
-unfolding layoutOf
+unfolding layoutOf partsOf
 laid s l e =
-    let a = by-envelope (envelopeOf s) Broken _ (Parts l) broken e in
+    let p = by-parts (partsOf s) _ e in
+    let m = p .0 in
+    let a = by-envelope (envelopeOf s) Broken _ (Parts m) broken (p .1) in
     let b = by-front (frontOf s (a .0)) _ (a .3) in
     let c = by-validity (validityOf s (b .4)) _ (b .6) in
     let d = by-back (backOf s (b .4 .end) (a .0 .end)) _ (c .3) in
-    let f = by-name (nameOf s (b .3)) Broken _ (Parts l) broken (d .5) in
-    let g = by-name (nameOf s (d .0)) Broken _ (Parts l) broken (f .1) in
-    let h = kept (extensionsShaped s (d .3)) _ Broken (Parts l) broken (g .1) in
-    subst (Laid s) (parts-same (h .1))
+    let f = by-name (nameOf s (b .3)) Broken _ (Parts m) broken (d .5) in
+    let g = by-name (nameOf s (d .0)) Broken _ (Parts m) broken (f .1) in
+    let h = kept (extensionsShaped s (m .extensions)) _ Broken (Parts l) broken (p .2) in
+    let found = parts-same (g .1) in
+    subst (Laid s) (found ∙ parts-same (h .1))
     (record {
       tbs = a .0;
       outer = a .1;
@@ -90,7 +98,7 @@ laid s l e =
       around = a .2;
       front = b .5;
       back = d .4;
-      shaped = h .0;
+      shaped = subst (λ (n : Layout). extensionsShaped s (n .extensions) ≡ true) (sym found) (h .0);
     })
 
 -- the first five members of the tbs

@@ -1,23 +1,16 @@
 -- The flag is tested, then the contents are compared.
-use borrow.Author.Needs.{needs}
+use mathlib.Core.Path.{_∙_}
 use borrow.Author.Tests.{not-true, not-false}
-use Rattle.certificate.specs.Rules.{criticalWith}
+use Rattle.certificate.proofs.Held.{critical-same, critical-not}
+use borrow.Author.Needs.{needs}
 use Rattle.certificate.proofs.rules.critical_with.Statement.{statement}
 use Rattle.certificate.proofs.rules.critical_with.Tie as tie
 
-enum-known-extension : tie.Need-enum-known-extension
-enum-known-extension c = search needs
-
-enum-told : tie.Need-enum-told
-enum-told c = search needs
-
 returns : tie.Need-returns
-unfolding criticalWith
-returns c = rw (c .enum-told .given .1)
+returns c = λ x h. critical-not _ _ x h (not-true _ (c .if1 .taken))
 
-returns-2 : tie.Need-returns-2
-unfolding criticalWith
-returns-2 c = rw (c .before .before .extension .given .1, not-true (c .before .before .extension .given .0 .1 .0) (c .if1 .taken))
+value-of-requires : tie.Need-value-of-requires
+value-of-requires c κs = search needs
 
 contents-requires : tie.Need-contents-requires
 contents-requires c κs = search needs
@@ -25,18 +18,15 @@ contents-requires c κs = search needs
 same-requires : tie.Need-same-requires
 same-requires c κs = search needs
 
-returns-3 : tie.Need-returns-3
-unfolding criticalWith
-returns-3 c = rw (c .before .before .before .before .extension .given .1, not-false (c .before .before .before .before .extension .given .0 .1 .0) (c .before .before .if1 .left), ← c .before .contents .ensures) (c .same .ensures)
+returns-2 : tie.Need-returns-2
+returns-2 c = λ x h. c .same .ensures ∙ rw (c .before .contents .ensures) (critical-same _ (c .before .before .value-of .ensures) _ x h (not-false _ (c .before .before .before .if1 .left)))
 
 pub critical-with-spec : {M : Type 1} → statement M
 critical-with-spec =
     tie.close
     (tie.spec
-    enum-known-extension
-    enum-told
     returns
-    returns-2
+    value-of-requires
     contents-requires
     same-requires
-    returns-3)
+    returns-2)

@@ -1,7 +1,6 @@
 -- The list is asked of a document signer alone.
-use borrow.Author.Needs.{needs}
 use borrow.Author.Tests.{eq-eqb, ne-eqb}
-use Rattle.certificate.specs.Rules.{rule13}
+use borrow.Author.Needs.{needs}
 use Rattle.certificate.proofs.rules.documents_good.Statement.{statement}
 use Rattle.certificate.proofs.rules.documents_good.Tie as tie
 
@@ -9,12 +8,15 @@ document-types-requires : tie.Need-document-types-requires
 document-types-requires c κs = search needs
 
 returns : tie.Need-returns
-unfolding rule13
-returns c = rw (eq-eqb _ _ (c .before .if1 .taken)) (c .document-types .ensures)
+returns c = λ x h. rw (eq-eqb _ _ (c .before .if1 .taken)) (c .document-types .ensures x h)
 
 returns-2 : tie.Need-returns-2
-unfolding rule13
-returns-2 c = rw (ne-eqb _ _ (c .if1 .left))
+returns-2 c = λ x h. rw (ne-eqb _ _ (c .if1 .left))
 
 pub documents-good-spec : {M : Type 1} → statement M
-documents-good-spec = tie.close (tie.spec document-types-requires returns returns-2)
+documents-good-spec =
+    tie.close
+    (tie.spec
+    document-types-requires
+    returns
+    returns-2)

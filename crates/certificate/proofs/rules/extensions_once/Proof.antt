@@ -20,12 +20,9 @@ returns : tie.Need-returns
 unfolding rule8
 returns c = rw (none-inside (c .before .before .before .before .before .args .item .now) (c .before .before .before .before .before .args .l .extensions) (sym (c .before .before .element-at .ensures) ∙ c .enum-told2 .given .1))
 
-doubled-requires : tie.Need-doubled-requires
-doubled-requires c κs = search needs
-
 returns-2 : tie.Need-returns-2
 unfolding rule8
-returns-2 c = rw (some-inside (c .before .before .before .before .before .before .args .item .now) (c .before .before .before .before .before .before .args .l .extensions) (sym (c .before .before .before .element-at .ensures) ∙ c .before .enum-told .given .1)) (ap not (c .doubled .ensures))
+returns-2 c = rw (some-inside (c .before .before .before .before .before .args .item .now) (c .before .before .before .before .before .args .l .extensions) (sym (c .before .before .element-at .ensures) ∙ c .enum-told .given .1)) (ap not (c .before .before .before .before .before .pre))
 
 pub extensions-once-spec : {M : Type 1} → statement M
 extensions-once-spec =
@@ -35,5 +32,4 @@ extensions-once-spec =
     enum-told
     enum-told-2
     returns
-    doubled-requires
     returns-2)

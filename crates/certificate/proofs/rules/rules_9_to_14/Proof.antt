@@ -1,73 +1,84 @@
 -- The rules are tried in their order, so the first that is broken is told.
 use mathlib.Core.Path.{sym, ap, _∙_}
 use mathlib.Core.Bool.{not}
-use borrow.Author.Needs.{needs}
+use native.Mathlib.Omega.{arith}
 use borrow.Author.Tests.{not-true, not-false}
-use Rattle.certificate.specs.Rules.{rule11, rule14, rules9to14}
+use Rattle.extensions.specs.Extensions.{oidOf, heldOf}
 use Rattle.refusal.proofs.Order.{broken-here, broken-later, none-broken}
+use Rattle.certificate.specs.Keys.{documentTypes}
+use Rattle.certificate.specs.Rules.{rule9, rule10, rule11, rule13, rule14, rules9to14}
+use borrow.Author.Needs.{needs}
 use Rattle.certificate.proofs.rules.rules_9_to_14.Statement.{statement}
 use Rattle.certificate.proofs.rules.rules_9_to_14.Tie as tie
+
+array-copy-out-usage : tie.Need-array-copy-out-usage
+array-copy-out-usage c = search needs
 
 usage-good-requires : tie.Need-usage-good-requires
 usage-good-requires c κs = search needs
 
 returns : tie.Need-returns
-unfolding rules9to14 rule11 rule14
-returns c = sym (broken-here _ _ (sym (c .before .usage-good .ensures) ∙ not-true _ (c .if1 .taken)))
+unfolding rules9to14 rule9 rule10 rule11 rule13 rule14 documentTypes oidOf heldOf
+returns c = λ x p q. sym (broken-here _ _ (sym (c .before .usage-good .ensures _ (p .each 1 (omega arith))) ∙ not-true _ (c .if1 .taken)))
+
+array-copy-out-constraints : tie.Need-array-copy-out-constraints
+array-copy-out-constraints c = search needs
 
 constraints-good-requires : tie.Need-constraints-good-requires
 constraints-good-requires c κs = search needs
 
 returns-2 : tie.Need-returns-2
-unfolding rules9to14 rule11 rule14
-returns-2 c = sym (broken-later _ _ (sym (c .before .before .before .usage-good .ensures) ∙ not-false _ (c .before .before .if1 .left)) ∙ broken-here _ _ (sym (c .before .constraints-good .ensures) ∙ not-true _ (c .if2 .taken)))
+unfolding rules9to14 rule9 rule10 rule11 rule13 rule14 documentTypes oidOf heldOf
+returns-2 c = λ x p q. sym (broken-later _ _ (sym (c .before .before .before .before .usage-good .ensures _ (p .each 1 (omega arith))) ∙ not-false _ (c .before .before .before .if1 .left)) ∙ broken-here _ _ (sym (c .before .constraints-good .ensures _ (p .each 5 (omega arith))) ∙ not-true _ (c .if2 .taken)))
 
 keys-good-requires : tie.Need-keys-good-requires
 keys-good-requires c κs = search needs
 
 returns-3 : tie.Need-returns-3
-unfolding rules9to14 rule11 rule14
-returns-3 c = sym (broken-later _ _ (sym (c .before .before .before .before .before .usage-good .ensures) ∙ not-false _ (c .before .before .before .before .if1 .left)) ∙ broken-later _ _ (sym (c .before .before .before .constraints-good .ensures) ∙ not-false _ (c .before .before .if2 .left)) ∙ broken-here _ _ (sym (c .before .keys-good .ensures) ∙ not-true _ (c .if3 .taken)))
+unfolding rules9to14 rule9 rule10 rule11 rule13 rule14 documentTypes oidOf heldOf
+returns-3 c = λ x p q. sym (broken-later _ _ (sym (c .before .before .before .before .before .before .usage-good .ensures _ (p .each 1 (omega arith))) ∙ not-false _ (c .before .before .before .before .before .if1 .left)) ∙ broken-later _ _ (sym (c .before .before .before .constraints-good .ensures _ (p .each 5 (omega arith))) ∙ not-false _ (c .before .before .if2 .left)) ∙ broken-here _ _ (sym (c .before .keys-good .ensures) ∙ not-true _ (c .if3 .taken)))
 
 four-plain-requires : tie.Need-four-plain-requires
 four-plain-requires c κs = search needs
 
 returns-4 : tie.Need-returns-4
-unfolding rules9to14 rule11 rule14
-returns-4 c = sym (broken-later _ _ (sym (c .before .before .before .before .before .before .before .usage-good .ensures) ∙ not-false _ (c .before .before .before .before .before .before .if1 .left)) ∙ broken-later _ _ (sym (c .before .before .before .before .before .constraints-good .ensures) ∙ not-false _ (c .before .before .before .before .if2 .left)) ∙ broken-later _ _ (sym (c .before .before .before .keys-good .ensures) ∙ not-false _ (c .before .before .if3 .left)) ∙ broken-here _ _ (sym (c .before .four-plain .ensures) ∙ not-true _ (c .if4 .taken)))
+unfolding rules9to14 rule9 rule10 rule11 rule13 rule14 documentTypes oidOf heldOf
+returns-4 c = λ x p q. sym (broken-later _ _ (sym (c .before .before .before .before .before .before .before .before .usage-good .ensures _ (p .each 1 (omega arith))) ∙ not-false _ (c .before .before .before .before .before .before .before .if1 .left)) ∙ broken-later _ _ (sym (c .before .before .before .before .before .constraints-good .ensures _ (p .each 5 (omega arith))) ∙ not-false _ (c .before .before .before .before .if2 .left)) ∙ broken-later _ _ (sym (c .before .before .before .keys-good .ensures) ∙ not-false _ (c .before .before .if3 .left)) ∙ broken-here _ _ (sym (c .before .four-plain .ensures _ x p) ∙ not-true _ (c .if4 .taken)))
+
+array-copy-out-documents : tie.Need-array-copy-out-documents
+array-copy-out-documents c = search needs
 
 documents-good-requires : tie.Need-documents-good-requires
 documents-good-requires c κs = search needs
 
 returns-5 : tie.Need-returns-5
-unfolding rules9to14 rule11 rule14
-returns-5 c = sym (broken-later _ _ (sym (c .before .before .before .before .before .before .before .before .before .usage-good .ensures) ∙ not-false _ (c .before .before .before .before .before .before .before .before .if1 .left)) ∙ broken-later _ _ (sym (c .before .before .before .before .before .before .before .constraints-good .ensures) ∙ not-false _ (c .before .before .before .before .before .before .if2 .left)) ∙ broken-later _ _ (sym (c .before .before .before .before .before .keys-good .ensures) ∙ not-false _ (c .before .before .before .before .if3 .left)) ∙ broken-later _ _ (sym (c .before .before .before .four-plain .ensures) ∙ not-false _ (c .before .before .if4 .left)) ∙ broken-here _ _ (sym (c .before .documents-good .ensures) ∙ not-true _ (c .if5 .taken)))
-
-some-critical-requires : tie.Need-some-critical-requires
-some-critical-requires c κs = search needs
+unfolding rules9to14 rule9 rule10 rule11 rule13 rule14 documentTypes oidOf heldOf
+returns-5 c = λ x p q. sym (broken-later _ _ (sym (c .before .before .before .before .before .before .before .before .before .before .before .usage-good .ensures _ (p .each 1 (omega arith))) ∙ not-false _ (c .before .before .before .before .before .before .before .before .before .before .if1 .left)) ∙ broken-later _ _ (sym (c .before .before .before .before .before .before .before .before .constraints-good .ensures _ (p .each 5 (omega arith))) ∙ not-false _ (c .before .before .before .before .before .before .before .if2 .left)) ∙ broken-later _ _ (sym (c .before .before .before .before .before .before .keys-good .ensures) ∙ not-false _ (c .before .before .before .before .before .if3 .left)) ∙ broken-later _ _ (sym (c .before .before .before .before .four-plain .ensures _ x p) ∙ not-false _ (c .before .before .before .if4 .left)) ∙ broken-here _ _ (sym (c .before .documents-good .ensures _ (p .each 22 (omega arith))) ∙ not-true _ (c .if5 .taken)))
 
 returns-6 : tie.Need-returns-6
-unfolding rules9to14 rule11 rule14
-returns-6 c = sym (broken-later _ _ (sym (c .before .before .before .before .before .before .before .before .before .before .before .usage-good .ensures) ∙ not-false _ (c .before .before .before .before .before .before .before .before .before .before .if1 .left)) ∙ broken-later _ _ (sym (c .before .before .before .before .before .before .before .before .before .constraints-good .ensures) ∙ not-false _ (c .before .before .before .before .before .before .before .before .if2 .left)) ∙ broken-later _ _ (sym (c .before .before .before .before .before .before .before .keys-good .ensures) ∙ not-false _ (c .before .before .before .before .before .before .if3 .left)) ∙ broken-later _ _ (sym (c .before .before .before .before .before .four-plain .ensures) ∙ not-false _ (c .before .before .before .before .if4 .left)) ∙ broken-later _ _ (sym (c .before .before .before .documents-good .ensures) ∙ not-false _ (c .before .before .if5 .left)) ∙ broken-here _ _ (ap not (sym (c .before .some-critical .ensures) ∙ c .if6 .taken)))
+unfolding rules9to14 rule9 rule10 rule11 rule13 rule14 documentTypes oidOf heldOf
+returns-6 c = λ x p q. sym (broken-later _ _ (sym (c .before .before .before .before .before .before .before .before .before .before .before .before .usage-good .ensures _ (p .each 1 (omega arith))) ∙ not-false _ (c .before .before .before .before .before .before .before .before .before .before .before .if1 .left)) ∙ broken-later _ _ (sym (c .before .before .before .before .before .before .before .before .before .constraints-good .ensures _ (p .each 5 (omega arith))) ∙ not-false _ (c .before .before .before .before .before .before .before .before .if2 .left)) ∙ broken-later _ _ (sym (c .before .before .before .before .before .before .before .keys-good .ensures) ∙ not-false _ (c .before .before .before .before .before .before .if3 .left)) ∙ broken-later _ _ (sym (c .before .before .before .before .before .four-plain .ensures _ x p) ∙ not-false _ (c .before .before .before .before .if4 .left)) ∙ broken-later _ _ (sym (c .before .before .documents-good .ensures _ (p .each 22 (omega arith))) ∙ not-false _ (c .before .if5 .left)) ∙ broken-here _ _ (ap not (sym q ∙ c .if6 .taken)))
 
 returns-7 : tie.Need-returns-7
-unfolding rules9to14 rule11 rule14
-returns-7 c = sym (broken-later _ _ (sym (c .before .before .before .before .before .before .before .before .before .before .before .usage-good .ensures) ∙ not-false _ (c .before .before .before .before .before .before .before .before .before .before .if1 .left)) ∙ broken-later _ _ (sym (c .before .before .before .before .before .before .before .before .before .constraints-good .ensures) ∙ not-false _ (c .before .before .before .before .before .before .before .before .if2 .left)) ∙ broken-later _ _ (sym (c .before .before .before .before .before .before .before .keys-good .ensures) ∙ not-false _ (c .before .before .before .before .before .before .if3 .left)) ∙ broken-later _ _ (sym (c .before .before .before .before .before .four-plain .ensures) ∙ not-false _ (c .before .before .before .before .if4 .left)) ∙ broken-later _ _ (sym (c .before .before .before .documents-good .ensures) ∙ not-false _ (c .before .before .if5 .left)) ∙ broken-later _ _ (ap not (sym (c .before .some-critical .ensures) ∙ c .if6 .left)) ∙ none-broken _)
+unfolding rules9to14 rule9 rule10 rule11 rule13 rule14 documentTypes oidOf heldOf
+returns-7 c = λ x p q. sym (broken-later _ _ (sym (c .before .before .before .before .before .before .before .before .before .before .before .before .usage-good .ensures _ (p .each 1 (omega arith))) ∙ not-false _ (c .before .before .before .before .before .before .before .before .before .before .before .if1 .left)) ∙ broken-later _ _ (sym (c .before .before .before .before .before .before .before .before .before .constraints-good .ensures _ (p .each 5 (omega arith))) ∙ not-false _ (c .before .before .before .before .before .before .before .before .if2 .left)) ∙ broken-later _ _ (sym (c .before .before .before .before .before .before .before .keys-good .ensures) ∙ not-false _ (c .before .before .before .before .before .before .if3 .left)) ∙ broken-later _ _ (sym (c .before .before .before .before .before .four-plain .ensures _ x p) ∙ not-false _ (c .before .before .before .before .if4 .left)) ∙ broken-later _ _ (sym (c .before .before .documents-good .ensures _ (p .each 22 (omega arith))) ∙ not-false _ (c .before .if5 .left)) ∙ broken-later _ _ (ap not (sym q ∙ c .if6 .left)) ∙ none-broken _)
 
 pub rules-9-to-14-spec : {M : Type 1} → statement M
 rules-9-to-14-spec =
     tie.close
     (tie.spec
+    array-copy-out-usage
     usage-good-requires
     returns
+    array-copy-out-constraints
     constraints-good-requires
     returns-2
     keys-good-requires
     returns-3
     four-plain-requires
     returns-4
+    array-copy-out-documents
     documents-good-requires
     returns-5
-    some-critical-requires
     returns-6
     returns-7)

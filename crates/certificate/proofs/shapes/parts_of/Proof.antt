@@ -1,13 +1,12 @@
 -- Each part is read in the order of the definition.
-use mathlib.Core.Path.{sym, _∙_}
+use mathlib.Core.Path.{refl, sym, _∙_}
 use borrow.Author.Needs.{needs}
-use borrow.Author.Tests.{not-true, not-false}
-use Rattle.certificate.specs.Shape.{layoutOf}
+use Rattle.certificate.specs.Shape.{partsOf}
 use Rattle.elements.proofs.Enclosed.{envelope-bad, envelope-good}
 use Rattle.names.proofs.Held.{name-bad, name-good}
 use Rattle.certificate.proofs.Chains.{front-bad, front-good, validity-bad, validity-good, back-bad, back-good}
-use Rattle.certificate.proofs.shapes.layout_of.Statement.{statement}
-use Rattle.certificate.proofs.shapes.layout_of.Tie as tie
+use Rattle.certificate.proofs.shapes.parts_of.Statement.{statement}
+use Rattle.certificate.proofs.shapes.parts_of.Tie as tie
 
 envelope-of-requires : tie.Need-envelope-of-requires
 envelope-of-requires c κs = search needs
@@ -19,7 +18,7 @@ enum-told : tie.Need-enum-told
 enum-told c = search needs
 
 returns : tie.Need-returns
-unfolding layoutOf
+unfolding partsOf
 returns c = envelope-bad _ (sym (c .before .before .envelope-of .ensures) ∙ c .enum-told .given .1)
 
 front-of-requires : tie.Need-front-of-requires
@@ -32,7 +31,7 @@ enum-told-2 : tie.Need-enum-told-2
 enum-told-2 c = search needs
 
 returns-2 : tie.Need-returns-2
-unfolding layoutOf
+unfolding partsOf
 returns-2 c = envelope-good _ _ (sym (c .before .before .before .before .before .before .envelope-of .ensures) ∙ c .before .before .before .before .tbs .given .1) (front-bad _ (sym (c .before .before .front-of .ensures) ∙ c .enum-told2 .given .1))
 
 validity-of-requires : tie.Need-validity-of-requires
@@ -45,7 +44,7 @@ enum-told-3 : tie.Need-enum-told-3
 enum-told-3 c = search needs
 
 returns-3 : tie.Need-returns-3
-unfolding layoutOf
+unfolding partsOf
 returns-3 c = envelope-good _ _ (sym (c .before .before .before .before .before .before .before .before .before .before .envelope-of .ensures) ∙ c .before .before .before .before .before .before .before .before .tbs .given .1) (front-good _ (sym (c .before .before .before .before .before .before .front-of .ensures) ∙ c .before .before .before .before .version .given .1) (validity-bad _ (sym (c .before .before .validity-of .ensures) ∙ c .enum-told3 .given .1)))
 
 back-of-requires : tie.Need-back-of-requires
@@ -58,7 +57,7 @@ enum-told-4 : tie.Need-enum-told-4
 enum-told-4 c = search needs
 
 returns-4 : tie.Need-returns-4
-unfolding layoutOf
+unfolding partsOf
 returns-4 c = envelope-good _ _ (sym (c .before .before .before .before .before .before .before .before .before .before .before .before .before .before .envelope-of .ensures) ∙ c .before .before .before .before .before .before .before .before .before .before .before .before .tbs .given .1) (front-good _ (sym (c .before .before .before .before .before .before .before .before .before .before .front-of .ensures) ∙ c .before .before .before .before .before .before .before .before .version .given .1) (validity-good _ (sym (c .before .before .before .before .before .before .validity-of .ensures) ∙ c .before .before .before .before .start .given .1) (back-bad _ (sym (c .before .before .back-of .ensures) ∙ c .enum-told4 .given .1))))
 
 name-of-requires : tie.Need-name-of-requires
@@ -71,7 +70,7 @@ enum-told-5 : tie.Need-enum-told-5
 enum-told-5 c = search needs
 
 returns-5 : tie.Need-returns-5
-unfolding layoutOf
+unfolding partsOf
 returns-5 c = envelope-good _ _ (sym (c .before .before .before .before .before .before .before .before .before .before .before .before .before .before .before .before .before .before .envelope-of .ensures) ∙ c .before .before .before .before .before .before .before .before .before .before .before .before .before .before .before .before .tbs .given .1) (front-good _ (sym (c .before .before .before .before .before .before .before .before .before .before .before .before .before .before .front-of .ensures) ∙ c .before .before .before .before .before .before .before .before .before .before .before .before .version .given .1) (validity-good _ (sym (c .before .before .before .before .before .before .before .before .before .before .validity-of .ensures) ∙ c .before .before .before .before .before .before .before .before .start .given .1) (back-good _ (sym (c .before .before .before .before .before .before .back-of .ensures) ∙ c .before .before .before .before .subject .given .1) (name-bad _ (sym (c .before .before .name-of .ensures) ∙ c .enum-told5 .given .1)))))
 
 name-of-requires-2 : tie.Need-name-of-requires-2
@@ -84,22 +83,15 @@ enum-told-6 : tie.Need-enum-told-6
 enum-told-6 c = search needs
 
 returns-6 : tie.Need-returns-6
-unfolding layoutOf
+unfolding partsOf
 returns-6 c = envelope-good _ _ (sym (c .before .before .before .before .before .before .before .before .before .before .before .before .before .before .before .before .before .before .before .before .before .before .envelope-of .ensures) ∙ c .before .before .before .before .before .before .before .before .before .before .before .before .before .before .before .before .before .before .before .before .tbs .given .1) (front-good _ (sym (c .before .before .before .before .before .before .before .before .before .before .before .before .before .before .before .before .before .before .front-of .ensures) ∙ c .before .before .before .before .before .before .before .before .before .before .before .before .before .before .before .before .version .given .1) (validity-good _ (sym (c .before .before .before .before .before .before .before .before .before .before .before .before .before .before .validity-of .ensures) ∙ c .before .before .before .before .before .before .before .before .before .before .before .before .start .given .1) (back-good _ (sym (c .before .before .before .before .before .before .before .before .before .before .back-of .ensures) ∙ c .before .before .before .before .before .before .before .before .subject .given .1) (name-good _ _ (sym (c .before .before .before .before .before .before .name-of .ensures) ∙ c .before .before .before .before .issuer-country .given .1) (name-bad _ (sym (c .before .before .name-of2 .ensures) ∙ c .enum-told6 .given .1))))))
 
-extensions-shaped-requires : tie.Need-extensions-shaped-requires
-extensions-shaped-requires c κs = search needs
-
 returns-7 : tie.Need-returns-7
-unfolding layoutOf
-returns-7 c = envelope-good _ _ (sym (c .before .before .before .before .before .before .before .before .before .before .before .before .before .before .before .before .before .before .before .before .before .before .before .before .before .envelope-of .ensures) ∙ c .before .before .before .before .before .before .before .before .before .before .before .before .before .before .before .before .before .before .before .before .before .before .before .tbs .given .1) (front-good _ (sym (c .before .before .before .before .before .before .before .before .before .before .before .before .before .before .before .before .before .before .before .before .before .front-of .ensures) ∙ c .before .before .before .before .before .before .before .before .before .before .before .before .before .before .before .before .before .before .before .version .given .1) (validity-good _ (sym (c .before .before .before .before .before .before .before .before .before .before .before .before .before .before .before .before .before .validity-of .ensures) ∙ c .before .before .before .before .before .before .before .before .before .before .before .before .before .before .before .start .given .1) (back-good _ (sym (c .before .before .before .before .before .before .before .before .before .before .before .before .before .back-of .ensures) ∙ c .before .before .before .before .before .before .before .before .before .before .before .subject .given .1) (name-good _ _ (sym (c .before .before .before .before .before .before .before .before .before .name-of .ensures) ∙ c .before .before .before .before .before .before .before .issuer-country .given .1) (name-good _ _ (sym (c .before .before .before .before .before .name-of2 .ensures) ∙ c .before .before .before .subject-country .given .1) (rw (sym (c .before .extensions-shaped .ensures) ∙ not-true _ (c .if1 .taken))))))))
+unfolding partsOf
+returns-7 c = envelope-good _ _ (sym (c .before .before .before .before .before .before .before .before .before .before .before .before .before .before .before .before .before .before .before .before .before .before .before .envelope-of .ensures) ∙ c .before .before .before .before .before .before .before .before .before .before .before .before .before .before .before .before .before .before .before .before .before .tbs .given .1) (front-good _ (sym (c .before .before .before .before .before .before .before .before .before .before .before .before .before .before .before .before .before .before .before .front-of .ensures) ∙ c .before .before .before .before .before .before .before .before .before .before .before .before .before .before .before .before .before .version .given .1) (validity-good _ (sym (c .before .before .before .before .before .before .before .before .before .before .before .before .before .before .before .validity-of .ensures) ∙ c .before .before .before .before .before .before .before .before .before .before .before .before .before .start .given .1) (back-good _ (sym (c .before .before .before .before .before .before .before .before .before .before .before .back-of .ensures) ∙ c .before .before .before .before .before .before .before .before .before .subject .given .1) (name-good _ _ (sym (c .before .before .before .before .before .before .before .name-of .ensures) ∙ c .before .before .before .before .before .issuer-country .given .1) (name-good _ _ (sym (c .before .before .before .name-of2 .ensures) ∙ c .before .subject-country .given .1) (refl))))))
 
-returns-8 : tie.Need-returns-8
-unfolding layoutOf
-returns-8 c = envelope-good _ _ (sym (c .before .before .before .before .before .before .before .before .before .before .before .before .before .before .before .before .before .before .before .before .before .before .before .before .before .envelope-of .ensures) ∙ c .before .before .before .before .before .before .before .before .before .before .before .before .before .before .before .before .before .before .before .before .before .before .before .tbs .given .1) (front-good _ (sym (c .before .before .before .before .before .before .before .before .before .before .before .before .before .before .before .before .before .before .before .before .before .front-of .ensures) ∙ c .before .before .before .before .before .before .before .before .before .before .before .before .before .before .before .before .before .before .before .version .given .1) (validity-good _ (sym (c .before .before .before .before .before .before .before .before .before .before .before .before .before .before .before .before .before .validity-of .ensures) ∙ c .before .before .before .before .before .before .before .before .before .before .before .before .before .before .before .start .given .1) (back-good _ (sym (c .before .before .before .before .before .before .before .before .before .before .before .before .before .back-of .ensures) ∙ c .before .before .before .before .before .before .before .before .before .before .before .subject .given .1) (name-good _ _ (sym (c .before .before .before .before .before .before .before .before .before .name-of .ensures) ∙ c .before .before .before .before .before .before .before .issuer-country .given .1) (name-good _ _ (sym (c .before .before .before .before .before .name-of2 .ensures) ∙ c .before .before .before .subject-country .given .1) (rw (sym (c .before .extensions-shaped .ensures) ∙ not-false _ (c .if1 .left))))))))
-
-pub layout-of-spec : {M : Type 1} → statement M
-layout-of-spec =
+pub parts-of-spec : {M : Type 1} → statement M
+parts-of-spec =
     tie.close
     (tie.spec
     envelope-of-requires
@@ -126,6 +118,4 @@ layout-of-spec =
     enum-known-subject-country
     enum-told-6
     returns-6
-    extensions-shaped-requires
-    returns-7
-    returns-8)
+    returns-7)

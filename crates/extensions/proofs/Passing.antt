@@ -1,0 +1,116 @@
+-- What the pass knows where the extensions from `at` on are left.
+use mathlib.Core.Path.{_≡_, refl, sym, ap, _∙_}
+use mathlib.Core.Bool.{Bool, true, false, cond, _&&_, _||_, not}
+use mathlib.Core.List.{List}
+use Prim.Native.Nat.{ℕ, _<_, _≤_}
+use native.Mathlib.Omega.{arith}
+use borrow.Author.Tests.{eq-eqb}
+use lib.Dec.{eqb}
+use lib.ListN.{getD, set, replicate}
+use Rattle.elements.specs.declared.elements.Element.{Element}
+use Rattle.elements.specs.declared.elements.Found.the-variants.{One, Missing}
+use Rattle.extensions.specs.declared.Extension.{Extension}
+use Rattle.extensions.specs.declared.Extension.the-variants.{Is, Absent}
+use Rattle.extensions.specs.declared.Held.{Held}
+use Rattle.elements.specs.Elements.{foundAt, membersOf, inside}
+use Rattle.elements.proofs.Members.{members-none, members-more}
+use Rattle.extensions.specs.Extensions.{extensionOf, present, allShaped, extensionsShaped, doubledOf, refusedCritical, someCritical, criticalOf, oidOf, heldOf, lookupOf, Slotted, Placed}
+use Rattle.extensions.proofs.Slots.{has-there, held-there, Open, open-start, open-none, open-set, open-left}
+use Rattle.extensions.proofs.Strangers.{Apart, apart-start, apart-none, apart-again, apart-new, apart-stranger, apart-absent}
+
+pub record Far (s : List ℕ) (x : Element) (shaped critical twice strange unsure : Bool) (slots : List Held) (at : ℕ) : Type 0 where
+  pub shape : extensionsShaped s x ≡ (shaped && allShaped s (membersOf s at (x .end)))
+  pub harsh : criticalOf s x true ≡ (critical || someCritical s true (membersOf s at (x .end)))
+  pub table : Open s (x .contents) (x .end) slots at
+  pub apart : Apart s (x .contents) (x .end) slots twice strange unsure at
+
+pub far-start : (s : List ℕ) (x : Element) → Far s x (eqb (x .tag) 0x30) false false false false (replicate 23 (heldOf Absent)) (x .contents)
+unfolding extensionsShaped criticalOf inside
+far-start s x =
+    record {
+      shape = go (eqb (x .tag) 0x30);
+      harsh = refl;
+      table = open-start s (x .contents) (x .end);
+      apart = apart-start s (x .contents) (x .end);
+    }
+  where
+    go : (t : Bool) → cond t (allShaped s (membersOf s (x .contents) (x .end))) false ≡ (t && allShaped s (membersOf s (x .contents) (x .end)))
+    go true = refl
+    go false = refl
+
+module _ {s : List ℕ} {x : Element} {shaped critical twice strange unsure : Bool} {slots : List Held} {at : ℕ} (p : Far s x shaped critical twice strange unsure slots at) where
+  module _ (f : foundAt s at (x .end) ≡ Missing) where
+    pub end-shape : shaped ≡ extensionsShaped s x
+    unfolding allShaped
+    end-shape = sym (p .shape ∙ rw (members-none s at (x .end) f) (go shaped))
+      where
+        go : (t : Bool) → (t && true) ≡ t
+        go true = refl
+        go false = refl
+
+    pub end-harsh : critical ≡ criticalOf s x true
+    unfolding someCritical
+    end-harsh = sym (p .harsh ∙ rw (members-none s at (x .end) f) (go critical))
+      where
+        go : (t : Bool) → (t || false) ≡ t
+        go true = refl
+        go false = refl
+
+    pub end-placed : Placed s x slots
+    unfolding lookupOf inside
+    end-placed = record { each = open-none (p .table) f }
+
+    pub end-apart : twice ≡ false → unsure ≡ false → twice ≡ doubledOf s x
+    unfolding doubledOf inside
+    end-apart t u = t ∙ sym (apart-none (p .apart) f t u)
+
+    pub end-twice : twice ≡ true → twice ≡ doubledOf s x
+    unfolding doubledOf inside
+    end-twice t = t ∙ sym (p .apart .told t)
+
+  module _ {e : Element} {slot : ℕ} {told : Bool} (f : foundAt s at (x .end) ≡ One e) (h : Slotted s (extensionOf s e) slot) (u : told ≡ refusedCritical s true (extensionOf s e)) where
+    shape-next : extensionsShaped s x ≡ ((shaped && not (eqb slot 24)) && allShaped s (membersOf s (e .end) (x .end)))
+    unfolding allShaped
+    shape-next = p .shape ∙ rw (members-more s at (x .end) f, h .there) (go shaped (not (eqb slot 24)) (allShaped s (membersOf s (e .end) (x .end))))
+      where
+        go : (a b c : Bool) → (a && cond b c false) ≡ ((a && b) && c)
+        go true true c = refl
+        go true false c = refl
+        go false b c = refl
+
+    harsh-next : criticalOf s x true ≡ ((critical || told) || someCritical s true (membersOf s (e .end) (x .end)))
+    unfolding someCritical
+    harsh-next = p .harsh ∙ rw (members-more s at (x .end) f, ← u) (go critical told (someCritical s true (membersOf s (e .end) (x .end))))
+      where
+        go : (a b c : Bool) → (a || cond b true c) ≡ ((a || b) || c)
+        go true b c = refl
+        go false true c = refl
+        go false false c = refl
+
+    abbrev Next : Bool → Bool → Bool → List Held → Type 0
+    Next twice strange unsure slots = Far s x (shaped && not (eqb slot 24)) (critical || told) twice strange unsure slots (e .end)
+
+    far-next : {after : List Held} {doubled stranger doubt : Bool} → Open s (x .contents) (x .end) after (e .end) → Apart s (x .contents) (x .end) after doubled stranger doubt (e .end) → Next doubled stranger doubt after
+    far-next o a = record { shape = shape-next; harsh = harsh-next; table = o; apart = a }
+
+    pub far-new : {held : Held} → held ≡ heldOf (extensionOf s e) → slot < 23 → getD slots slot (heldOf Absent) .there ≡ false → Next twice strange unsure (set slots slot held)
+    far-new {held} new l g = far-next (open-set (p .table) f h new l g) (apart-new (p .apart) f h held there (p .table .long) l g)
+      where
+        there : held .there ≡ true
+        there = ap (λ (f : Held). f .there) new ∙ held-there (extensionOf s e) (has-there s (oidOf slot) (extensionOf s e) (sym (h .each slot l) ∙ eq-eqb slot slot refl))
+
+    pub far-again : slot < 23 → getD slots slot (heldOf Absent) .there ≡ true → Next true strange unsure slots
+    far-again l n = far-next (open-left (p .table) f h (λ r. n)) (apart-again (p .apart) f h l n)
+
+    pub far-stranger : 23 ≤ slot → Next twice true (unsure || strange) slots
+    far-stranger l = far-next (open-left (p .table) f h (λ r. absurd (omega arith))) (apart-stranger (p .apart) f h l)
+
+    pub far-none : slot ≡ 24 → Next twice strange unsure slots
+    unfolding present
+    far-none q =
+        far-next (open-left (p .table) f h (λ r. absurd (omega arith)))
+        (apart-absent (p .apart) f h (absent (extensionOf s e) (h .there ∙ rw (eq-eqb slot 24 q))))
+      where
+        absent : (y : Extension) → present y ≡ false → y ≡ Absent
+        absent Absent z = refl
+        absent (Is oid critical value) z = cc
