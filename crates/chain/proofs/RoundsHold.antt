@@ -1,0 +1,231 @@
+-- What holds at the start of each round: the tables tell what is near, and each good chain of few enough places is near.
+use Prim.Native.Nat.{ℕ, suc, _+_, _<_, _≤_}
+use mathlib.Core.Path.{_≡_, refl, sym, ap, _∙_}
+use mathlib.Core.Bool.{Bool, true, false, cond, _&&_}
+use mathlib.Core.List.{List, [], _∷_}
+use mathlib.Core.Logic.{_⊎_, inl, inr, ⊎-elim}
+use native.Mathlib.Omega.{arith}
+use borrow.Author.Tests.{eqb-true, eq-eqb, ne-eqb}
+use lib.Dec.{eqb}
+use lib.ListN.{length, getD, replicate}
+use Rattle.graph.specs.declared.Found.{Found}
+use Rattle.graph.specs.Chains.{Graph, Onward, ends, goes, Chain, chain}
+use Rattle.graph.specs.Answer.{Answered, none}
+use Rattle.image.specs.declared.IndexEntry.{IndexEntry}
+use Rattle.image.specs.Index.{entryIn, itemsIn, entryCount}
+use Rattle.chain.specs.declared.opened.Row.{Row}
+use Rattle.chain.specs.Near.{isNear, firstOf, nearSigned, Wider}
+use Rattle.chain.specs.Usable.{usable}
+use Rattle.chain.specs.Steps.{hasKind, chains}
+use Rattle.chain.specs.Table.{verdictIn}
+use Rattle.chain.specs.Rows.{blank, rowAt, rowOf, Opens, Counted, Roles, Searched}
+use Rattle.chain.specs.Answer.{goodChains}
+use Rattle.chain.proofs.Booleans.{first}
+use Rattle.chain.proofs.Cells.{below-or-not}
+use Rattle.chain.proofs.Slots.{empty-slots}
+use Rattle.chain.proofs.PlacesMean.{length-items}
+use Rattle.chain.proofs.ItemsTold.{kind-told}
+use Rattle.chain.proofs.NearRows.{Told, Based, told-next}
+use Rattle.chain.proofs.CountingMeans.{Counts, counting-means}
+use Rattle.chain.proofs.RolesMean.{Role, Known, roles-mean}
+use Rattle.chain.proofs.Transfer.{AllNear, done, more, answer-out}
+use Rattle.chain.proofs.Meaning.{tables-part}
+use Rattle.chain.proofs.Theorems.{step-verified}
+
+false-true : {A : Type 0} → false ≡ true → A
+false-true e = absurd (let z : _≡_ {A = ℕ} 0 1 = cc in omega arith)
+
+-- the kinds and verdicts that a good chain has
+module _ (s table : List ℕ) (moment : ℕ) where
+  abbrev good : Graph
+  good = goodChains s table moment
+
+  in-items : (v : ℕ) → v < good .places → v < entryCount s
+  unfolding chains
+  in-items v h = rw (length-items s) at h
+
+  kind-of : (v k : ℕ) → v < entryCount s → hasKind (itemsIn s) k v ≡ true → entryIn s v .kind ≡ k
+  kind-of v k h e = eqb-true (entryIn s v .kind) k (sym (kind-told s v h k) ∙ e)
+
+  link-kind : (v : ℕ) → v < entryCount s → good .link v ≡ true → entryIn s v .kind ≡ 2
+  unfolding chains
+  link-kind v h e = kind-of v 2 h (first (hasKind (itemsIn s) 2 v) _ e)
+
+  signer-kind : (v : ℕ) → v < entryCount s → good .signer v ≡ true → entryIn s v .kind ≡ 3
+  unfolding chains
+  signer-kind v h e = kind-of v 3 h (first (hasKind (itemsIn s) 3 v) _ e)
+
+  step-verdict : (u v : ℕ) → good .step u v ≡ true → verdictIn (entryCount s) table u v ≡ true
+  unfolding chains
+  step-verdict u v e = step-verified (itemsIn s) (verdictIn (entryCount s) table) moment u v e
+
+near-link : (e : IndexEntry) (near : ℕ) → eqb near 1 ≡ true → e .kind ≡ 2 → nearSigned e near ≡ true
+unfolding nearSigned
+near-link e near one two = rw (one, eq-eqb (e .kind) 2 two)
+
+near-signer : (e : IndexEntry) (near : ℕ) → eqb near 1 ≡ true → e .kind ≡ 3 → nearSigned e near ≡ true
+unfolding nearSigned
+near-signer e near one three = rw (one, three)
+
+module _ (s table : List ℕ) (moment target round : ℕ) (near : List ℕ) (rows : List Row) (counting roles : List ℕ) where
+  -- the tables tell what is near, and so is each way on to the target of at most a place more than rounds were done, in the
+  -- last round each way
+  pub record Round : Type 0 where
+    pub told : Told moment s (entryCount s) near rows
+    pub based : Based s (entryCount s) near
+    pub counts : Counts s table moment counting
+    pub known : Known s table moment near roles
+    pub end : isNear near target ≡ true
+    pub reach :
+        {u : ℕ} {c : List ℕ} → Onward (goodChains s table moment) target u c → (length c ≤ round + 1) ⊎ (round ≡ 4)
+        → AllNear (isNear near) c
+
+no-slots : (p : ℕ) → isNear (replicate 96 0) p ≡ true → ⊥
+unfolding isNear
+no-slots p e = false-true (rw (empty-slots {A = ℕ} 96 p) at e)
+
+module _ (s table : List ℕ) (moment target n : ℕ) (same : n ≡ entryCount s) where
+  -- the first round
+  module _ (near : List ℕ) (firsts : (p : ℕ) → p < n → getD near p 0 ≡ firstOf target p (entryIn s p)) where
+    first-based : Based s n near
+    unfolding isNear firstOf
+    first-based p h e = go (eqb p target) (eqb (entryIn s p .kind) 1) (eqb (entryIn s p .kind) 4) (rw (firsts p h) at e)
+      where
+        go : (a b c : Bool) → eqb (cond a 1 (cond b 1 (cond c 1 0))) 1 ≡ false → (b ≡ false) × (c ≡ false)
+        go true b c f = false-true (sym f)
+        go false true c f = false-true (sym f)
+        go false false true f = false-true (sym f)
+        go false false false f = (refl, refl)
+
+    first-end : target < n → isNear near target ≡ true
+    unfolding isNear firstOf
+    first-end h = rw (firsts target h, eq-eqb target target refl)
+
+    first-reach :
+        target < n → {u : ℕ} {c : List ℕ} → Onward (goodChains s table moment) target u c → (length c ≤ 0 + 1) ⊎ (_≡_ {A = ℕ} 0 4)
+        → AllNear (isNear near) c
+    first-reach h (ends l signer step) few = more (first-end h) done
+    first-reach h (goes l link step (ends m signer next)) few = absurd (⊎-elim (λ k. omega arith) (λ k. omega arith) few)
+    first-reach h (goes l link step (goes m other next rest)) few = absurd (⊎-elim (λ k. omega arith) (λ k. omega arith) few)
+
+    pub first-round :
+        (blanks : List Row) {rows : List Row} {counting roles : List ℕ} → target < n
+        → Opens moment s n (replicate 96 0) near blanks rows → Counted n table rows counting
+        → Roles s n (replicate 96 0) rows counting (replicate 96 0) roles
+        → Round s table moment target 0 near rows counting roles
+    first-round blanks {rows} {counting} {roles} h opens counted is =
+        let told : Told moment s (entryCount s) near rows =
+        rw same at (told-next moment s n (replicate 96 0) near blanks rows (λ p k e. absurd (no-slots p e)) opens) in
+        let based : Based s (entryCount s) near = rw same at first-based in
+        let counts : Counts s table moment counting =
+        counting-means s table moment near rows told based counting (rw same at counted) in
+        record {
+          told = told;
+          based = based;
+          counts = counts;
+          known = roles-mean s table moment near rows told based counting counts (replicate 96 0) (replicate 96 0) roles (rw same at is)
+              (λ p k e. absurd (no-slots p e));
+          end = first-end h;
+          reach = first-reach h;
+        }
+
+  module _ {round : ℕ} {near : List ℕ} {rows : List Row} {counting roles : List ℕ} (r : Round s table moment target round near rows counting roles) where
+    -- the round after it
+    module _ {wider : List ℕ} (w : Wider s n table round near wider) where
+      kept : (p : ℕ) → p < entryCount s → isNear near p ≡ true → isNear wider p ≡ true
+      kept p h e = w .layer .kept p (rw (← same) at h) e
+
+      wider-based : Based s (entryCount s) wider
+      wider-based p h e = go (isNear near p) refl
+        where
+          go : (b : Bool) → isNear near p ≡ b → (eqb (entryIn s p .kind) 1 ≡ false) × (eqb (entryIn s p .kind) 4 ≡ false)
+          go true f = false-true (sym e ∙ kept p h f)
+          go false f = r .based p h f
+
+      -- what signs a way that was near is near now
+      signs :
+          {v : ℕ} {c : List ℕ} → v < entryCount s → entryIn s v .kind ≡ 2 → Onward (goodChains s table moment) target v c
+          → AllNear (isNear near) c → isNear wider v ≡ true
+      unfolding isNear
+      signs {v} h two (ends m signer step) (more n done) =
+          let here = in-items s table moment target m in
+          w .layer .signers v target (rw (← same) at h) (rw (← same) at here)
+          (near-signer (entryIn s target) (getD near target 0) n (signer-kind s table moment target here signer))
+          (rw (← same) at (step-verdict s table moment v target step)) two
+      signs {v} h two (goes {v = x} m link step rest) (more n others) =
+          let here = in-items s table moment x m in
+          w .layer .signers v x (rw (← same) at h) (rw (← same) at here)
+          (near-link (entryIn s x) (getD near x 0) n (link-kind s table moment x here link))
+          (rw (← same) at (step-verdict s table moment v x step)) two
+
+      all-kept :
+          {u : ℕ} {c : List ℕ} → Onward (goodChains s table moment) target u c → AllNear (isNear near) c → AllNear (isNear wider) c
+      all-kept (ends m signer step) (more n done) = more (kept target (in-items s table moment target m) n) done
+      all-kept (goes {v = x} m link step rest) (more n others) =
+          more (kept x (in-items s table moment x m) n) (all-kept rest others)
+
+      reach-last :
+          round ≡ 3 → {u : ℕ} {c : List ℕ} → Onward (goodChains s table moment) target u c → AllNear (isNear wider) c
+      reach-last three (ends m signer step) = more (kept target (in-items s table moment target m) (r .end)) done
+      reach-last three (goes {v = x} m link step rest) =
+          let here = in-items s table moment x m in
+          more (w .links three x (rw (← same) at here) (link-kind s table moment x here link)) (reach-last three rest)
+
+      reach-more :
+          {u : ℕ} {c : List ℕ} → Onward (goodChains s table moment) target u c → length c ≤ round + 2 → AllNear (isNear wider) c
+      reach-more (ends m signer step) few = more (kept target (in-items s table moment target m) (r .end)) done
+      reach-more (goes {v = x} {rest = c} m link step rest) few =
+          let here = in-items s table moment x m in
+          let less : length c ≤ round + 1 = omega arith in
+          let all = r .reach rest (inl less) in
+          more (signs here (link-kind s table moment x here link) rest all) (all-kept rest all)
+
+      pub next-round :
+          {opened : List Row} {after : List ℕ} → target < n → Opens moment s n near wider rows opened
+          → Roles s n near opened counting roles after → Round s table moment target (round + 1) wider opened counting after
+      next-round {opened} {after} h opens is =
+          let told : Told moment s (entryCount s) wider opened =
+          rw same at (told-next moment s n near wider rows opened
+          (λ p k e. r .told p (rw same at k) ∙ ap (λ (b : Bool). cond b (rowOf moment s (entryIn s p)) blank) e) opens) in
+          record {
+            told = told;
+            based = wider-based;
+            counts = r .counts;
+            known = roles-mean s table moment wider opened told wider-based counting (r .counts) near roles after (rw same at is)
+                (λ p k e. rw (kept p k e) (rw e at (r .known p k)));
+            end = kept target (rw same at h) (r .end);
+            reach = λ o few. ⊎-elim (λ l. reach-more o (omega arith)) (λ l. reach-last (omega arith) o) few;
+          }
+
+    -- a chain that is short enough, or any in the last round, is the answer
+    pub round-answer :
+        {f : Found} → n ≤ 96 → Searched s n table rows roles target f
+        → (round ≡ 4) ⊎ ((f .length ≡ 0 → ⊥) × (f .length ≤ round + 2)) → Answered (goodChains s table moment) target f
+    round-answer {f} few found enough =
+        answer-out
+        (tables-part s table moment near rows roles (found .steps) (rw same at few) (r .told) (r .based) (r .known) (rw same at (found .matched)))
+        (λ u c o. ⊎-elim (λ last. inl (r .reach o (inr last))) (λ k. short o k) enough)
+        (rw same at (found .answer))
+      where
+        short :
+            {u : ℕ} {c : List ℕ} → Onward (goodChains s table moment) target u c → ((f .length ≡ 0 → ⊥) × (f .length ≤ round + 2))
+            → AllNear (isNear near) c ⊎ ((f .length ≡ 0 → ⊥) × (f .length ≤ length c))
+        short {c = c} o k =
+            ⊎-elim (λ (l : length c < round + 2). inl (r .reach o (inl (omega arith)))) (λ (l : round + 2 ≤ length c). inr (k .0, omega (arith, k .1)))
+            (below-or-not (length c) (round + 2))
+
+    -- a target that is not usable has no chain
+    signer-of : {u : ℕ} {c : List ℕ} → Onward (goodChains s table moment) target u c → goodChains s table moment .signer target ≡ true
+    signer-of (ends m signer step) = signer
+    signer-of (goes m link step rest) = signer-of rest
+
+    pub no-signer :
+        {f : Found} → target < n → (getD roles target 0 ≡ 3 → ⊥) → f .length ≡ 0 → f .places ≡ replicate 96 255
+        → Answered (goodChains s table moment) target f
+    unfolding chains
+    no-signer {f} h not-three empty slots = none (λ c e. go e) empty slots
+      where
+        go : {c : List ℕ} → Chain (goodChains s table moment) target c → ⊥
+        go (chain l anchor rest) =
+            let known = r .known target (rw same at h) .signer in
+            not-three (eqb-true (getD roles target 0) 3 (known ∙ rw (r .end) (signer-of rest)))

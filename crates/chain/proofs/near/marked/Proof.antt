@@ -1,0 +1,16 @@
+-- The test answers the definition's.
+use borrow.Author.Tests.{eq-eqb, ne-eqb}
+use Rattle.chain.specs.Near.{markedOf}
+use Rattle.chain.proofs.near.marked.Statement.{statement}
+use Rattle.chain.proofs.near.marked.Tie as tie
+
+returns : tie.Need-returns
+unfolding markedOf
+returns c = simp (eq-eqb _ _ (c .if1 .taken))
+
+returns-2 : tie.Need-returns-2
+unfolding markedOf
+returns-2 c = simp (ne-eqb _ _ (c .if1 .left))
+
+pub marked-spec : {M : Type 1} → statement M
+marked-spec = tie.close (tie.spec returns returns-2)
