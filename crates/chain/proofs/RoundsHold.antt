@@ -11,16 +11,15 @@ use lib.ListN.{length, getD, replicate}
 use Rattle.graph.specs.declared.Found.{Found}
 use Rattle.graph.specs.Chains.{Graph, Onward, ends, goes, Chain, chain}
 use Rattle.graph.specs.Answer.{Answered, none}
-use Rattle.image.specs.declared.IndexEntry.{IndexEntry}
 use Rattle.image.specs.Index.{entryIn, itemsIn, entryCount}
 use Rattle.chain.specs.declared.opened.Row.{Row}
-use Rattle.chain.specs.Near.{isNear, firstOf, nearSigned, Wider}
+use Rattle.chain.specs.Near.{isNear, firstOf, ledOf, Wider}
 use Rattle.chain.specs.Usable.{usable}
 use Rattle.chain.specs.Steps.{hasKind, chains}
 use Rattle.chain.specs.Table.{verdictIn}
 use Rattle.chain.specs.Rows.{blank, rowAt, rowOf, Opens, Counted, Roles, Searched}
 use Rattle.chain.specs.Answer.{goodChains}
-use Rattle.chain.proofs.Booleans.{first}
+use Rattle.chain.proofs.Booleans.{first, both-true}
 use Rattle.chain.proofs.Cells.{below-or-not}
 use Rattle.chain.proofs.Slots.{empty-slots}
 use Rattle.chain.proofs.PlacesMean.{length-items}
@@ -44,28 +43,22 @@ module _ (s table : List ℕ) (moment : ℕ) where
   unfolding chains
   in-items v h = rw (length-items s) at h
 
-  kind-of : (v k : ℕ) → v < entryCount s → hasKind (itemsIn s) k v ≡ true → entryIn s v .kind ≡ k
-  kind-of v k h e = eqb-true (entryIn s v .kind) k (sym (kind-told s v h k) ∙ e)
-
   link-kind : (v : ℕ) → v < entryCount s → good .link v ≡ true → entryIn s v .kind ≡ 2
   unfolding chains
-  link-kind v h e = kind-of v 2 h (first (hasKind (itemsIn s) 2 v) _ e)
-
-  signer-kind : (v : ℕ) → v < entryCount s → good .signer v ≡ true → entryIn s v .kind ≡ 3
-  unfolding chains
-  signer-kind v h e = kind-of v 3 h (first (hasKind (itemsIn s) 3 v) _ e)
+  link-kind v h e = eqb-true (entryIn s v .kind) 2 (sym (kind-told s v h 2) ∙ first (hasKind (itemsIn s) 2 v) _ e)
 
   step-verdict : (u v : ℕ) → good .step u v ≡ true → verdictIn (entryCount s) table u v ≡ true
   unfolding chains
   step-verdict u v e = step-verified (itemsIn s) (verdictIn (entryCount s) table) moment u v e
 
-near-link : (e : IndexEntry) (near : ℕ) → eqb near 1 ≡ true → e .kind ≡ 2 → nearSigned e near ≡ true
-unfolding nearSigned
-near-link e near one two = rw (one, eq-eqb (e .kind) 2 two)
+-- a usable link or signer that is near has its role
+led-link : (role : ℕ) → eqb role 2 ≡ true → ledOf role ≡ true
+unfolding ledOf
+led-link role two = rw two
 
-near-signer : (e : IndexEntry) (near : ℕ) → eqb near 1 ≡ true → e .kind ≡ 3 → nearSigned e near ≡ true
-unfolding nearSigned
-near-signer e near one three = rw (one, three)
+led-signer : (role : ℕ) → eqb role 3 ≡ true → ledOf role ≡ true
+unfolding ledOf
+led-signer role three = rw (eqb-true role 3 three)
 
 module _ (s table : List ℕ) (moment target round : ℕ) (near : List ℕ) (rows : List Row) (counting roles : List ℕ) where
   -- the tables tell what is near, and so is each way on to the target of at most a place more than rounds were done, in the
@@ -76,6 +69,7 @@ module _ (s table : List ℕ) (moment target round : ℕ) (near : List ℕ) (row
     pub counts : Counts s table moment counting
     pub known : Known s table moment near roles
     pub end : isNear near target ≡ true
+    pub waiting : (p : ℕ) → p < entryCount s → isNear near p ≡ false → entryIn s p .kind ≡ 2 → getD near p 0 ≡ 2
     pub reach :
         {u : ℕ} {c : List ℕ} → Onward (goodChains s table moment) target u c → (length c ≤ round + 1) ⊎ (round ≡ 4)
         → AllNear (isNear near) c
@@ -89,13 +83,24 @@ module _ (s table : List ℕ) (moment target n : ℕ) (same : n ≡ entryCount s
   module _ (near : List ℕ) (firsts : (p : ℕ) → p < n → getD near p 0 ≡ firstOf target p (entryIn s p)) where
     first-based : Based s n near
     unfolding isNear firstOf
-    first-based p h e = go (eqb p target) (eqb (entryIn s p .kind) 1) (eqb (entryIn s p .kind) 4) (rw (firsts p h) at e)
+    first-based p h e = go (eqb p target) (eqb (entryIn s p .kind) 2) refl (eqb (entryIn s p .kind) 3) refl (rw (firsts p h) at e)
       where
-        go : (a b c : Bool) → eqb (cond a 1 (cond b 1 (cond c 1 0))) 1 ≡ false → (b ≡ false) × (c ≡ false)
-        go true b c f = false-true (sym f)
-        go false true c f = false-true (sym f)
-        go false false true f = false-true (sym f)
-        go false false false f = (refl, refl)
+        go :
+            (a b : Bool) → eqb (entryIn s p .kind) 2 ≡ b → (c : Bool) → eqb (entryIn s p .kind) 3 ≡ c
+            → eqb (cond a 1 (cond b 2 (cond c 0 1))) 1 ≡ false
+            → (eqb (entryIn s p .kind) 1 ≡ false) × (eqb (entryIn s p .kind) 4 ≡ false)
+        go true b q c k f = false-true (sym f)
+        go false true q c k f = let two = eqb-true (entryIn s p .kind) 2 q in (rw two, rw two)
+        go false false q true k f = let three = eqb-true (entryIn s p .kind) 3 k in (rw three, rw three)
+        go false false q false k f = false-true (sym f)
+
+    first-waiting : (p : ℕ) → p < n → isNear near p ≡ false → entryIn s p .kind ≡ 2 → getD near p 0 ≡ 2
+    unfolding isNear firstOf
+    first-waiting p h e two = rw (firsts p h, two) (go (eqb p target) (rw (firsts p h, two) at e))
+      where
+        go : (a : Bool) → eqb (cond a 1 2) 1 ≡ false → _≡_ {A = ℕ} (cond a 1 2) 2
+        go true f = false-true (sym f)
+        go false f = refl
 
     first-end : target < n → isNear near target ≡ true
     unfolding isNear firstOf
@@ -126,37 +131,57 @@ module _ (s table : List ℕ) (moment target n : ℕ) (same : n ≡ entryCount s
           known = roles-mean s table moment near rows told based counting counts (replicate 96 0) (replicate 96 0) roles (rw same at is)
               (λ p k e. absurd (no-slots p e));
           end = first-end h;
+          waiting = rw same at first-waiting;
           reach = first-reach h;
         }
 
   module _ {round : ℕ} {near : List ℕ} {rows : List Row} {counting roles : List ℕ} (r : Round s table moment target round near rows counting roles) where
     -- the round after it
-    module _ {wider : List ℕ} (w : Wider s n table round near wider) where
+    module _ {wider : List ℕ} (w : Wider n table round roles near wider) where
       kept : (p : ℕ) → p < entryCount s → isNear near p ≡ true → isNear wider p ≡ true
-      kept p h e = w .layer .kept p (rw (← same) at h) e
+      unfolding isNear
+      kept p h e = ⊎-elim (λ k. eq-eqb (getD wider p 0) 1 k) (λ k. rw k e) (w .layer .kept p (rw (← same) at h))
 
-      wider-based : Based s (entryCount s) wider
-      wider-based p h e = go (isNear near p) refl
+      -- what is not near now was not before
+      far : (p : ℕ) → p < entryCount s → isNear wider p ≡ false → isNear near p ≡ false
+      far p h e = go (isNear near p) refl
         where
-          go : (b : Bool) → isNear near p ≡ b → (eqb (entryIn s p .kind) 1 ≡ false) × (eqb (entryIn s p .kind) 4 ≡ false)
+          go : (b : Bool) → isNear near p ≡ b → b ≡ false
           go true f = false-true (sym e ∙ kept p h f)
-          go false f = r .based p h f
+          go false f = refl
+
+      wider-waiting : (p : ℕ) → p < entryCount s → isNear wider p ≡ false → entryIn s p .kind ≡ 2 → getD wider p 0 ≡ 2
+      unfolding isNear
+      wider-waiting p h e two =
+          ⊎-elim (λ k. false-true (sym e ∙ eq-eqb (getD wider p 0) 1 k)) (λ k. k ∙ r .waiting p h (far p h e) two)
+          (w .layer .kept p (rw (← same) at h))
+
+      -- a link that was marked is near
+      marks : (v : ℕ) → v < entryCount s → entryIn s v .kind ≡ 2 → (getD near v 0 ≡ 2 → getD wider v 0 ≡ 1) → isNear wider v ≡ true
+      unfolding isNear
+      marks v h two mark = go (isNear near v) refl
+        where
+          go : (b : Bool) → isNear near v ≡ b → eqb (getD wider v 0) 1 ≡ true
+          go true e = kept v h e
+          go false e = eq-eqb (getD wider v 0) 1 (mark (r .waiting v h e two))
 
       -- what signs a way that was near is near now
       signs :
           {v : ℕ} {c : List ℕ} → v < entryCount s → entryIn s v .kind ≡ 2 → Onward (goodChains s table moment) target v c
           → AllNear (isNear near) c → isNear wider v ≡ true
-      unfolding isNear
+      unfolding chains
       signs {v} h two (ends m signer step) (more n done) =
           let here = in-items s table moment target m in
-          w .layer .signers v target (rw (← same) at h) (rw (← same) at here)
-          (near-signer (entryIn s target) (getD near target 0) n (signer-kind s table moment target here signer))
-          (rw (← same) at (step-verdict s table moment v target step)) two
+          let role = r .known target here .signer ∙ both-true _ _ n signer in
+          marks v h two
+          (w .layer .signers v target (rw (← same) at h) (rw (← same) at here) (led-signer (getD roles target 0) role)
+          (rw (← same) at (step-verdict s table moment v target step)))
       signs {v} h two (goes {v = x} m link step rest) (more n others) =
           let here = in-items s table moment x m in
-          w .layer .signers v x (rw (← same) at h) (rw (← same) at here)
-          (near-link (entryIn s x) (getD near x 0) n (link-kind s table moment x here link))
-          (rw (← same) at (step-verdict s table moment v x step)) two
+          let role = r .known x here .link ∙ both-true _ _ n link in
+          marks v h two
+          (w .layer .signers v x (rw (← same) at h) (rw (← same) at here) (led-link (getD roles x 0) role)
+          (rw (← same) at (step-verdict s table moment v x step)))
 
       all-kept :
           {u : ℕ} {c : List ℕ} → Onward (goodChains s table moment) target u c → AllNear (isNear near) c → AllNear (isNear wider) c
@@ -169,7 +194,7 @@ module _ (s table : List ℕ) (moment target n : ℕ) (same : n ≡ entryCount s
       reach-last three (ends m signer step) = more (kept target (in-items s table moment target m) (r .end)) done
       reach-last three (goes {v = x} m link step rest) =
           let here = in-items s table moment x m in
-          more (w .links three x (rw (← same) at here) (link-kind s table moment x here link)) (reach-last three rest)
+          more (marks x here (link-kind s table moment x here link) (w .links three x (rw (← same) at here))) (reach-last three rest)
 
       reach-more :
           {u : ℕ} {c : List ℕ} → Onward (goodChains s table moment) target u c → length c ≤ round + 2 → AllNear (isNear wider) c
@@ -189,9 +214,10 @@ module _ (s table : List ℕ) (moment target n : ℕ) (same : n ≡ entryCount s
           (λ p k e. r .told p (rw same at k) ∙ ap (λ (b : Bool). cond b (rowOf moment s (entryIn s p)) blank) e) opens) in
           record {
             told = told;
-            based = wider-based;
+            based = λ p k e. r .based p k (far p k e);
+            waiting = wider-waiting;
             counts = r .counts;
-            known = roles-mean s table moment wider opened told wider-based counting (r .counts) near roles after (rw same at is)
+            known = roles-mean s table moment wider opened told (λ p k e. r .based p k (far p k e)) counting (r .counts) near roles after (rw same at is)
                 (λ p k e. rw (kept p k e) (rw e at (r .known p k)));
             end = kept target (rw same at h) (r .end);
             reach = λ o few. ⊎-elim (λ l. reach-more o (omega arith)) (λ l. reach-last (omega arith) o) few;

@@ -12,8 +12,8 @@ use Rattle.elements.specs.Octets.{alike}
 use Rattle.image.specs.Index.{entryIn}
 use Rattle.chain.specs.declared.opened.Row.{Row}
 use Rattle.chain.specs.Items.{someBelow}
-use Rattle.chain.specs.Near.{isNear}
-use Rattle.chain.specs.Rows.{blank, flag, vouchesOf, rowAt, vouchedBy, countedOf, pieceOf, coversOf, listsOf, spokenOf, spokenBelow, signedOf, roleBy, roleOf, roleIn, rowOf, rowIn, ledOf, fitsOf, matchedOf, leadsOf, stepOf}
+use Rattle.chain.specs.Near.{isNear, ledOf}
+use Rattle.chain.specs.Rows.{blank, flag, vouchesOf, rowAt, vouchedBy, countedOf, pieceOf, coversOf, listsOf, spokenOf, spokenBelow, signedOf, roleBy, roleOf, roleIn, rowOf, rowIn, fitsOf, matchedOf, leadsOf, stepOf}
 use Rattle.chain.specs.Table.{verdictIn}
 use Rattle.chain.proofs.Slots.{empty-slots}
 

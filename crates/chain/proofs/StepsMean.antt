@@ -15,8 +15,8 @@ use Rattle.chain.specs.Items.{itemAt}
 use Rattle.chain.specs.Usable.{usableAnchor, usable}
 use Rattle.chain.specs.Steps.{hasKind, fits, goodStep}
 use Rattle.chain.specs.Table.{verdictIn}
-use Rattle.chain.specs.Near.{isNear}
-use Rattle.chain.specs.Rows.{bytesAt, rowAt, pieceOf, leadsOf, ledOf, fitsOf, matchedOf, stepOf, Matched}
+use Rattle.chain.specs.Near.{isNear, ledOf}
+use Rattle.chain.specs.Rows.{bytesAt, rowAt, pieceOf, leadsOf, fitsOf, matchedOf, stepOf, Matched}
 use Rattle.chain.proofs.Booleans.{first, middle, but-last, chosen, swapped}
 use Rattle.chain.proofs.NearRows.{Told, Based}
 use Rattle.chain.proofs.RowReadings.{validOf}

@@ -21,7 +21,7 @@ use Rattle.image.specs.declared.IndexEntry.{IndexEntry}
 use Rattle.image.specs.Index.{entryIn}
 use Rattle.chain.specs.declared.opened.Row.{Row}
 use Rattle.chain.specs.Items.{someBelow, within}
-use Rattle.chain.specs.Near.{isNear}
+use Rattle.chain.specs.Near.{isNear, ledOf}
 use Rattle.chain.specs.Table.{verdictIn}
 
 -- nothing that could stand in a chain
@@ -184,12 +184,9 @@ roleIn s n before rows counting roles p = cond (isNear before p) (getD roles p 0
 abbrev pub Roles : List ℕ → ℕ → List ℕ → List Row → List ℕ → List ℕ → List ℕ → Type 0
 Roles s n before rows counting roles more = (p : ℕ) → p < n → getD more p 0 ≡ roleIn s n before rows counting roles p
 
--- an anchor or a link; a link or a signer
+-- an anchor or a link
 unfoldable pub leadsOf : ℕ → Bool
 leadsOf role = cond (eqb role 1) true (eqb role 2)
-
-unfoldable pub ledOf : ℕ → Bool
-ledOf role = cond (eqb role 2) true (eqb role 3)
 
 -- the key identifiers are equal, and the issuer's name is the subject's
 unfoldable pub fitsOf : List ℕ → Row → Row → Bool

@@ -1,16 +1,15 @@
-// Which places a round opens: 1 for each.
+// Which places a round opens: 1 for these, 2 for a link that is not among them, else 0.
 use crate::counting::octet;
+use crate::matching::led;
 use image::IndexEntry;
 use image::entry_in;
 ghost use mathlib.Core.Path.{_≡_};
-ghost use mathlib.Core.Bool.{cond};
 ghost use Prim.Native.Nat.{ℕ, _≤_, _<_};
-ghost use lib.Dec.{eqb};
 ghost use lib.ListN.{getD};
-ghost use Rattle.chain.specs.Near.{firstOf, markedOf, nearSigned, Near, Wider};
+ghost use Rattle.chain.specs.Near.{firstOf, markedOf, Near, Wider};
 ghost use Rattle.image.specs.Index.{entryIn};
 
-// The anchors, the CRLs and the target.
+// At first the target, the anchors and the CRLs. Other signers are in no chain to the target.
 pub(crate) fn near_first(image: &[u8], places: usize, target: usize) -> [u8; 96]
     requires { ⌜ places ≤ 96 ⌝ }
     ensures { λ r. ⌜ ((p : ℕ) → p < places → getD r p 0 ≡ firstOf target p (entryIn (now (image .entry)) p)) ⌝ }
@@ -30,68 +29,56 @@ fn first(e: IndexEntry, place: usize, target: usize) -> u8
     if place == target {
         return 1;
     }
-    if e.kind == 1 {
-        return 1;
+    if e.kind == 2 {
+        return 2;
     }
-    if e.kind == 4 {
-        return 1;
+    if e.kind == 3 {
+        return 0;
     }
-    0
+    1
 }
 
-// Before the last round the links that have verdict 1 for a link or signer that is near, then all links.
+// Then the links that have verdict 1 for a usable link or signer, and in the last round all links.
 pub(crate) fn near_next(
-    image: &[u8],
     table: &[u8],
     places: usize,
     round: usize,
     near: [u8; 96],
+    roles: [u8; 96],
 ) -> [u8; 96]
     requires { ⌜ places ≤ 96 ⌝ }
-    ensures { λ r. ⌜ Wider (now (image .entry)) places (now (table .entry)) round near r ⌝ }
+    ensures { λ r. ⌜ Wider places (now (table .entry)) round roles near r ⌝ }
 {
     if round == 3 {
-        return with_links(image, places, near);
+        return with_links(places, near);
     }
-    with_signers(image, table, places, near)
+    with_signers(table, places, near, roles)
 }
 
-fn with_links(image: &[u8], places: usize, near: [u8; 96]) -> [u8; 96]
+fn with_links(places: usize, near: [u8; 96]) -> [u8; 96]
     requires { ⌜ places ≤ 96 ⌝ }
-    ensures { λ r. ⌜ ((p : ℕ) → p < places → getD r p 0 ≡ markedOf (entryIn (now (image .entry)) p) (getD near p 0)) ⌝ }
+    ensures { λ r. ⌜ ((p : ℕ) → p < places → getD r p 0 ≡ markedOf (getD near p 0) 1 (getD near p 0)) ⌝ }
 {
     let mut more = [0u8; 96];
     let mut place = 0;
     while place < places {
-        more[place] = marked(entry_in(image, place), near[place]);
+        more[place] = marked(near[place], 1, near[place]);
         place += 1;
     }
     more
 }
 
-// 1 for a link, and any other as before.
-fn marked(e: IndexEntry, before: u8) -> u8
-    ensures { λ r. ⌜ r ≡ markedOf e before ⌝ }
-{
-    if e.kind == 2 {
-        return 1;
-    }
-    before
-}
-
-fn with_signers(image: &[u8], table: &[u8], places: usize, near: [u8; 96]) -> [u8; 96]
+fn with_signers(table: &[u8], places: usize, near: [u8; 96], roles: [u8; 96]) -> [u8; 96]
     requires { ⌜ places ≤ 96 ⌝ }
-    ensures { λ r. ⌜ Near (now (image .entry)) places (now (table .entry)) near r ⌝ }
+    ensures { λ r. ⌜ Near places (now (table .entry)) roles near r ⌝ }
 {
     let mut more = near;
     let mut v = 0;
     while v < places {
-        if signed_near(image, v, near[v]) {
+        if led(roles[v]) {
             let mut u = 0;
             while u < places {
-                if octet(table, u * places + v) == 1 {
-                    more[u] = marked(entry_in(image, u), more[u]);
-                }
+                more[u] = marked(near[u], octet(table, u * places + v), more[u]);
                 u += 1;
             }
         }
@@ -100,16 +87,15 @@ fn with_signers(image: &[u8], table: &[u8], places: usize, near: [u8; 96]) -> [u
     more
 }
 
-// A link or a signer that is near.
-fn signed_near(image: &[u8], place: usize, near: u8) -> bool
-    ensures { λ r. ⌜ r ≡ nearSigned (entryIn (now (image .entry)) place) near ⌝ }
+// 1 for a link with verdict 1, and any other as it is now.
+fn marked(before: u8, verdict: u8, mark: u8) -> u8
+    ensures { λ r. ⌜ r ≡ markedOf before verdict mark ⌝ }
 {
-    if near != 1 {
-        return false;
+    if before != 2 {
+        return mark;
     }
-    let e = entry_in(image, place);
-    if e.kind == 2 {
-        return true;
+    if verdict == 1 {
+        return 1;
     }
-    e.kind == 3
+    mark
 }

@@ -51,7 +51,7 @@ pub(crate) fn chain_among(
                 return found;
             }
         }
-        let wider = near_next(image, table, places, round, near);
+        let wider = near_next(table, places, round, near, roles);
         let opened = open_items(image, places, moment, near, wider, rows);
         let known = roles_of(image, places, near, opened, counting, roles);
         near = wider;
