@@ -1,6 +1,6 @@
 -- A question that may be asked is over the image's entries, and what the search found for it is the answer.
 use Prim.Native.Nat.{ℕ, _<_, _≤_}
-use mathlib.Core.Path.{_≡_, refl, sym, ap, _∙_}
+use mathlib.Core.Path.{_≡_, refl, sym, _∙_}
 use mathlib.Core.Bool.{Bool, true, false, cond}
 use mathlib.Core.List.{List}
 use native.Mathlib.Omega.{arith}
@@ -10,7 +10,7 @@ use lib.ListN.{length}
 use Rattle.refusal.specs.declared.Refusal.{Refusal}
 use Rattle.refusal.specs.declared.Refusal.the-variants as refusal
 use Rattle.calendar.specs.Days.{realMoment}
-use Rattle.graph.specs.Chains.{Graph, Chain, chain}
+use Rattle.graph.specs.Chains.{Chain, chain}
 use Rattle.graph.specs.declared.Found.{Found}
 use Rattle.graph.specs.Answer as search
 use Rattle.image.specs.declared.Opened.{Opened}
@@ -20,7 +20,7 @@ use Rattle.image.specs.Index.{entryCount, entryIn}
 use Rattle.chain.specs.declared.asking.Asked.{Asked}
 use Rattle.chain.specs.declared.asking.Asked.the-variants as asked
 use Rattle.chain.specs.declared.Answer.{Answer}
-use Rattle.chain.specs.Answer.{onImage, askedOf, goodChains, Without, With, Shows, nothing, something, Answered, none, found}
+use Rattle.chain.specs.Answer.{onImage, askedOf, goodChains, Shows, nothing, something, Answered, none, found}
 use Rattle.chain.specs.Table.{tableGood}
 use Rattle.chain.proofs.ImageOpened.{opened-image}
 

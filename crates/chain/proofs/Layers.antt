@@ -1,6 +1,6 @@
 -- A table of what is near that grows link by link: what was near stays so, and the links that sign a usable place are so too.
 use Prim.Native.Nat.{ℕ, _+_, _*_, _<_, _≤_}
-use mathlib.Core.Path.{_≡_, refl, sym, ap, _∙_}
+use mathlib.Core.Path.{_≡_, refl, sym, _∙_}
 use mathlib.Core.Bool.{Bool, true, false, cond}
 use mathlib.Core.List.{List}
 use mathlib.Core.Logic.{_⊎_, inl, inr, ⊎-elim}
@@ -133,10 +133,10 @@ links-wider n table round roles before near is =
         kept = λ p h. rw (is p h) (marked-or-kept (getD before p 0) 1 (getD before p 0));
         signers = λ u v hu hv a b t. is u hu ∙ link-marked (getD before u 0) t refl;
       };
-      links = λ three u h t. is u h ∙ link-marked (getD before u 0) t refl;
+      links = λ last u h t. is u h ∙ link-marked (getD before u 0) t refl;
     }
 
 pub layer-wider :
-    {n : ℕ} {table : List ℕ} {round : ℕ} {roles before near : List ℕ} → (round ≡ 3 → ⊥) → Near n table roles before near
+    {n : ℕ} {table : List ℕ} {round : ℕ} {roles before near : List ℕ} → (round ≡ 4 → ⊥) → Near n table roles before near
     → Wider n table round roles before near
-layer-wider not-three l = record { layer = l; links = λ three. absurd (not-three three) }
+layer-wider not-last l = record { layer = l; links = λ last. absurd (not-last last) }

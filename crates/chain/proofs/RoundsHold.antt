@@ -1,11 +1,11 @@
 -- What holds at the start of each round: the tables tell what is near, and each good chain of few enough places is near.
-use Prim.Native.Nat.{ℕ, suc, _+_, _<_, _≤_}
+use Prim.Native.Nat.{ℕ, _+_, _<_, _≤_}
 use mathlib.Core.Path.{_≡_, refl, sym, ap, _∙_}
-use mathlib.Core.Bool.{Bool, true, false, cond, _&&_}
-use mathlib.Core.List.{List, [], _∷_}
+use mathlib.Core.Bool.{Bool, true, false, cond}
+use mathlib.Core.List.{List}
 use mathlib.Core.Logic.{_⊎_, inl, inr, ⊎-elim}
 use native.Mathlib.Omega.{arith}
-use borrow.Author.Tests.{eqb-true, eq-eqb, ne-eqb}
+use borrow.Author.Tests.{eqb-true, eq-eqb}
 use lib.Dec.{eqb}
 use lib.ListN.{length, getD, replicate}
 use Rattle.graph.specs.declared.Found.{Found}
@@ -14,10 +14,9 @@ use Rattle.graph.specs.Answer.{Answered, none}
 use Rattle.image.specs.Index.{entryIn, itemsIn, entryCount}
 use Rattle.chain.specs.declared.opened.Row.{Row}
 use Rattle.chain.specs.Near.{isNear, firstOf, ledOf, Wider}
-use Rattle.chain.specs.Usable.{usable}
 use Rattle.chain.specs.Steps.{hasKind, chains}
 use Rattle.chain.specs.Table.{verdictIn}
-use Rattle.chain.specs.Rows.{blank, rowAt, rowOf, Opens, Counted, Roles, Searched}
+use Rattle.chain.specs.Rows.{blank, rowOf, Opens, Counted, Roles, Searched}
 use Rattle.chain.specs.Answer.{goodChains}
 use Rattle.chain.proofs.Booleans.{first, both-true}
 use Rattle.chain.proofs.Cells.{below-or-not}
@@ -26,7 +25,7 @@ use Rattle.chain.proofs.PlacesMean.{length-items}
 use Rattle.chain.proofs.ItemsTold.{kind-told}
 use Rattle.chain.proofs.NearRows.{Told, Based, told-next}
 use Rattle.chain.proofs.CountingMeans.{Counts, counting-means}
-use Rattle.chain.proofs.RolesMean.{Role, Known, roles-mean}
+use Rattle.chain.proofs.RolesMean.{Known, roles-mean}
 use Rattle.chain.proofs.Transfer.{AllNear, done, more, answer-out}
 use Rattle.chain.proofs.Meaning.{tables-part}
 use Rattle.chain.proofs.Theorems.{step-verified}
@@ -137,7 +136,7 @@ module _ (s table : List ℕ) (moment target n : ℕ) (same : n ≡ entryCount s
 
   module _ {round : ℕ} {near : List ℕ} {rows : List Row} {counting roles : List ℕ} (r : Round s table moment target round near rows counting roles) where
     -- the round after it
-    module _ {wider : List ℕ} (w : Wider n table round roles near wider) where
+    module _ {wider : List ℕ} (w : Wider n table (round + 1) roles near wider) where
       kept : (p : ℕ) → p < entryCount s → isNear near p ≡ true → isNear wider p ≡ true
       unfolding isNear
       kept p h e = ⊎-elim (λ k. eq-eqb (getD wider p 0) 1 k) (λ k. rw k e) (w .layer .kept p (rw (← same) at h))
@@ -190,11 +189,11 @@ module _ (s table : List ℕ) (moment target n : ℕ) (same : n ≡ entryCount s
           more (kept x (in-items s table moment x m) n) (all-kept rest others)
 
       reach-last :
-          round ≡ 3 → {u : ℕ} {c : List ℕ} → Onward (goodChains s table moment) target u c → AllNear (isNear wider) c
-      reach-last three (ends m signer step) = more (kept target (in-items s table moment target m) (r .end)) done
-      reach-last three (goes {v = x} m link step rest) =
+          round + 1 ≡ 4 → {u : ℕ} {c : List ℕ} → Onward (goodChains s table moment) target u c → AllNear (isNear wider) c
+      reach-last last (ends m signer step) = more (kept target (in-items s table moment target m) (r .end)) done
+      reach-last last (goes {v = x} m link step rest) =
           let here = in-items s table moment x m in
-          more (marks x here (link-kind s table moment x here link) (w .links three x (rw (← same) at here))) (reach-last three rest)
+          more (marks x here (link-kind s table moment x here link) (w .links last x (rw (← same) at here))) (reach-last last rest)
 
       reach-more :
           {u : ℕ} {c : List ℕ} → Onward (goodChains s table moment) target u c → length c ≤ round + 2 → AllNear (isNear wider) c
@@ -220,7 +219,7 @@ module _ (s table : List ℕ) (moment target n : ℕ) (same : n ≡ entryCount s
             known = roles-mean s table moment wider opened told (λ p k e. r .based p k (far p k e)) counting (r .counts) near roles after (rw same at is)
                 (λ p k e. rw (kept p k e) (rw e at (r .known p k)));
             end = kept target (rw same at h) (r .end);
-            reach = λ o few. ⊎-elim (λ l. reach-more o (omega arith)) (λ l. reach-last (omega arith) o) few;
+            reach = λ o few. ⊎-elim (λ l. reach-more o (omega arith)) (λ l. reach-last l o) few;
           }
 
     -- a chain that is short enough, or any in the last round, is the answer

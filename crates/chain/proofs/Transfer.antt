@@ -1,14 +1,14 @@
 -- The graph of what is near tells no more than the whole graph, and of the chains that are near no less; so its answer is that of
 -- the whole, where each chain is near or longer than the one found.
 use Prim.Native.Nat.{ℕ, _<_, _≤_}
-use mathlib.Core.Path.{_≡_, refl, sym, _∙_}
+use mathlib.Core.Path.{_≡_, sym, _∙_}
 use mathlib.Core.Bool.{Bool, true, false, _&&_}
 use mathlib.Core.List.{List, [], _∷_}
 use mathlib.Core.Logic.{_⊎_, inl, inr, ⊎-elim}
 use native.Mathlib.Omega.{arith}
 use lib.ListN.{length}
 use Rattle.graph.specs.declared.Found.{Found}
-use Rattle.graph.specs.Chains.{Graph, Onward, ends, goes, Chain, chain, NotLater, Best}
+use Rattle.graph.specs.Chains.{Graph, Onward, ends, goes, Chain, chain}
 use Rattle.graph.specs.Answer.{Answered, found, none}
 use Rattle.chain.proofs.Booleans.{both-true}
 

@@ -32,7 +32,7 @@ pub record Near (n : ℕ) (table roles before near : List ℕ) : Type 0 where
       (u v : ℕ) → u < n → v < n → ledOf (getD roles v 0) ≡ true → verdictIn n table u v ≡ true → getD before u 0 ≡ 2
       → getD near u 0 ≡ 1
 
--- before the last round each link
+-- in the last round each link
 pub record Wider (n : ℕ) (table : List ℕ) (round : ℕ) (roles before near : List ℕ) : Type 0 where
   pub layer : Near n table roles before near
-  pub links : round ≡ 3 → (u : ℕ) → u < n → getD before u 0 ≡ 2 → getD near u 0 ≡ 1
+  pub links : round ≡ 4 → (u : ℕ) → u < n → getD before u 0 ≡ 2 → getD near u 0 ≡ 1

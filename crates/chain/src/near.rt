@@ -9,6 +9,9 @@ ghost use lib.ListN.{getD};
 ghost use Rattle.chain.specs.Near.{firstOf, markedOf, Near, Wider};
 ghost use Rattle.image.specs.Index.{entryIn};
 
+// The round that opens all links.
+pub(crate) const LAST: usize = 4;
+
 // At first the target, the anchors and the CRLs. Other signers are in no chain to the target.
 pub(crate) fn near_first(image: &[u8], places: usize, target: usize) -> [u8; 96]
     requires { ⌜ places ≤ 96 ⌝ }
@@ -38,7 +41,7 @@ fn first(e: IndexEntry, place: usize, target: usize) -> u8
     1
 }
 
-// Then the links that have verdict 1 for a usable link or signer, and in the last round all links.
+// Then the links that have verdict 1 for a usable link or signer of the round before, and in the last round all links.
 pub(crate) fn near_next(
     table: &[u8],
     places: usize,
@@ -49,7 +52,7 @@ pub(crate) fn near_next(
     requires { ⌜ places ≤ 96 ⌝ }
     ensures { λ r. ⌜ Wider places (now (table .entry)) round roles near r ⌝ }
 {
-    if round == 3 {
+    if round == LAST {
         return with_links(places, near);
     }
     with_signers(table, places, near, roles)

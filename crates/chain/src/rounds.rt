@@ -2,6 +2,7 @@
 use crate::certificates::blank_row;
 use crate::counting::counting_lists;
 use crate::matching::matching_steps;
+use crate::near::LAST;
 use crate::near::near_first;
 use crate::near::near_next;
 use crate::opened::Row;
@@ -16,7 +17,8 @@ ghost use Rattle.chain.specs.Rows.{Searched};
 ghost use Rattle.graph.specs.Answer as search;
 ghost use Rattle.image.specs.Index.{entryCount};
 
-// A round settles all chains of as many places as it goes back, and the last round all.
+// Round 0 opens anchors, CRLs and the target, and each round goes a link further back from the target. So a round knows all
+// good chains of at most two places more than its number, and the last round all: a chain found that is as short is the best.
 pub(crate) fn chain_among(
     image: &[u8],
     table: &[u8],
@@ -43,7 +45,7 @@ pub(crate) fn chain_among(
     loop {
         let found = searched(image, table, places, rows, roles, target);
         let length = found.length;
-        if round == 4 {
+        if round == LAST {
             return found;
         }
         if length != 0 {
@@ -51,13 +53,13 @@ pub(crate) fn chain_among(
                 return found;
             }
         }
+        round += 1;
         let wider = near_next(table, places, round, near, roles);
         let opened = open_items(image, places, moment, near, wider, rows);
         let known = roles_of(image, places, near, opened, counting, roles);
         near = wider;
         rows = opened;
         roles = known;
-        round += 1;
     }
 }
 

@@ -5,7 +5,6 @@ use mathlib.Core.Logic.{⊎-elim}
 use native.Mathlib.Nat.{mul-le-mul}
 use native.Mathlib.Omega.{arith}
 use borrow.Author.Needs.{needs}
-use borrow.Author.Tests.{eq-eqb, ne-eqb}
 use lib.ListN.{length, length-set}
 use Rattle.chain.specs.Items.{someBelow}
 use Rattle.chain.specs.Rows.{flag, vouchedBy, countedOf}

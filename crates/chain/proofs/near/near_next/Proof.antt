@@ -1,4 +1,4 @@
--- Before the last round all links, else a layer more.
+-- In the last round all links, else a layer more.
 use borrow.Author.Needs.{needs}
 use Rattle.chain.proofs.Layers.{links-wider, layer-wider}
 use Rattle.chain.proofs.near.near_next.Statement.{statement}

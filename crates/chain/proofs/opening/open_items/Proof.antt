@@ -1,14 +1,11 @@
 -- The rows of the places so far are told.
 use Prim.Native.Nat.{_-_, _≤_}
-use mathlib.Core.Path.{_≡_, refl, _∙_}
-use mathlib.Core.Bool.{cond}
+use mathlib.Core.Path.{_≡_, refl}
 use mathlib.Core.Logic.{⊎-elim}
 use native.Mathlib.Omega.{arith}
 use borrow.Author.Needs.{needs}
 use lib.ListN.{length, length-set}
-use Rattle.image.specs.Index.{entryIn}
-use Rattle.chain.specs.Near.{isNear}
-use Rattle.chain.specs.Rows.{blank, rowAt, rowOf, rowIn}
+use Rattle.chain.specs.Rows.{blank, rowAt, rowIn}
 use Rattle.chain.proofs.Slots.{Upto, slot-set, slot-left}
 use Rattle.chain.proofs.RowLaws.{row-read, row-near, row-far, blank-slots}
 use Rattle.chain.proofs.opening.open_items.Statement.{statement}

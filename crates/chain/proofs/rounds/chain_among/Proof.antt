@@ -50,6 +50,9 @@ add-if4 c = omega arith
 returns-3 : tie.Need-returns-3 Inv-loop μ-loop
 returns-3 c = round-answer _ _ _ _ _ (c .before .before .before .before .before .before .before .before .before .before .before .before .before .pre .0) (c .before .before .before .before .loop .inv .1) (c .before .before .before .before .before .before .before .before .before .before .before .before .before .pre .1) (c .before .before .before .searched .ensures) (inr (c .before .if3 .taken, c .if4 .taken))
 
+add-round : tie.Need-add-round Inv-loop μ-loop
+add-round c = omega arith
+
 near-next-requires : tie.Need-near-next-requires Inv-loop μ-loop
 near-next-requires c κs = search needs
 
@@ -58,9 +61,6 @@ open-items-requires-2 c κs = c .before .before .before .before .before .before 
 
 roles-of-requires-2 : tie.Need-roles-of-requires-2 Inv-loop μ-loop
 roles-of-requires-2 c κs = c .before .before .before .before .before .before .before .before .before .before .before .before .before .before .pre .1
-
-add-round : tie.Need-add-round Inv-loop μ-loop
-add-round c = omega arith
 
 loop-less : tie.Need-loop-less Inv-loop μ-loop
 loop-less c = omega arith
@@ -86,9 +86,9 @@ chain-among-spec =
     returns-2
     add-if4
     returns-3
+    add-round
     near-next-requires
     open-items-requires-2
     roles-of-requires-2
-    add-round
     loop-less
     loop-again)
