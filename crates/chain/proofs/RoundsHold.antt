@@ -26,7 +26,7 @@ use Rattle.chain.proofs.ItemsTold.{kind-told}
 use Rattle.chain.proofs.NearRows.{Told, Based, told-next}
 use Rattle.chain.proofs.CountingMeans.{Counts, counting-means}
 use Rattle.chain.proofs.RolesMean.{Known, roles-mean}
-use Rattle.chain.proofs.Transfer.{AllNear, done, more, answer-out}
+use Rattle.chain.proofs.Transfer.{AllNear, done, more, NearOrLonger, answer-out}
 use Rattle.chain.proofs.Meaning.{tables-part}
 use Rattle.chain.proofs.Theorems.{step-verified}
 
@@ -135,6 +135,29 @@ module _ (s table : List ℕ) (moment target n : ℕ) (same : n ≡ entryCount s
         }
 
   module _ {round : ℕ} {near : List ℕ} {rows : List Row} {counting roles : List ℕ} (r : Round s table moment target round near rows counting roles) where
+    -- what the tables answer, where each way on to the target is near or no shorter than what is found
+    answer-by :
+        {f : Found} → n ≤ 96 → Searched s n table rows roles target f
+        → NearOrLonger (isNear near) (goodChains s table moment) target f → Answered (goodChains s table moment) target f
+    answer-by few found ways =
+        answer-out
+        (tables-part s table moment near rows roles (found .steps) (rw same at few) (r .told) (r .based) (r .known) (rw same at (found .matched)))
+        ways (rw same at (found .answer))
+
+    -- a chain that is short enough, or any in the last round, is the answer
+    pub round-answer :
+        {f : Found} → n ≤ 96 → Searched s n table rows roles target f
+        → (round ≡ 4) ⊎ ((f .length ≡ 0 → ⊥) × (f .length ≤ round + 2)) → Answered (goodChains s table moment) target f
+    round-answer {f} few found enough =
+        answer-by few found (λ u c o. ⊎-elim (λ last. inl (r .reach o (inr last))) (λ k. short o k) enough)
+      where
+        short :
+            {u : ℕ} {c : List ℕ} → Onward (goodChains s table moment) target u c → ((f .length ≡ 0 → ⊥) × (f .length ≤ round + 2))
+            → AllNear (isNear near) c ⊎ ((f .length ≡ 0 → ⊥) × (f .length ≤ length c))
+        short {c = c} o k =
+            ⊎-elim (λ (l : length c < round + 2). inl (r .reach o (inl (omega arith)))) (λ (l : round + 2 ≤ length c). inr (k .0, omega (arith, k .1)))
+            (below-or-not (length c) (round + 2))
+
     -- the round after it
     module _ {wider : List ℕ} (w : Wider n table (round + 1) roles near wider) where
       kept : (p : ℕ) → p < entryCount s → isNear near p ≡ true → isNear wider p ≡ true
@@ -188,6 +211,20 @@ module _ (s table : List ℕ) (moment target n : ℕ) (same : n ≡ entryCount s
       all-kept (goes {v = x} m link step rest) (more n others) =
           more (kept x (in-items s table moment x m) n) (all-kept rest others)
 
+      -- where nothing is new each way on to the target is near
+      pub closed-answer :
+          {f : Found} → n ≤ 96 → Searched s n table rows roles target f
+          → ((p : ℕ) → p < n → getD near p 0 ≡ getD wider p 0) → Answered (goodChains s table moment) target f
+      unfolding isNear
+      closed-answer few found unchanged = answer-by few found (λ u c o. inl (all o))
+        where
+          all : {u : ℕ} {c : List ℕ} → Onward (goodChains s table moment) target u c → AllNear (isNear near) c
+          all (ends m signer step) = more {v = target} (r .end) done
+          all (goes {v = x} m link step rest) =
+              let here = in-items s table moment x m in
+              let now = signs here (link-kind s table moment x here link) rest (all rest) in
+              more {v = x} (rw (unchanged x (rw (← same) at here)) now) (all rest)
+
       reach-last :
           round + 1 ≡ 4 → {u : ℕ} {c : List ℕ} → Onward (goodChains s table moment) target u c → AllNear (isNear wider) c
       reach-last last (ends m signer step) = more (kept target (in-items s table moment target m) (r .end)) done
@@ -221,23 +258,6 @@ module _ (s table : List ℕ) (moment target n : ℕ) (same : n ≡ entryCount s
             end = kept target (rw same at h) (r .end);
             reach = λ o few. ⊎-elim (λ l. reach-more o (omega arith)) (λ l. reach-last l o) few;
           }
-
-    -- a chain that is short enough, or any in the last round, is the answer
-    pub round-answer :
-        {f : Found} → n ≤ 96 → Searched s n table rows roles target f
-        → (round ≡ 4) ⊎ ((f .length ≡ 0 → ⊥) × (f .length ≤ round + 2)) → Answered (goodChains s table moment) target f
-    round-answer {f} few found enough =
-        answer-out
-        (tables-part s table moment near rows roles (found .steps) (rw same at few) (r .told) (r .based) (r .known) (rw same at (found .matched)))
-        (λ u c o. ⊎-elim (λ last. inl (r .reach o (inr last))) (λ k. short o k) enough)
-        (rw same at (found .answer))
-      where
-        short :
-            {u : ℕ} {c : List ℕ} → Onward (goodChains s table moment) target u c → ((f .length ≡ 0 → ⊥) × (f .length ≤ round + 2))
-            → AllNear (isNear near) c ⊎ ((f .length ≡ 0 → ⊥) × (f .length ≤ length c))
-        short {c = c} o k =
-            ⊎-elim (λ (l : length c < round + 2). inl (r .reach o (inl (omega arith)))) (λ (l : round + 2 ≤ length c). inr (k .0, omega (arith, k .1)))
-            (below-or-not (length c) (round + 2))
 
     -- a target that is not usable has no chain
     signer-of : {u : ℕ} {c : List ℕ} → Onward (goodChains s table moment) target u c → goodChains s table moment .signer target ≡ true

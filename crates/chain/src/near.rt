@@ -4,6 +4,7 @@ use crate::matching::led;
 use image::IndexEntry;
 use image::entry_in;
 ghost use mathlib.Core.Path.{_≡_};
+ghost use mathlib.Core.Bool.{true};
 ghost use Prim.Native.Nat.{ℕ, _≤_, _<_};
 ghost use lib.ListN.{getD};
 ghost use Rattle.chain.specs.Near.{firstOf, markedOf, Near, Wider};
@@ -101,4 +102,19 @@ fn marked(before: u8, verdict: u8, mark: u8) -> u8
         return 1;
     }
     mark
+}
+
+// Whether a round opens no more than the one before.
+pub(crate) fn unchanged(places: usize, before: [u8; 96], near: [u8; 96]) -> bool
+    requires { ⌜ places ≤ 96 ⌝ }
+    ensures { λ r. ⌜ (r ≡ true → (p : ℕ) → p < places → getD before p 0 ≡ getD near p 0) ⌝ }
+{
+    let mut place = 0;
+    while place < places {
+        if before[place] != near[place] {
+            return false;
+        }
+        place += 1;
+    }
+    true
 }

@@ -5,6 +5,7 @@ use crate::matching::matching_steps;
 use crate::near::LAST;
 use crate::near::near_first;
 use crate::near::near_next;
+use crate::near::unchanged;
 use crate::opened::Row;
 use crate::opening::open_items;
 use crate::roles::roles_of;
@@ -19,6 +20,7 @@ ghost use Rattle.image.specs.Index.{entryCount};
 
 // Round 0 opens anchors, CRLs and the target, and each round goes a link further back from the target. So a round knows all
 // good chains of at most two places more than its number, and the last round all: a chain found that is as short is the best.
+// Where no round could open more, all good chains are known too.
 pub(crate) fn chain_among(
     image: &[u8],
     table: &[u8],
@@ -55,6 +57,9 @@ pub(crate) fn chain_among(
         }
         round += 1;
         let wider = near_next(table, places, round, near, roles);
+        if unchanged(places, near, wider) {
+            return found;
+        }
         let opened = open_items(image, places, moment, near, wider, rows);
         let known = roles_of(image, places, near, opened, counting, roles);
         near = wider;

@@ -4,7 +4,7 @@ use mathlib.Core.Path.{refl}
 use mathlib.Core.Logic.{inl, inr}
 use native.Mathlib.Omega.{arith}
 use borrow.Author.Needs.{needs}
-use Rattle.chain.proofs.RoundsHold.{Round, first-round, next-round, round-answer, no-signer}
+use Rattle.chain.proofs.RoundsHold.{Round, first-round, next-round, round-answer, closed-answer, no-signer}
 use Rattle.chain.proofs.rounds.chain_among.Statement.{statement}
 use Rattle.chain.proofs.rounds.chain_among.Tie as tie
 
@@ -56,17 +56,23 @@ add-round c = omega arith
 near-next-requires : tie.Need-near-next-requires Inv-loop μ-loop
 near-next-requires c κs = search needs
 
+unchanged-requires : tie.Need-unchanged-requires Inv-loop μ-loop
+unchanged-requires c κs = c .before .before .before .before .before .before .before .before .before .before .before .before .before .pre .1
+
+returns-4 : tie.Need-returns-4 Inv-loop μ-loop
+returns-4 c = closed-answer _ _ _ _ _ (c .before .before .before .before .before .before .before .before .before .before .before .before .before .before .before .pre .0) (c .before .before .before .before .before .before .loop .inv .1) (c .before .before .near-next .ensures) (c .before .before .before .before .before .before .before .before .before .before .before .before .before .before .before .pre .1) (c .before .before .before .before .before .searched .ensures) (c .before .unchanged .ensures (c .if5 .taken))
+
 open-items-requires-2 : tie.Need-open-items-requires-2 Inv-loop μ-loop
-open-items-requires-2 c κs = c .before .before .before .before .before .before .before .before .before .before .before .before .before .pre .1
+open-items-requires-2 c κs = c .before .before .before .before .before .before .before .before .before .before .before .before .before .before .before .pre .1
 
 roles-of-requires-2 : tie.Need-roles-of-requires-2 Inv-loop μ-loop
-roles-of-requires-2 c κs = c .before .before .before .before .before .before .before .before .before .before .before .before .before .before .pre .1
+roles-of-requires-2 c κs = c .before .before .before .before .before .before .before .before .before .before .before .before .before .before .before .before .pre .1
 
 loop-less : tie.Need-loop-less Inv-loop μ-loop
 loop-less c = omega arith
 
 loop-again : tie.Need-loop-again Inv-loop μ-loop
-loop-again c = (omega arith, next-round _ _ _ _ _ (c .before .before .before .before .before .before .before .before .before .before .before .before .before .before .before .pre .0) (c .before .before .before .before .before .before .loop .inv .1) (c .before .before .near-next .ensures) (c .before .before .before .before .before .before .before .before .before .before .before .before .before .before .before .pre .2) (c .before .open-items2 .ensures) (c .roles-of2 .ensures))
+loop-again c = (omega arith, next-round _ _ _ _ _ (c .before .before .before .before .before .before .before .before .before .before .before .before .before .before .before .before .before .pre .0) (c .before .before .before .before .before .before .before .before .loop .inv .1) (c .before .before .before .before .near-next .ensures) (c .before .before .before .before .before .before .before .before .before .before .before .before .before .before .before .before .before .pre .2) (c .before .open-items2 .ensures) (c .roles-of2 .ensures))
 
 pub chain-among-spec : {M : Type 1} → statement M
 chain-among-spec =
@@ -88,6 +94,8 @@ chain-among-spec =
     returns-3
     add-round
     near-next-requires
+    unchanged-requires
+    returns-4
     open-items-requires-2
     roles-of-requires-2
     loop-less
