@@ -1,15 +1,16 @@
 -- A question that may be asked is over the image's entries, and what the search found for it is the answer.
-use Prim.Native.Nat.{ℕ, _≤_}
-use mathlib.Core.Path.{_≡_, refl, sym, ap, _∙_}
+use Prim.Native.Nat.{ℕ, _<_, _≤_}
+use mathlib.Core.Path.{_≡_, refl, sym, _∙_}
 use mathlib.Core.Bool.{Bool, true, false, cond}
 use mathlib.Core.List.{List}
 use native.Mathlib.Omega.{arith}
+use borrow.Author.Tests.{ltb-true}
 use lib.Dec.{ltb, eqb}
 use lib.ListN.{length}
 use Rattle.refusal.specs.declared.Refusal.{Refusal}
 use Rattle.refusal.specs.declared.Refusal.the-variants as refusal
 use Rattle.calendar.specs.Days.{realMoment}
-use Rattle.graph.specs.Chains.{Graph, Chain, chain}
+use Rattle.graph.specs.Chains.{Chain, chain}
 use Rattle.graph.specs.declared.Found.{Found}
 use Rattle.graph.specs.Answer as search
 use Rattle.image.specs.declared.Opened.{Opened}
@@ -19,7 +20,7 @@ use Rattle.image.specs.Index.{entryCount, entryIn}
 use Rattle.chain.specs.declared.asking.Asked.{Asked}
 use Rattle.chain.specs.declared.asking.Asked.the-variants as asked
 use Rattle.chain.specs.declared.Answer.{Answer}
-use Rattle.chain.specs.Answer.{onImage, askedOf, goodChains, Without, With, Shows, nothing, something, Answered, none, found}
+use Rattle.chain.specs.Answer.{onImage, askedOf, goodChains, Shows, nothing, something, Answered, none, found}
 use Rattle.chain.specs.Table.{tableGood}
 use Rattle.chain.proofs.ImageOpened.{opened-image}
 
@@ -34,24 +35,25 @@ all-four :
     (asked.Refused refusal.Argument))
     (asked.Refused refusal.Argument)
     ≡ asked.Over n
-    → m ≡ n
+    → (m ≡ n) × (c ≡ true)
 all-four false b c d e = absurd (not-over e)
 all-four true false c d e = absurd (not-over e)
 all-four true true false d e = absurd (not-over e)
 all-four true true true false e = absurd (not-over e)
-all-four true true true true e = cc
+all-four true true true true e = (cc, refl)
 
 module _ (s table : List ℕ) (moment target : ℕ) where
-  pub asked-over : {n : ℕ} → askedOf s table moment target ≡ asked.Over n → (n ≡ entryCount s) × (n ≤ 96)
+  pub asked-over : {n : ℕ} → askedOf s table moment target ≡ asked.Over n → (n ≡ entryCount s) × (n ≤ 96) × (target < n)
   unfolding askedOf onImage
   asked-over {n} = go (openedOf s) refl
     where
-      go : (o : Opened) → openedOf s ≡ o → onImage s table moment target o ≡ asked.Over n → (n ≡ entryCount s) × (n ≤ 96)
+      go : (o : Opened) → openedOf s ≡ o → onImage s table moment target o ≡ asked.Over n → (n ≡ entryCount s) × (n ≤ 96) × (target < n)
       go (opened.Refused why) e f = absurd (not-over f)
       go (opened.Image m day) e f =
-          let same : m ≡ n = all-four (tableGood m table) (realMoment 1950 2099 moment) (ltb target m) (eqb (entryIn s target .kind) 3) f in
+          let both = all-four (tableGood m table) (realMoment 1950 2099 moment) (ltb target m) (eqb (entryIn s target .kind) 3) f in
           let o = opened-image s m day e in
-          (sym same ∙ o .0, omega (arith, o .1))
+          let below = ltb-true target m (both .1) in
+          (sym (both .0) ∙ o .0, omega (arith, o .1, both .0), omega (arith, both .0))
 
   chain-length : {c : List ℕ} → Chain (goodChains s table moment) target c → length c ≡ 0 → ⊥
   chain-length (chain h k o) e = omega arith

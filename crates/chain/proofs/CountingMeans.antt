@@ -18,10 +18,12 @@ use Rattle.chain.specs.declared.opened.Row.{Row}
 use Rattle.chain.specs.Items.{someBelow, somePlace}
 use Rattle.chain.specs.Usable.{usableAnchor, sameCountry, counts}
 use Rattle.chain.specs.Table.{verdictIn}
-use Rattle.chain.specs.Rows.{bytesAt, rowAt, Told, flag, vouchesOf, vouchedBy, countedOf, Counted}
+use Rattle.chain.specs.Near.{isNear}
+use Rattle.chain.specs.Rows.{bytesAt, rowAt, flag, vouchesOf, vouchedBy, countedOf, Counted}
 use Rattle.chain.proofs.Booleans.{chosen, reordered, grouped}
 use Rattle.chain.proofs.PlacesMean.{length-items, item-told}
-use Rattle.chain.proofs.RowReadings.{certificateTold, listTold, currentOf, Reading, reading}
+use Rattle.chain.proofs.RowReadings.{certificateTold, listTold, currentOf, Reading}
+use Rattle.chain.proofs.NearRows.{Told, Based, row-read-near}
 use Rattle.chain.proofs.StandingMeans.{standing-anchor, standing-list, certificate-row, list-row}
 use Rattle.chain.proofs.ItemsTold.{anchor-told, current-told, certificate-told, list-told}
 
@@ -36,6 +38,11 @@ unfolding flag
 flag-one true = refl
 flag-one false = refl
 
+-- a table that tells which CRLs count
+abbrev pub Counts : List ℕ → List ℕ → ℕ → List ℕ → Type 0
+Counts s table moment counting =
+    (c : ℕ) → c < entryCount s → eqb (getD counting c 0) 1 ≡ counts (itemsIn s) (verdictIn (entryCount s) table) moment c
+
 -- what the row of a place tells of the certificate, or of the CRL, that stands there
 abbrev pub Certificate : List ℕ → List Row → ℕ → Type 0
 Certificate s rows p =
@@ -46,9 +53,9 @@ abbrev pub Crl : List ℕ → List Row → ℕ → Type 0
 Crl s rows p =
     (f : crls.Fields) × (lists.judgedOf (bytesAt s (entryIn s p)) ≡ list-judged.Passed f) × (rowAt rows p ≡ listTold (entryIn s p) f)
 
-module _ (s table : List ℕ) (moment : ℕ) (rows : List Row) (told : Told moment s (entryCount s) rows) where
-  pub row-reading : (p : ℕ) → p < entryCount s → Reading moment s (entryIn s p) (rowAt rows p)
-  row-reading p h = rw (told p h) (reading moment s (entryIn s p))
+module _ (s table : List ℕ) (moment : ℕ) (near : List ℕ) (rows : List Row) (told : Told moment s (entryCount s) near rows) (based : Based s (entryCount s) near) where
+  pub row-reading : (p : ℕ) → p < entryCount s → Reading moment s (entryIn s p) (isNear near p) (rowAt rows p)
+  row-reading p h = row-read-near moment s (entryCount s) near rows told based p h
 
   -- standing 1 is a usable anchor
   pub anchor-standing : (p : ℕ) → p < entryCount s → eqb (rowAt rows p .standing) 1 ≡ usableAnchor (itemsIn s) moment p
@@ -81,7 +88,7 @@ module _ (s table : List ℕ) (moment : ℕ) (rows : List Row) (told : Told mome
       (reordered (verdictIn (entryCount s) table a c) (eqb (rowAt rows a .standing) 1) (cond x y false) (sameCountry (itemsIn s) a c)
       (λ k. country a c ha hc (eqb-true (rowAt rows a .standing) 1 k) four ∙ sym (chosen x y y refl)))
 
-  counted : (c : ℕ) → c < entryCount s → countedOf (entryCount s) table rows c ≡ counts (itemsIn s) (verdictIn (entryCount s) table) moment c
+  pub counted : (c : ℕ) → c < entryCount s → countedOf (entryCount s) table rows c ≡ counts (itemsIn s) (verdictIn (entryCount s) table) moment c
   unfolding countedOf counts somePlace
   counted c h =
       rw (length-items s, current-told s c h moment, item-told s c h)
@@ -92,6 +99,5 @@ module _ (s table : List ℕ) (moment : ℕ) (rows : List Row) (told : Told mome
 
   -- the table of counting CRLs tells which CRLs count
   pub counting-means :
-      (counting : List ℕ) → Counted (entryCount s) table rows counting → (c : ℕ) → c < entryCount s
-      → eqb (getD counting c 0) 1 ≡ counts (itemsIn s) (verdictIn (entryCount s) table) moment c
+      (counting : List ℕ) → Counted (entryCount s) table rows counting → Counts s table moment counting
   counting-means counting is c h = rw (is c h) (flag-one (countedOf (entryCount s) table rows c) ∙ counted c h)

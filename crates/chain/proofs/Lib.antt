@@ -3,12 +3,14 @@ pub mod Bits
 pub mod Booleans
 pub mod Cells
 pub mod CountingMeans
-pub mod Filling
 pub mod ImageOpened
 pub mod ItemsTold
+pub mod Layers
 pub mod Meaning
+pub mod NearRows
 pub mod PlacesMean
 pub mod RolesMean
+pub mod RoundsHold
 pub mod RowLaws
 pub mod RowReadings
 pub mod Slots

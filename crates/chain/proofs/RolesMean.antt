@@ -1,4 +1,5 @@
--- The table of roles tells the usable anchors, links and signers: a role is a standing, and of a link or signer what the CRLs say.
+-- The table of roles tells the usable anchors, and the usable links and signers that are near: a role is a standing, and of a
+-- link or signer what the CRLs say.
 use Prim.Native.Nat.{ℕ, _<_, _≤_}
 use mathlib.Core.Path.{_≡_, refl, sym, _∙_}
 use mathlib.Core.Bool.{Bool, true, false, cond, _&&_}
@@ -12,12 +13,14 @@ use Rattle.chain.specs.declared.opened.Row.{Row}
 use Rattle.chain.specs.Usable.{usableAnchor, usable}
 use Rattle.chain.specs.Steps.{hasKind}
 use Rattle.chain.specs.Table.{verdictIn}
-use Rattle.chain.specs.Rows.{rowAt, Told, Counted, spokenBelow, signedOf, roleBy, roleOf, Roles}
-use Rattle.chain.proofs.Booleans.{grouped}
+use Rattle.chain.specs.Near.{isNear}
+use Rattle.chain.specs.Rows.{rowAt, spokenBelow, signedOf, roleBy, roleOf, roleIn, Roles}
+use Rattle.chain.proofs.Booleans.{grouped-near}
 use Rattle.chain.proofs.RowReadings.{validOf}
+use Rattle.chain.proofs.NearRows.{Told, Based}
 use Rattle.chain.proofs.StandingMeans.{standing-signed, certificate-row}
 use Rattle.chain.proofs.ItemsTold.{kind-told, valid-told}
-use Rattle.chain.proofs.CountingMeans.{Certificate, row-reading, anchor-standing}
+use Rattle.chain.proofs.CountingMeans.{Counts, Certificate, row-reading, anchor-standing}
 use Rattle.chain.proofs.SpeakingMeans.{spoken-means}
 
 -- the role of a row with tests x and y for standings 2 and 3, and z for 1
@@ -62,55 +65,71 @@ apart : (m k l : ℕ) → (k ≡ l → ⊥) → eqb m k ≡ true → eqb m l ≡
 apart m k l d e = let same : m ≡ k = eqb-true m k e in ne-eqb m l (λ z. d (sym same ∙ z))
 
 module _ (s : List ℕ) (n : ℕ) (rows : List Row) (counting : List ℕ) (row : Row) where
-  pub role-anchor : eqb (roleOf s n rows counting row) 1 ≡ eqb (row .standing) 1
+  role-anchor : eqb (roleOf s n rows counting row) 1 ≡ eqb (row .standing) 1
   unfolding roleOf roleBy signedOf
   role-anchor =
       by-anchor (eqb (row .standing) 2) (eqb (row .standing) 3) (eqb (row .standing) 1) (spokenBelow s rows counting row n)
       (apart (row .standing) 2 1 (λ z. omega arith)) (apart (row .standing) 3 1 (λ z. omega arith))
 
-  pub role-link : eqb (roleOf s n rows counting row) 2 ≡ (eqb (row .standing) 2 && eqb (spokenBelow s rows counting row n) 1)
+  role-link : eqb (roleOf s n rows counting row) 2 ≡ (eqb (row .standing) 2 && eqb (spokenBelow s rows counting row n) 1)
   unfolding roleOf roleBy signedOf
   role-link =
       by-link (eqb (row .standing) 2) (eqb (row .standing) 3) (eqb (row .standing) 1) (spokenBelow s rows counting row n)
 
-  pub role-signer : eqb (roleOf s n rows counting row) 3 ≡ (eqb (row .standing) 3 && eqb (spokenBelow s rows counting row n) 1)
+  role-signer : eqb (roleOf s n rows counting row) 3 ≡ (eqb (row .standing) 3 && eqb (spokenBelow s rows counting row n) 1)
   unfolding roleOf roleBy signedOf
   role-signer =
       by-signer (eqb (row .standing) 2) (eqb (row .standing) 3) (eqb (row .standing) 1) (spokenBelow s rows counting row n)
       (apart (row .standing) 2 3 (λ z. omega arith))
 
-module _ (s table : List ℕ) (moment : ℕ) (rows : List Row) (counting roles : List ℕ) (told : Told moment s (entryCount s) rows) (counted : Counted (entryCount s) table rows counting) (is : Roles s (entryCount s) rows counting roles) where
-  -- role 1 is a usable anchor
-  pub anchor-means : (p : ℕ) → p < entryCount s → eqb (getD roles p 0) 1 ≡ usableAnchor (itemsIn s) moment p
-  anchor-means p h =
-      rw (is p h) (role-anchor s (entryCount s) rows counting (rowAt rows p) ∙ anchor-standing s table moment rows told p h)
+-- what a role says of a place, and of a link or signer only where it is near
+pub record Role (s table : List ℕ) (moment p : ℕ) (near : Bool) (role : ℕ) : Type 0 where
+  pub anchor : eqb role 1 ≡ usableAnchor (itemsIn s) moment p
+  pub link :
+      eqb role 2 ≡ (near && (hasKind (itemsIn s) 2 p && usable (itemsIn s) (verdictIn (entryCount s) table) moment p))
+  pub signer :
+      eqb role 3 ≡ (near && (hasKind (itemsIn s) 3 p && usable (itemsIn s) (verdictIn (entryCount s) table) moment p))
 
-  -- a standing of 2 or 3 that the CRLs leave is a usable link or signer
+abbrev pub Known : List ℕ → List ℕ → ℕ → List ℕ → List ℕ → Type 0
+Known s table moment near roles = (p : ℕ) → p < entryCount s → Role s table moment p (isNear near p) (getD roles p 0)
+
+module _ (s table : List ℕ) (moment : ℕ) (near : List ℕ) (rows : List Row) (told : Told moment s (entryCount s) near rows) (based : Based s (entryCount s) near) (counting : List ℕ) (counts : Counts s table moment counting) where
+  -- a standing of 2 or 3 that the CRLs leave is a usable link or signer that is near
   signed :
       (p k : ℕ) → p < entryCount s → 2 ≤ k → k ≤ 3
       → (eqb (rowAt rows p .standing) k && eqb (spokenBelow s rows counting (rowAt rows p) (entryCount s)) 1)
-      ≡ (hasKind (itemsIn s) k p && usable (itemsIn s) (verdictIn (entryCount s) table) moment p)
+      ≡ (isNear near p && (hasKind (itemsIn s) k p && usable (itemsIn s) (verdictIn (entryCount s) table) moment p))
   unfolding usable
   signed p k h l m =
       rw (kind-told s p h k, valid-told s p h moment)
-      (grouped (eqb (rowAt rows p .standing) k) (eqb (entryIn s p .kind) k) (validOf moment s (entryIn s p))
+      (grouped-near (eqb (rowAt rows p .standing) k) (isNear near p) (eqb (entryIn s p .kind) k) (validOf moment s (entryIn s p))
       (eqb (spokenBelow s rows counting (rowAt rows p) (entryCount s)) 1) _
-      (standing-signed (row-reading s table moment rows told p h) k l m)
-      (λ e. spoken-means s table moment rows told counting counted p h (own (eqb-true (rowAt rows p .standing) k e))))
+      (standing-signed (row-reading s table moment near rows told based p h) k l m)
+      (λ e. spoken-means s table moment near rows told based counting counts p h (own (eqb-true (rowAt rows p .standing) k e))))
     where
       own : rowAt rows p .standing ≡ k → Certificate s rows p
-      own e = certificate-row (row-reading s table moment rows told p h) (omega arith) (omega arith)
+      own e = certificate-row (row-reading s table moment near rows told based p h) (omega arith) (omega arith)
 
-  -- role 2 is a usable link
-  pub link-means :
-      (p : ℕ) → p < entryCount s
-      → eqb (getD roles p 0) 2 ≡ (hasKind (itemsIn s) 2 p && usable (itemsIn s) (verdictIn (entryCount s) table) moment p)
-  link-means p h =
-      rw (is p h) (role-link s (entryCount s) rows counting (rowAt rows p) ∙ signed p 2 h (omega arith) (omega arith))
+  -- role 1 is a usable anchor, and of what is near 2 a usable link and 3 a usable signer
+  pub role-means :
+      (p : ℕ) → p < entryCount s → Role s table moment p (isNear near p) (roleOf s (entryCount s) rows counting (rowAt rows p))
+  role-means p h =
+      record {
+        anchor = role-anchor s (entryCount s) rows counting (rowAt rows p) ∙ anchor-standing s table moment near rows told based p h;
+        link = role-link s (entryCount s) rows counting (rowAt rows p) ∙ signed p 2 h (omega arith) (omega arith);
+        signer = role-signer s (entryCount s) rows counting (rowAt rows p) ∙ signed p 3 h (omega arith) (omega arith);
+      }
 
-  -- role 3 is a usable signer
-  pub signer-means :
-      (p : ℕ) → p < entryCount s
-      → eqb (getD roles p 0) 3 ≡ (hasKind (itemsIn s) 3 p && usable (itemsIn s) (verdictIn (entryCount s) table) moment p)
-  signer-means p h =
-      rw (is p h) (role-signer s (entryCount s) rows counting (rowAt rows p) ∙ signed p 3 h (omega arith) (omega arith))
+  -- and so are roles that are handed on
+  pub roles-mean :
+      (before roles more : List ℕ) → Roles s (entryCount s) before rows counting roles more
+      → ((p : ℕ) → p < entryCount s → isNear before p ≡ true → Role s table moment p (isNear near p) (getD roles p 0))
+      → Known s table moment near more
+  unfolding roleIn
+  roles-mean before roles more is known p h = rw (is p h) (go (isNear before p) refl)
+    where
+      go :
+          (b : Bool) → isNear before p ≡ b
+          → Role s table moment p (isNear near p) (cond b (getD roles p 0) (roleOf s (entryCount s) rows counting (rowAt rows p)))
+      go true e = known p h e
+      go false e = role-means p h

@@ -6,18 +6,24 @@ use mathlib.Core.List.{List}
 use native.Mathlib.Numerals.{add-one}
 use borrow.Author.Tests.{eq-eqb, ne-eqb}
 use lib.Dec.{eqb}
-use lib.ListN.{getD, take, drop}
+use lib.ListN.{getD, take, drop, replicate}
 use Rattle.crl.specs.Listed.{listedOf}
 use Rattle.elements.specs.Octets.{alike}
+use Rattle.image.specs.Index.{entryIn}
 use Rattle.chain.specs.declared.opened.Row.{Row}
 use Rattle.chain.specs.Items.{someBelow}
-use Rattle.chain.specs.Rows.{blank, flag, vouchesOf, rowAt, vouchedBy, countedOf, pieceOf, coversOf, listsOf, spokenOf, spokenBelow, signedOf, roleBy, roleOf, ledOf, fitsOf, matchedOf, leadsOf, stepOf}
+use Rattle.chain.specs.Near.{isNear, ledOf}
+use Rattle.chain.specs.Rows.{blank, flag, vouchesOf, rowAt, vouchedBy, countedOf, pieceOf, coversOf, listsOf, spokenOf, spokenBelow, signedOf, roleBy, roleOf, roleIn, rowOf, rowIn, fitsOf, matchedOf, leadsOf, stepOf}
 use Rattle.chain.specs.Table.{verdictIn}
+use Rattle.chain.proofs.Slots.{empty-slots}
 
 -- a slot of the array is the row of its place
 pub row-read : (rows : List Row) (p : ℕ) → getD rows p (record { standing = 0; first = 0; second = 0; at = 0; size = 0; «issuer_at» = 0; «issuer_len» = 0; «subject_at» = 0; «subject_len» = 0; «serial_at» = 0; «serial_len» = 0; «own_at» = 0; «own_len» = 0; «authority_at» = 0; «authority_len» = 0; from = 0; end = 0 }) ≡ rowAt rows p
 unfolding rowAt blank
 row-read rows p = refl
+
+pub blank-slots : {r : Row} → r ≡ blank → (n p : ℕ) → getD (replicate n r) p blank ≡ blank
+blank-slots e n p = rw e (empty-slots n p)
 
 module _ (a l : Row) where
   pub vouches-unfit : eqb (a .standing) 1 ≡ false → vouchesOf a l ≡ false
@@ -186,18 +192,46 @@ module _ (s : List ℕ) (rows : List Row) (counting : List ℕ) (row : Row) (c :
       let not-1 : eqb (getD counting c 0) 1 ≡ false = ne-eqb _ _ not-one in
       rw (add-one c, not-1) f
 
-module _ (s : List ℕ) (n : ℕ) (rows : List Row) (counting : List ℕ) (p : ℕ) {own : Row} {spoken role : ℕ} where
+module _ (s : List ℕ) (n : ℕ) (before : List ℕ) (rows : List Row) (counting roles : List ℕ) (p : ℕ) {own : Row} {spoken role : ℕ} where
   pub role-told :
-      {c : ℕ} → own ≡ rowAt rows p → signedOf own ≡ true → c ≡ n → spoken ≡ spokenBelow s rows counting own c
-      → role ≡ roleBy own spoken → role ≡ roleOf s n rows counting (rowAt rows p)
-  unfolding roleOf
-  role-told e f all g h = rw (← e, f) (h ∙ ap (roleBy own) (g ∙ ap (spokenBelow s rows counting own) all))
+      {c : ℕ} {asked : Bool} → own ≡ rowAt rows p → asked ≡ cond (eqb (getD before p 0) 1) false (signedOf own) → asked ≡ true → c ≡ n
+      → spoken ≡ spokenBelow s rows counting own c → role ≡ cond (eqb (getD before p 0) 1) (getD roles p 0) (roleBy own spoken)
+      → role ≡ roleIn s n before rows counting roles p
+  unfolding roleIn isNear roleOf
+  role-told {c} e a t all g h = go (eqb (getD before p 0) 1) (sym a ∙ t) h
+    where
+      go :
+          (b : Bool) → cond b false (signedOf own) ≡ true → role ≡ cond b (getD roles p 0) (roleBy own spoken)
+          → role
+          ≡ cond b (getD roles p 0)
+          (roleBy (rowAt rows p) (cond (signedOf (rowAt rows p)) (spokenBelow s rows counting (rowAt rows p) n) 0))
+      go true f k = k
+      go false f k = rw (← e, f) (k ∙ ap (roleBy own) (g ∙ ap (spokenBelow s rows counting own) all))
 
   pub role-untold :
-      own ≡ rowAt rows p → signedOf own ≡ false → spoken ≡ 0 → role ≡ roleBy own spoken
-      → role ≡ roleOf s n rows counting (rowAt rows p)
-  unfolding roleOf
-  role-untold e f g h = rw (← e, f) (h ∙ ap (roleBy own) g)
+      {asked : Bool} → own ≡ rowAt rows p → asked ≡ cond (eqb (getD before p 0) 1) false (signedOf own) → asked ≡ false → spoken ≡ 0
+      → role ≡ cond (eqb (getD before p 0) 1) (getD roles p 0) (roleBy own spoken) → role ≡ roleIn s n before rows counting roles p
+  unfolding roleIn isNear roleOf
+  role-untold e a t g h = go (eqb (getD before p 0) 1) (sym a ∙ t) h
+    where
+      go :
+          (b : Bool) → cond b false (signedOf own) ≡ false → role ≡ cond b (getD roles p 0) (roleBy own spoken)
+          → role
+          ≡ cond b (getD roles p 0)
+          (roleBy (rowAt rows p) (cond (signedOf (rowAt rows p)) (spokenBelow s rows counting (rowAt rows p) n) 0))
+      go true f k = k
+      go false f k = rw (← e, f) (k ∙ ap (roleBy own) g)
+
+module _ (moment : ℕ) (s before near : List ℕ) (rows : List Row) (p : ℕ) where
+  pub row-near :
+      {own row : Row} → own ≡ rowAt rows p → getD near p 0 ≡ 1 → row ≡ cond (eqb (getD before p 0) 1) own (rowOf moment s (entryIn s p))
+      → row ≡ rowIn moment s before near rows p
+  unfolding rowIn isNear
+  row-near e one h = rw (eq-eqb _ _ one, ← e) h
+
+  pub row-far : (getD near p 0 ≡ 1 → ⊥) → blank ≡ rowIn moment s before near rows p
+  unfolding rowIn isNear
+  row-far not-one = rw (ne-eqb _ _ not-one)
 
 module _ (s : List ℕ) (n : ℕ) (table : List ℕ) (rows : List Row) (roles : List ℕ) (u v : ℕ) where
   pub step-asked :

@@ -1,4 +1,5 @@
 -- A row is that of a certificate, that of a CRL, or blank, and each says what its item passed, since a row is made by these tests.
+-- A place that is not near has a blank row, whatever its item.
 use Prim.Native.Nat.{ℕ, _≤_}
 use mathlib.Core.Path.{_≡_, refl}
 use mathlib.Core.Bool.{Bool, true, false, cond, _&&_}
@@ -78,16 +79,16 @@ currentOf moment s e = onList (lists.judgedOf (bytesAt s e)) λ f. within (f .«
 unfoldable pub anchorOf : ℕ → List ℕ → IndexEntry → Bool
 anchorOf moment s e = eqb (e .kind) 1 && (eqb (e .flags) 1 && validOf moment s e)
 
-pub data Reading (moment : ℕ) (s : List ℕ) (e : IndexEntry) (row : Row) : Type 0 where
+pub data Reading (moment : ℕ) (s : List ℕ) (e : IndexEntry) (near : Bool) (row : Row) : Type 0 where
   certificate :
-      (f : certificates.Fields) → judgedOf (bytesAt s e) (e .kind) ≡ Passed f → validOf moment s e ≡ true → 1 ≤ e .kind → e .kind ≤ 3
-      → (e .kind ≡ 1 → e .flags ≡ 1) → row ≡ certificateTold e f → Reading moment s e row
+      (f : certificates.Fields) → near ≡ true → judgedOf (bytesAt s e) (e .kind) ≡ Passed f → validOf moment s e ≡ true → 1 ≤ e .kind → e .kind ≤ 3
+      → (e .kind ≡ 1 → e .flags ≡ 1) → row ≡ certificateTold e f → Reading moment s e near row
   list :
       (f : crls.Fields) → e .kind ≡ 4 → lists.judgedOf (bytesAt s e) ≡ list-judged.Passed f → currentOf moment s e ≡ true
-      → row ≡ listTold e f → Reading moment s e row
+      → row ≡ listTold e f → Reading moment s e near row
   neither :
-      anchorOf moment s e ≡ false → ((k : ℕ) → 2 ≤ k → k ≤ 3 → (eqb (e .kind) k && validOf moment s e) ≡ false)
-      → (eqb (e .kind) 4 && currentOf moment s e) ≡ false → row ≡ blank → Reading moment s e row
+      anchorOf moment s e ≡ false → ((k : ℕ) → 2 ≤ k → k ≤ 3 → (near && (eqb (e .kind) k && validOf moment s e)) ≡ false)
+      → (eqb (e .kind) 4 && currentOf moment s e) ≡ false → row ≡ blank → Reading moment s e near row
 
 -- only the roles 1 to 3 pass
 role-bounds : (bytes : List ℕ) (k : ℕ) (f : certificates.Fields) → judgedOf bytes k ≡ Passed f → (1 ≤ k) × (k ≤ 3)
@@ -103,7 +104,7 @@ role-bounds bytes k f e = go (leb 1 k) (leb k 3) refl refl (onWalk (walkOf paper
 
 module _ (moment : ℕ) (s : List ℕ) (e : IndexEntry) where
   -- no certificate that passes
-  invalid : validOf moment s e ≡ false → eqb (e .kind) 4 ≡ false → Reading moment s e blank
+  invalid : validOf moment s e ≡ false → eqb (e .kind) 4 ≡ false → Reading moment s e true blank
   unfolding anchorOf
   invalid v four =
       neither (rw (v, and-false (eqb (e .flags) 1), and-false (eqb (e .kind) 1))) (λ k l h. rw (v, and-false (eqb (e .kind) k)))
@@ -111,49 +112,49 @@ module _ (moment : ℕ) (s : List ℕ) (e : IndexEntry) where
 
   on-certificate :
       (j : Judged) → judgedOf (bytesAt s e) (e .kind) ≡ j → eqb (e .kind) 4 ≡ false → (e .kind ≡ 1 → e .flags ≡ 1)
-      → Reading moment s e (certificateRow moment e j)
+      → Reading moment s e true (certificateRow moment e j)
   unfolding certificateRow validOf onCertificate
   on-certificate (Refused refusal) j four enabled = invalid (rw j) four
   on-certificate (Passed f) j four enabled = go (within (f .start) (f .end) moment) refl
     where
       go :
           (b : Bool) → within (f .start) (f .end) moment ≡ b
-          → Reading moment s e (cond b (certificateTold e f) blank)
-      go true w = let bounds = role-bounds (bytesAt s e) (e .kind) f j in certificate f j (rw (j, w)) (bounds .0) (bounds .1) enabled refl
+          → Reading moment s e true (cond b (certificateTold e f) blank)
+      go true w = let bounds = role-bounds (bytesAt s e) (e .kind) f j in certificate f refl j (rw (j, w)) (bounds .0) (bounds .1) enabled refl
       go false w = invalid (rw (j, w)) four
 
   -- no CRL that passes
-  stale : currentOf moment s e ≡ false → e .kind ≡ 4 → Reading moment s e blank
+  stale : currentOf moment s e ≡ false → e .kind ≡ 4 → Reading moment s e true blank
   unfolding anchorOf
   stale v four =
       neither (rw four) (λ k l h. rw (ne-eqb (e .kind) k (λ z. omega arith))) (rw (v, and-false (eqb (e .kind) 4))) refl
 
   on-list :
-      (j : list-answer.Judged) → lists.judgedOf (bytesAt s e) ≡ j → e .kind ≡ 4 → Reading moment s e (listRow moment e j)
+      (j : list-answer.Judged) → lists.judgedOf (bytesAt s e) ≡ j → e .kind ≡ 4 → Reading moment s e true (listRow moment e j)
   unfolding listRow currentOf onList
   on-list (list-judged.Refused refusal) j four = stale (rw j) four
   on-list (list-judged.Passed f) j four = go (within (f .«this_update») (f .«next_update») moment) refl
     where
       go :
           (b : Bool) → within (f .«this_update») (f .«next_update») moment ≡ b
-          → Reading moment s e (cond b (listTold e f) blank)
+          → Reading moment s e true (cond b (listTold e f) blank)
       go true w = list f four j (rw (j, w)) refl
       go false w = stale (rw (j, w)) four
 
   -- a disabled anchor
-  disabled : e .kind ≡ 1 → eqb (e .flags) 1 ≡ false → Reading moment s e blank
+  disabled : e .kind ≡ 1 → eqb (e .flags) 1 ≡ false → Reading moment s e true blank
   unfolding anchorOf
   disabled one off =
       neither (rw (off, and-false (eqb (e .kind) 1))) (λ k l h. rw (ne-eqb (e .kind) k (λ z. omega arith))) (rw one) refl
 
-  -- the row of an entry
-  pub reading : Reading moment s e (rowOf moment s e)
+  -- the row of an entry that is opened
+  pub reading : Reading moment s e true (rowOf moment s e)
   unfolding rowOf
   reading = go (eqb (e .kind) 4) refl (eqb (e .kind) 1) refl (eqb (e .flags) 1) refl
     where
       go :
           (a : Bool) → eqb (e .kind) 4 ≡ a → (b : Bool) → eqb (e .kind) 1 ≡ b → (c : Bool) → eqb (e .flags) 1 ≡ c
-          → Reading moment s e
+          → Reading moment s e true
           (cond a (listRow moment e (lists.judgedOf (bytesAt s e)))
           (cond b (cond c (certificateRow moment e (judgedOf (bytesAt s e) (e .kind))) blank)
           (certificateRow moment e (judgedOf (bytesAt s e) (e .kind)))))
@@ -161,3 +162,8 @@ module _ (moment : ℕ) (s : List ℕ) (e : IndexEntry) where
       go false four true one true on = on-certificate _ refl four (λ k. eqb-true (e .flags) 1 on)
       go false four true one false on = disabled (eqb-true (e .kind) 1 one) on
       go false four false one c on = on-certificate _ refl four (λ k. absurd (eqb-false (e .kind) 1 one k))
+
+  -- neither an anchor nor a CRL, and not opened
+  pub unopened : eqb (e .kind) 1 ≡ false → eqb (e .kind) 4 ≡ false → Reading moment s e false blank
+  unfolding anchorOf
+  unopened one four = neither (rw one) (λ k l h. refl) (rw four) refl

@@ -1,4 +1,4 @@
--- A table of numbers that is filled from its start: what was set stays, and the slots behind are still 0.
+-- A table that is filled from its start: what was set stays, and the slots behind still hold the default.
 use Prim.Native.Nat.{ℕ, zero, suc, _+_, _<_, _≤_}
 use mathlib.Core.Path.{_≡_, refl, _∙_}
 use mathlib.Core.List.{List}
@@ -8,33 +8,33 @@ use native.Mathlib.Omega.{arith}
 use lib.ListN.{length, getD, set, replicate}
 use lib.Seq.{getD-set-same, getD-set-other}
 
--- a table of zeros, and beyond its end
-pub empty-slots : (n c : ℕ) → _≡_ {A = ℕ} (getD (replicate n 0) c 0) 0
+-- a table of nothing but defaults, and beyond its end
+pub empty-slots : {A : Type 0} {d : A} (n c : ℕ) → getD (replicate n d) c d ≡ d
 empty-slots zero c = refl
 empty-slots (suc n) zero = refl
 empty-slots (suc n) (suc c) = empty-slots n c
 
-module _ (f : ℕ → ℕ) (l : List ℕ) (p : ℕ) where
-  -- the slots before p are those of f, and the others 0
+module _ {A : Type 0} (d : A) (f : ℕ → A) (l : List A) (p : ℕ) where
+  -- the slots before p are those of f, and the others the default
   pub record Upto : Type 0 where
-    pub before : (c : ℕ) → c < p → getD l c 0 ≡ f c
-    pub behind : (c : ℕ) → p ≤ c → getD l c 0 ≡ 0
+    pub before : (c : ℕ) → c < p → getD l c d ≡ f c
+    pub behind : (c : ℕ) → p ≤ c → getD l c d ≡ d
 
-module _ {f : ℕ → ℕ} {l : List ℕ} {p : ℕ} where
-  -- one slot more, set or left at 0
-  pub slot-set : {v : ℕ} → Upto f l p → p < length l → v ≡ f p → Upto f (set l p v) (p + 1)
+module _ {A : Type 0} {d : A} {f : ℕ → A} {l : List A} {p : ℕ} where
+  -- one slot more, set or left
+  pub slot-set : {v : A} → Upto d f l p → p < length l → v ≡ f p → Upto d f (set l p v) (p + 1)
   slot-set {v} u room e =
       record {
         before = λ c h.
-            ⊎-elim (λ (q : c ≡ p). rw q (getD-set-same l p v 0 room ∙ e))
-            (λ (q : c < p). getD-set-other l p c v 0 (λ (w : c ≡ p). omega arith) ∙ u .before c q) (eq-or-lt-of-le (least c h));
-        behind = λ c h. getD-set-other l p c v 0 (λ (w : c ≡ p). omega arith) ∙ u .behind c (omega arith);
+            ⊎-elim (λ (q : c ≡ p). rw q (getD-set-same l p v d room ∙ e))
+            (λ (q : c < p). getD-set-other l p c v d (λ (w : c ≡ p). omega arith) ∙ u .before c q) (eq-or-lt-of-le (least c h));
+        behind = λ c h. getD-set-other l p c v d (λ (w : c ≡ p). omega arith) ∙ u .behind c (omega arith);
       }
     where
       least : (c : ℕ) → c < p + 1 → c ≤ p
       least c h = omega arith
 
-  pub slot-left : Upto f l p → 0 ≡ f p → Upto f l (p + 1)
+  pub slot-left : Upto d f l p → d ≡ f p → Upto d f l (p + 1)
   slot-left u e =
       record {
         before = λ c h.

@@ -13,12 +13,13 @@ use Rattle.chain.specs.declared.opened.Row.{Row}
 use Rattle.chain.specs.Items.{someBelow, somePlace}
 use Rattle.chain.specs.Usable.{covers, lists, speaksOf}
 use Rattle.chain.specs.Table.{verdictIn}
-use Rattle.chain.specs.Rows.{bytesAt, rowAt, Told, countedOf, Counted, pieceOf, coversOf, listsOf, spokenOf, spokenBelow}
+use Rattle.chain.specs.Rows.{bytesAt, rowAt, countedOf, pieceOf, coversOf, listsOf, spokenOf, spokenBelow}
 use Rattle.chain.proofs.Booleans.{first, and-when}
 use Rattle.chain.proofs.PlacesMean.{length-items}
+use Rattle.chain.proofs.NearRows.{Told, Based}
 use Rattle.chain.proofs.StandingMeans.{list-row}
 use Rattle.chain.proofs.ItemsTold.{bytes-told, part-told, certificate-told, list-told}
-use Rattle.chain.proofs.CountingMeans.{some-same, flag-one, Certificate, Crl, row-reading, counting-means}
+use Rattle.chain.proofs.CountingMeans.{some-same, Counts, Certificate, Crl, row-reading, counted}
 
 -- what is said where some CRL covers and lists, and where some covers
 abbrev said : Bool → Bool → ℕ
@@ -67,7 +68,7 @@ module _ (s : List ℕ) (rows : List Row) (counting : List ℕ) (row : Row) wher
   spoken-one : (n : ℕ) → eqb (spokenBelow s rows counting row n) 1 ≡ (someBelow n speaking && not (someBelow n listing))
   spoken-one n = rw (spoken-some n) (is-one (someBelow n listing) (someBelow n speaking))
 
-module _ (s table : List ℕ) (moment : ℕ) (rows : List Row) (told : Told moment s (entryCount s) rows) where
+module _ (s table : List ℕ) (moment : ℕ) (near : List ℕ) (rows : List Row) (told : Told moment s (entryCount s) near rows) (based : Based s (entryCount s) near) where
   covers-row :
       (c p : ℕ) → c < entryCount s → p < entryCount s → Crl s rows c → Certificate s rows p
       → coversOf s (rowAt rows c) (rowAt rows p) ≡ covers (itemsIn s) c p
@@ -91,18 +92,18 @@ module _ (s table : List ℕ) (moment : ℕ) (rows : List Row) (told : Told mome
       go true h o f = eqb-true (rowAt rows c .standing) 4 h
       go false h o f = absurd (let z : _≡_ {A = ℕ} 0 1 = cc in omega arith)
 
-  module _ (counting : List ℕ) (is : Counted (entryCount s) table rows counting) where
+  module _ (counting : List ℕ) (is : Counts s table moment counting) where
     counting-list : (c : ℕ) → c < entryCount s → eqb (getD counting c 0) 1 ≡ true → Crl s rows c
     counting-list c h e =
-        list-row (row-reading s table moment rows told c h)
-        (counted-list c (sym (flag-one (countedOf (entryCount s) table rows c)) ∙ rw (is c h) at e))
+        list-row (row-reading s table moment near rows told based c h)
+        (counted-list c (counted s table moment near rows told based c h ∙ sym (is c h) ∙ e))
 
     speaks :
         (p c : ℕ) → p < entryCount s → c < entryCount s → Certificate s rows p
         → speaking s rows counting (rowAt rows p) c ≡ speaksOf (itemsIn s) (verdictIn (entryCount s) table) moment p c
     unfolding speaking speaksOf
     speaks p c hp hc own =
-        rw (← counting-means s table moment rows told counting is c hc)
+        rw (← is c hc)
         (and-when (eqb (getD counting c 0) 1) (coversOf s (rowAt rows c) (rowAt rows p)) (covers (itemsIn s) c p)
         (λ k. covers-row c p hc hp (counting-list c hc k) own))
 

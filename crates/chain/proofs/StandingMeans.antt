@@ -15,6 +15,7 @@ use Rattle.crl.specs.Answer as lists
 use Rattle.image.specs.declared.IndexEntry.{IndexEntry}
 use Rattle.chain.specs.declared.opened.Row.{Row}
 use Rattle.chain.specs.Rows.{blank, bytesAt}
+use Rattle.chain.proofs.Booleans.{and-false}
 use Rattle.chain.proofs.RowReadings.{certificateTold, listTold, validOf, currentOf, anchorOf, Reading, certificate, list, neither}
 
 -- a test that a second and a third follow from
@@ -26,33 +27,33 @@ with-one : (a b : Bool) → b ≡ true → a ≡ (a && b)
 with-one true b t = sym t
 with-one false b t = refl
 
-module _ {moment : ℕ} {s : List ℕ} {e : IndexEntry} {row : Row} where
+module _ {moment : ℕ} {s : List ℕ} {e : IndexEntry} {near : Bool} {row : Row} where
   -- standing 1 is a usable anchor
-  pub standing-anchor : Reading moment s e row → eqb (row .standing) 1 ≡ anchorOf moment s e
+  pub standing-anchor : Reading moment s e near row → eqb (row .standing) 1 ≡ anchorOf moment s e
   unfolding anchorOf blank
-  standing-anchor (certificate f j v lo hi on h) =
+  standing-anchor (certificate f n j v lo hi on h) =
       rw h
       (with-true (eqb (e .kind) 1) (eqb (e .flags) 1) (validOf moment s e)
       (λ k. eq-eqb (e .flags) 1 (on (eqb-true (e .kind) 1 k))) v)
   standing-anchor (list f four j v h) = rw (h, four)
   standing-anchor (neither a b c h) = rw h (sym a)
 
-  -- standings 2 and 3 are those kinds, passing and within their times
+  -- standings 2 and 3 are those kinds, near, passing and within their times
   pub standing-signed :
-      Reading moment s e row → (k : ℕ) → 2 ≤ k → k ≤ 3 → eqb (row .standing) k ≡ (eqb (e .kind) k && validOf moment s e)
+      Reading moment s e near row → (k : ℕ) → 2 ≤ k → k ≤ 3 → eqb (row .standing) k ≡ (near && (eqb (e .kind) k && validOf moment s e))
   unfolding blank
-  standing-signed (certificate f j v lo hi on h) k l m = rw h (with-one (eqb (e .kind) k) (validOf moment s e) v)
+  standing-signed (certificate f n j v lo hi on h) k l m = rw (h, n) (with-one (eqb (e .kind) k) (validOf moment s e) v)
   standing-signed (list f four j v h) k l m =
       let other : eqb 4 k ≡ false = ne-eqb 4 k (λ z. omega arith) in
-      rw (h, four, other)
+      rw (h, four, other) (sym (and-false near))
   standing-signed (neither a b c h) k l m =
       let other : eqb 0 k ≡ false = ne-eqb 0 k (λ z. omega arith) in
       rw (h, other) (sym (b k l m))
 
   -- standing 4 is a CRL, passing and within its times
-  pub standing-list : Reading moment s e row → eqb (row .standing) 4 ≡ (eqb (e .kind) 4 && currentOf moment s e)
+  pub standing-list : Reading moment s e near row → eqb (row .standing) 4 ≡ (eqb (e .kind) 4 && currentOf moment s e)
   unfolding blank
-  standing-list (certificate f j v lo hi on h) =
+  standing-list (certificate f n j v lo hi on h) =
       let other : eqb (e .kind) 4 ≡ false = ne-eqb (e .kind) 4 (λ z. omega arith) in
       rw (h, other)
   standing-list (list f four j v h) = rw (h, v, four)
@@ -60,10 +61,10 @@ module _ {moment : ℕ} {s : List ℕ} {e : IndexEntry} {row : Row} where
 
   -- the row of a certificate
   pub certificate-row :
-      Reading moment s e row → 1 ≤ row .standing → row .standing ≤ 3
+      Reading moment s e near row → 1 ≤ row .standing → row .standing ≤ 3
       → (f : certificates.Fields) × (judgedOf (bytesAt s e) (e .kind) ≡ Passed f) × (row ≡ certificateTold e f)
   unfolding blank
-  certificate-row (certificate f j v lo hi on h) l m = (f, j, h)
+  certificate-row (certificate f n j v lo hi on h) l m = (f, j, h)
   certificate-row (list f four j v h) l m =
       absurd (let z : row .standing ≡ 4 = ap (λ (r : Row). r .standing) h in omega arith)
   certificate-row (neither a b c h) l m =
@@ -71,10 +72,10 @@ module _ {moment : ℕ} {s : List ℕ} {e : IndexEntry} {row : Row} where
 
   -- the row of a CRL
   pub list-row :
-      Reading moment s e row → row .standing ≡ 4
+      Reading moment s e near row → row .standing ≡ 4
       → (f : crls.Fields) × (lists.judgedOf (bytesAt s e) ≡ list-judged.Passed f) × (row ≡ listTold e f)
   unfolding blank
-  list-row (certificate f j v lo hi on h) l =
+  list-row (certificate f n j v lo hi on h) l =
       absurd (let z : row .standing ≡ e .kind = ap (λ (r : Row). r .standing) h in omega arith)
   list-row (list f four j v h) l = (f, j, h)
   list-row (neither a b c h) l =

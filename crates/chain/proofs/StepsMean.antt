@@ -1,7 +1,7 @@
 -- The table of steps tells the good steps between usable places: there the rows tell names and keys, and roles tell kinds.
-use Prim.Native.Nat.{ℕ, _+_, _*_, _<_}
+use Prim.Native.Nat.{ℕ, _+_, _*_, _<_, _≤_}
 use mathlib.Core.Path.{_≡_, refl, sym, _∙_}
-use mathlib.Core.Bool.{Bool, true, false, cond, _||_}
+use mathlib.Core.Bool.{Bool, true, false, cond, _&&_, _||_}
 use mathlib.Core.List.{List}
 use mathlib.Core.Logic.{_⊎_, inl, inr, ⊎-elim}
 use native.Mathlib.Omega.{arith}
@@ -12,15 +12,18 @@ use Rattle.elements.specs.Octets.{alike}
 use Rattle.image.specs.Index.{entryIn, itemsIn, entryCount}
 use Rattle.chain.specs.declared.opened.Row.{Row}
 use Rattle.chain.specs.Items.{itemAt}
-use Rattle.chain.specs.Usable.{usableAnchor}
+use Rattle.chain.specs.Usable.{usableAnchor, usable}
 use Rattle.chain.specs.Steps.{hasKind, fits, goodStep}
 use Rattle.chain.specs.Table.{verdictIn}
-use Rattle.chain.specs.Rows.{bytesAt, rowAt, Told, Counted, pieceOf, leadsOf, ledOf, fitsOf, matchedOf, stepOf, Roles, Matched}
-use Rattle.chain.proofs.Booleans.{first, chosen, swapped}
-use Rattle.chain.proofs.StandingMeans.{certificate-row}
-use Rattle.chain.proofs.ItemsTold.{part-told, certificate-told}
-use Rattle.chain.proofs.CountingMeans.{flag-one, Certificate, row-reading}
-use Rattle.chain.proofs.RolesMean.{role-anchor, role-link, role-signer, anchor-means, link-means, signer-means}
+use Rattle.chain.specs.Near.{isNear, ledOf}
+use Rattle.chain.specs.Rows.{bytesAt, rowAt, pieceOf, leadsOf, fitsOf, matchedOf, stepOf, Matched}
+use Rattle.chain.proofs.Booleans.{first, middle, but-last, chosen, swapped}
+use Rattle.chain.proofs.NearRows.{Told, Based}
+use Rattle.chain.proofs.RowReadings.{validOf}
+use Rattle.chain.proofs.StandingMeans.{standing-signed, certificate-row}
+use Rattle.chain.proofs.ItemsTold.{kind-told, valid-told, part-told, certificate-told}
+use Rattle.chain.proofs.CountingMeans.{flag-one, Certificate, row-reading, anchor-standing}
+use Rattle.chain.proofs.RolesMean.{Known}
 
 either : (a b : Bool) → (a ≡ true) ⊎ (b ≡ true) → (a || b) ≡ true
 either true b e = refl
@@ -52,38 +55,41 @@ fits-rows s rows u v hu hv (f, jf, rf) (g, jg, rg) =
     (swapped (alike (part v (g .«issuer_at») (g .«issuer_len»)) (part u (f .«subject_at») (f .«subject_len»)))
     (alike (part v (g .«authority_key_at») (g .«authority_key_len»)) (part u (f .«subject_key_at») (f .«subject_key_len»))))
 
-module _ (s table : List ℕ) (moment : ℕ) (rows : List Row) (counting roles steps : List ℕ) (told : Told moment s (entryCount s) rows) (counted : Counted (entryCount s) table rows counting) (is : Roles s (entryCount s) rows counting roles) (matched : Matched s (entryCount s) table rows roles steps) where
+module _ (s table : List ℕ) (moment : ℕ) (near : List ℕ) (rows : List Row) (told : Told moment s (entryCount s) near rows) (based : Based s (entryCount s) near) (roles steps : List ℕ) (known : Known s table moment near roles) (matched : Matched s (entryCount s) table rows roles steps) where
   -- a place with a role has a certificate's row
   anchor-row : (p : ℕ) → p < entryCount s → eqb (getD roles p 0) 1 ≡ true → Certificate s rows p
   anchor-row p h e =
-      let one = eqb-true (rowAt rows p .standing) 1 (sym (role-anchor s (entryCount s) rows counting (rowAt rows p)) ∙ rw (is p h) at e) in
-      certificate-row (row-reading s table moment rows told p h) (omega arith) (omega arith)
+      let one = eqb-true (rowAt rows p .standing) 1 (anchor-standing s table moment near rows told based p h ∙ sym (known p h .anchor) ∙ e) in
+      certificate-row (row-reading s table moment near rows told based p h) (omega arith) (omega arith)
+
+  signed-row :
+      (p k : ℕ) → p < entryCount s → 2 ≤ k → k ≤ 3
+      → (isNear near p && (hasKind (itemsIn s) k p && usable (itemsIn s) (verdictIn (entryCount s) table) moment p)) ≡ true
+      → Certificate s rows p
+  unfolding usable
+  signed-row p k h l m e =
+      let f = rw (kind-told s p h k, valid-told s p h moment) at e in
+      let is = eqb-true (rowAt rows p .standing) k
+      (standing-signed (row-reading s table moment near rows told based p h) k l m
+      ∙ but-last (isNear near p) (eqb (entryIn s p .kind) k) (validOf moment s (entryIn s p)) _ f) in
+      certificate-row (row-reading s table moment near rows told based p h) (omega arith) (omega arith)
 
   link-row : (p : ℕ) → p < entryCount s → eqb (getD roles p 0) 2 ≡ true → Certificate s rows p
-  link-row p h e =
-      let two = eqb-true (rowAt rows p .standing) 2
-      (first (eqb (rowAt rows p .standing) 2) _ (sym (role-link s (entryCount s) rows counting (rowAt rows p)) ∙ rw (is p h) at e)) in
-      certificate-row (row-reading s table moment rows told p h) (omega arith) (omega arith)
+  link-row p h e = signed-row p 2 h (omega arith) (omega arith) (sym (known p h .link) ∙ e)
 
   signer-row : (p : ℕ) → p < entryCount s → eqb (getD roles p 0) 3 ≡ true → Certificate s rows p
-  signer-row p h e =
-      let three = eqb-true (rowAt rows p .standing) 3
-      (first (eqb (rowAt rows p .standing) 3) _ (sym (role-signer s (entryCount s) rows counting (rowAt rows p)) ∙ rw (is p h) at e)) in
-      certificate-row (row-reading s table moment rows told p h) (omega arith) (omega arith)
+  signer-row p h e = signed-row p 3 h (omega arith) (omega arith) (sym (known p h .signer) ∙ e)
 
   -- and the kind of its role
   anchor-kind : (p : ℕ) → p < entryCount s → eqb (getD roles p 0) 1 ≡ true → hasKind (itemsIn s) 1 p ≡ true
   unfolding hasKind usableAnchor
-  anchor-kind p h e =
-      first (eqb (itemAt (itemsIn s) p .kind) 1) _ (sym (anchor-means s table moment rows counting roles told counted is p h) ∙ e)
+  anchor-kind p h e = first (eqb (itemAt (itemsIn s) p .kind) 1) _ (sym (known p h .anchor) ∙ e)
 
   link-kind : (p : ℕ) → p < entryCount s → eqb (getD roles p 0) 2 ≡ true → hasKind (itemsIn s) 2 p ≡ true
-  link-kind p h e =
-      first (hasKind (itemsIn s) 2 p) _ (sym (link-means s table moment rows counting roles told counted is p h) ∙ e)
+  link-kind p h e = middle (isNear near p) (hasKind (itemsIn s) 2 p) _ (sym (known p h .link) ∙ e)
 
   signer-kind : (p : ℕ) → p < entryCount s → eqb (getD roles p 0) 3 ≡ true → hasKind (itemsIn s) 3 p ≡ true
-  signer-kind p h e =
-      first (hasKind (itemsIn s) 3 p) _ (sym (signer-means s table moment rows counting roles told counted is p h) ∙ e)
+  signer-kind p h e = middle (isNear near p) (hasKind (itemsIn s) 3 p) _ (sym (known p h .signer) ∙ e)
 
   -- between an anchor or link and a link or signer, a step told is a good one
   pub step-means :

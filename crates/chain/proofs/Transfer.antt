@@ -1,59 +1,84 @@
--- A chain uses only roles of places that are there and steps between places that may take them, so graphs that agree on these
--- have the same chains, and the same answer.
-use Prim.Native.Nat.{ℕ, _<_}
+-- The graph of what is near tells no more than the whole graph, and of the chains that are near no less; so its answer is that of
+-- the whole, where each chain is near or longer than the one found.
+use Prim.Native.Nat.{ℕ, _<_, _≤_}
 use mathlib.Core.Path.{_≡_, sym, _∙_}
-use mathlib.Core.Bool.{true}
-use mathlib.Core.List.{List}
+use mathlib.Core.Bool.{Bool, true, false, _&&_}
+use mathlib.Core.List.{List, [], _∷_}
 use mathlib.Core.Logic.{_⊎_, inl, inr, ⊎-elim}
 use native.Mathlib.Omega.{arith}
+use lib.ListN.{length}
 use Rattle.graph.specs.declared.Found.{Found}
-use Rattle.graph.specs.Chains.{Graph, Onward, ends, goes, Chain, chain, Best}
+use Rattle.graph.specs.Chains.{Graph, Onward, ends, goes, Chain, chain}
 use Rattle.graph.specs.Answer.{Answered, found, none}
+use Rattle.chain.proofs.Booleans.{both-true}
 
--- the same places and roles, and the same steps from an anchor or a link to a link or a signer
-pub record Alike (g h : Graph) : Type 0 where
+-- the same places and anchors, of the links and signers those that are near, and the same steps from an anchor or a link to a
+-- link or a signer
+pub record Part (near : ℕ → Bool) (g h : Graph) : Type 0 where
   pub places : g .places ≡ h .places
   pub anchor : (u : ℕ) → u < g .places → g .anchor u ≡ h .anchor u
-  pub link : (u : ℕ) → u < g .places → g .link u ≡ h .link u
-  pub signer : (u : ℕ) → u < g .places → g .signer u ≡ h .signer u
+  pub link : (u : ℕ) → u < g .places → g .link u ≡ (near u && h .link u)
+  pub signer : (u : ℕ) → u < g .places → g .signer u ≡ (near u && h .signer u)
   pub step :
       (u v : ℕ) → u < g .places → v < g .places → (g .anchor u ≡ true) ⊎ (g .link u ≡ true)
       → (g .link v ≡ true) ⊎ (g .signer v ≡ true) → g .step u v ≡ h .step u v
 
-pub alike-back : {g h : Graph} → Alike g h → Alike h g
-alike-back {g} {h} a =
-    record {
-      places = sym (a .places);
-      anchor = λ u l. sym (a .anchor u (here u l));
-      link = λ u l. sym (a .link u (here u l));
-      signer = λ u l. sym (a .signer u (here u l));
-      step = λ u v l m from to.
-          sym
-          (a .step u v (here u l) (here v m)
-          (⊎-elim (λ (e : h .anchor u ≡ true). inl (a .anchor u (here u l) ∙ e)) (λ (e : h .link u ≡ true). inr (a .link u (here u l) ∙ e)) from)
-          (⊎-elim (λ (e : h .link v ≡ true). inl (a .link v (here v m) ∙ e)) (λ (e : h .signer v ≡ true). inr (a .signer v (here v m) ∙ e)) to));
-    }
-  where
-    here : (u : ℕ) → u < h .places → u < g .places
-    here u l = omega (arith, a .places)
+pub data AllNear (near : ℕ → Bool) : List ℕ → Type 0 where
+  done : AllNear near []
+  more : {v : ℕ} {rest : List ℕ} → near v ≡ true → AllNear near rest → AllNear near (v ∷ rest)
 
-module _ {g h : Graph} (a : Alike g h) {t : ℕ} where
-  onward :
-      {u : ℕ} {c : List ℕ} → u < g .places → (g .anchor u ≡ true) ⊎ (g .link u ≡ true) → Onward g t u c → Onward h t u c
-  onward {u} l from (ends m signer step) =
-      ends (omega (arith, a .places)) (sym (a .signer t m) ∙ signer) (sym (a .step u t l m from (inr signer)) ∙ step)
-  onward {u} l from (goes {v = v} m link step rest) =
-      goes {v = v} (omega (arith, a .places)) (sym (a .link v m) ∙ link) (sym (a .step u v l m from (inl link)) ∙ step)
-      (onward m (inr link) rest)
+-- each way on to the target is near, or a chain is found that is no longer than it
+abbrev pub NearOrLonger : (ℕ → Bool) → Graph → ℕ → Found → Type 0
+NearOrLonger near h t r =
+    (u : ℕ) (c : List ℕ) → Onward h t u c → AllNear near c ⊎ ((r .length ≡ 0 → ⊥) × (r .length ≤ length c))
 
-  pub chain-transfer : {c : List ℕ} → Chain g t c → Chain h t c
-  chain-transfer (chain {u = u} l anchor rest) =
-      chain {u = u} (omega (arith, a .places)) (sym (a .anchor u l) ∙ anchor) (onward l (inl anchor) rest)
+second : (a b : Bool) → (a && b) ≡ true → b ≡ true
+second true b e = e
+second false b e = absurd (let z : _≡_ {A = ℕ} 0 1 = cc in omega arith)
 
-pub best-transfer : {g h : Graph} → Alike g h → {t : ℕ} {c : List ℕ} → Best g t c → Best h t c
-best-transfer a b =
-    record { good = chain-transfer a (b .good); least = λ d e. b .least d (chain-transfer (alike-back a) e) }
+module _ {near : ℕ → Bool} {g h : Graph} (a : Part near g h) {t : ℕ} where
+  outward : {u : ℕ} {c : List ℕ} → u < g .places → (g .anchor u ≡ true) ⊎ (g .link u ≡ true) → Onward g t u c → Onward h t u c
+  outward {u} l from (ends m signer step) =
+      ends (omega (arith, a .places)) (second (near t) (h .signer t) (sym (a .signer t m) ∙ signer))
+      (sym (a .step u t l m from (inr signer)) ∙ step)
+  outward {u} l from (goes {v = v} m link step rest) =
+      goes {v = v} (omega (arith, a .places)) (second (near v) (h .link v) (sym (a .link v m) ∙ link))
+      (sym (a .step u v l m from (inl link)) ∙ step) (outward m (inr link) rest)
 
-pub answer-transfer : {g h : Graph} → Alike g h → {t : ℕ} {r : Found} → Answered g t r → Answered h t r
-answer-transfer a (found c b l p) = found c (best-transfer a b) l p
-answer-transfer a (none f l p) = none (λ c e. f c (chain-transfer (alike-back a) e)) l p
+  -- a chain of what is near is one of the whole
+  pub chain-out : {c : List ℕ} → Chain g t c → Chain h t c
+  chain-out (chain {u = u} l anchor rest) =
+      chain {u = u} (omega (arith, a .places)) (sym (a .anchor u l) ∙ anchor) (outward l (inl anchor) rest)
+
+  inward :
+      {u : ℕ} {c : List ℕ} → u < g .places → (g .anchor u ≡ true) ⊎ (g .link u ≡ true) → AllNear near c → Onward h t u c
+      → Onward g t u c
+  inward {u} l from (more n done) (ends m signer step) =
+      let here : t < g .places = omega (arith, a .places) in
+      let is : g .signer t ≡ true = a .signer t here ∙ both-true (near t) (h .signer t) n signer in
+      ends here is (a .step u t l here from (inr is) ∙ step)
+  inward {u} l from (more n rest-near) (goes {v = v} m link step rest) =
+      let here : v < g .places = omega (arith, a .places) in
+      let is : g .link v ≡ true = a .link v here ∙ both-true (near v) (h .link v) n link in
+      goes {v = v} here is (a .step u v l here from (inl is) ∙ step) (inward here (inr is) rest-near rest)
+
+  -- a chain of the whole is one of what is near, or longer than the one found
+  chain-in :
+      (r : Found) {d : List ℕ} → NearOrLonger near h t r → Chain h t d
+      → Chain g t d ⊎ ((r .length ≡ 0 → ⊥) × (r .length < length d))
+  chain-in r ways (chain {u = u} {rest = c} l anchor rest) =
+      let here : u < g .places = omega (arith, a .places) in
+      let is : g .anchor u ≡ true = a .anchor u here ∙ anchor in
+      ⊎-elim (λ n. inl (chain {u = u} here is (inward here (inl is) n rest))) (λ k. inr (k .0, omega (arith, k .1))) (ways u c rest)
+
+  pub answer-out : {r : Found} → NearOrLonger near h t r → Answered g t r → Answered h t r
+  answer-out {r} ways (found c b l p) =
+      found c
+      (record {
+        good = chain-out (b .good);
+        least = λ d e.
+            ⊎-elim (λ i. b .least d i) (λ k. inl (omega (arith, l, k .1))) (chain-in r ways e);
+      })
+      l p
+  answer-out {r} ways (none f l p) =
+      none (λ c e. ⊎-elim (λ i. f c i) (λ k. k .0 l) (chain-in r ways e)) l p

@@ -2,7 +2,7 @@
 -- this: that the tables mean the definitions of good chains is proved.
 use Prim.Native.Nat.{ℕ, zero, suc, _+_, _*_, _<_}
 use mathlib.Core.Path.{_≡_}
-use mathlib.Core.Bool.{Bool, true, false, cond, _&&_}
+use mathlib.Core.Bool.{Bool, true, false, cond}
 use mathlib.Core.List.{List}
 use lib.Dec.{eqb}
 use lib.ListN.{getD, take, drop}
@@ -14,10 +14,14 @@ use Rattle.crl.specs.declared.Judged.the-variants as list-judged
 use Rattle.crl.specs.Answer as lists
 use Rattle.crl.specs.Listed.{listedOf}
 use Rattle.elements.specs.Octets.{alike}
+use Rattle.graph.specs.Chains.{graphOf}
+use Rattle.graph.specs.declared.Found.{Found}
+use Rattle.graph.specs.Answer.{Answered}
 use Rattle.image.specs.declared.IndexEntry.{IndexEntry}
 use Rattle.image.specs.Index.{entryIn}
 use Rattle.chain.specs.declared.opened.Row.{Row}
 use Rattle.chain.specs.Items.{someBelow, within}
+use Rattle.chain.specs.Near.{isNear, ledOf}
 use Rattle.chain.specs.Table.{verdictIn}
 
 -- nothing that could stand in a chain
@@ -109,9 +113,13 @@ rowOf moment s e =
 unfoldable pub rowAt : List Row → ℕ → Row
 rowAt rows place = getD rows place blank
 
--- the rows of an image's places
-abbrev pub Told : ℕ → List ℕ → ℕ → List Row → Type 0
-Told moment s n rows = (p : ℕ) → p < n → rowAt rows p ≡ rowOf moment s (entryIn s p)
+-- the row of a place that is near, where it was before as it was
+unfoldable pub rowIn : ℕ → List ℕ → List ℕ → List ℕ → List Row → ℕ → Row
+rowIn moment s before near rows p =
+    cond (isNear near p) (cond (isNear before p) (rowAt rows p) (rowOf moment s (entryIn s p))) blank
+
+abbrev pub Opens : ℕ → List ℕ → ℕ → List ℕ → List ℕ → List Row → List Row → Type 0
+Opens moment s n before near rows more = (p : ℕ) → p < n → rowAt more p ≡ rowIn moment s before near rows p
 
 -- 1 for what is so
 unfoldable pub flag : Bool → ℕ
@@ -168,16 +176,17 @@ roleBy row spoken =
 unfoldable pub roleOf : List ℕ → ℕ → List Row → List ℕ → Row → ℕ
 roleOf s n rows counting row = roleBy row (cond (signedOf row) (spokenBelow s rows counting row n) 0)
 
--- the table of roles
-abbrev pub Roles : List ℕ → ℕ → List Row → List ℕ → List ℕ → Type 0
-Roles s n rows counting roles = (p : ℕ) → p < n → getD roles p 0 ≡ roleOf s n rows counting (rowAt rows p)
+-- the role of a place, where it was near before as it was
+unfoldable pub roleIn : List ℕ → ℕ → List ℕ → List Row → List ℕ → List ℕ → ℕ → ℕ
+roleIn s n before rows counting roles p = cond (isNear before p) (getD roles p 0) (roleOf s n rows counting (rowAt rows p))
 
--- an anchor or a link; a link or a signer
+-- the table of roles
+abbrev pub Roles : List ℕ → ℕ → List ℕ → List Row → List ℕ → List ℕ → List ℕ → Type 0
+Roles s n before rows counting roles more = (p : ℕ) → p < n → getD more p 0 ≡ roleIn s n before rows counting roles p
+
+-- an anchor or a link
 unfoldable pub leadsOf : ℕ → Bool
 leadsOf role = cond (eqb role 1) true (eqb role 2)
-
-unfoldable pub ledOf : ℕ → Bool
-ledOf role = cond (eqb role 2) true (eqb role 3)
 
 -- the key identifiers are equal, and the issuer's name is the subject's
 unfoldable pub fitsOf : List ℕ → Row → Row → Bool
@@ -201,3 +210,9 @@ stepOf s n table rows roles u v =
 abbrev pub Matched : List ℕ → ℕ → List ℕ → List Row → List ℕ → List ℕ → Type 0
 Matched s n table rows roles steps =
     (u v : ℕ) → u < n → v < n → getD steps (u * 96 + v) 0 ≡ flag (stepOf s n table rows roles u v)
+
+-- an answer for the chains that the tables tell
+pub record Searched (s : List ℕ) (n : ℕ) (table : List ℕ) (rows : List Row) (roles : List ℕ) (target : ℕ) (r : Found) : Type 0 where
+  pub steps : List ℕ
+  pub matched : Matched s n table rows roles steps
+  pub answer : Answered (graphOf n roles steps) target r

@@ -4,24 +4,19 @@ mod certificates;
 mod counting;
 mod lists;
 mod matching;
+mod near;
 mod opened;
 mod opening;
 mod roles;
+mod rounds;
 
 use asking::Asked;
 use asking::question;
-use counting::counting_lists;
 use graph::Found;
-use graph::chain_to;
-use matching::matching_steps;
-use opening::open_items;
 use refusal::Refusal;
-use roles::roles_of;
+use rounds::chain_among;
 ghost use mathlib.Core.Path.{_≡_};
-ghost use Prim.Native.Nat.{_≤_};
-ghost use Rattle.chain.specs.Answer.{Answered, goodChains, Without, Shows};
-ghost use Rattle.graph.specs.Answer as search;
-ghost use Rattle.image.specs.Index.{entryCount};
+ghost use Rattle.chain.specs.Answer.{Answered, Without, Shows};
 
 // Whether a chain is shown, else why not.
 pub enum Outcome {
@@ -44,18 +39,6 @@ pub fn best_chain(image: &[u8], table: &[u8], moment: u64, target: u64) -> Answe
         Asked::Refused(refusal) => refused(refusal),
         Asked::Over { places } => shown(chain_among(image, table, places, moment, target as usize)),
     }
-}
-
-// The search over the image's items, each opened once.
-fn chain_among(image: &[u8], table: &[u8], places: usize, moment: u64, target: usize) -> Found
-    requires { ⌜ (places ≡ entryCount (now image)) × (places ≤ 96) ⌝ }
-    ensures { λ r. ⌜ search.Answered (goodChains (now (image .entry)) (now (table .entry)) moment) target r ⌝ }
-{
-    let rows = open_items(image, places, moment);
-    let counting = counting_lists(table, places, rows);
-    let roles = roles_of(image, places, rows, counting);
-    let steps = matching_steps(image, table, places, rows, roles);
-    chain_to(places, &roles, &steps, target)
 }
 
 // A chain of no places is none.

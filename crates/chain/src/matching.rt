@@ -5,7 +5,8 @@ use crate::roles::piece;
 use elements::same;
 ghost use mathlib.Core.Path.{_≡_};
 ghost use Prim.Native.Nat.{_≤_};
-ghost use Rattle.chain.specs.Rows.{flag, leadsOf, ledOf, fitsOf, matchedOf, Matched};
+ghost use Rattle.chain.specs.Near.{ledOf};
+ghost use Rattle.chain.specs.Rows.{flag, leadsOf, fitsOf, matchedOf, Matched};
 
 // 96 rows of 96 columns: 1 for a good step from an anchor or link to a link or signer, all usable.
 pub(crate) fn matching_steps(
@@ -60,7 +61,7 @@ fn leads(role: u8) -> bool
 }
 
 // A link or a signer.
-fn led(role: u8) -> bool
+pub(crate) fn led(role: u8) -> bool
     ensures { λ r. ⌜ r ≡ ledOf role ⌝ }
 {
     if role == 2 {

@@ -1,4 +1,4 @@
-// Each item of an image opened once.
+// The items of the places that are near, each opened once.
 use crate::certificates::blank_row;
 use crate::certificates::certificate_row;
 use crate::lists::list_row;
@@ -8,21 +8,43 @@ use image::entry_in;
 use image::part;
 ghost use mathlib.Core.Path.{_≡_};
 ghost use Prim.Native.Nat.{_≤_};
-ghost use Rattle.chain.specs.Rows.{rowOf, Told};
+ghost use mathlib.Core.Bool.{cond};
+ghost use lib.Dec.{eqb};
+ghost use Rattle.chain.specs.Rows.{rowOf, Opens};
 ghost use Rattle.image.specs.Index.{entryIn};
 
-pub(crate) fn open_items(image: &[u8], places: usize, moment: u64) -> [Row; 96]
+// The rows of the places that are near; of those that were before they are handed on.
+pub(crate) fn open_items(
+    image: &[u8],
+    places: usize,
+    moment: u64,
+    before: [u8; 96],
+    near: [u8; 96],
+    rows: [Row; 96],
+) -> [Row; 96]
     requires { ⌜ places ≤ 96 ⌝ }
-    ensures { λ r. ⌜ Told moment (now (image .entry)) places r ⌝ }
+    ensures { λ r. ⌜ Opens moment (now (image .entry)) places before near rows r ⌝ }
 {
     let none = blank_row();
-    let mut rows = [none; 96];
+    let mut more = [none; 96];
     let mut place = 0;
     while place < places {
-        rows[place] = open_item(image, entry_in(image, place), moment);
+        if near[place] == 1 {
+            more[place] = row_of(image, place, moment, before[place], rows[place]);
+        }
         place += 1;
     }
-    rows
+    more
+}
+
+// An item that was opened before is not opened again.
+fn row_of(image: &[u8], place: usize, moment: u64, before: u8, row: Row) -> Row
+    ensures { λ r. ⌜ r ≡ cond (eqb before 1) row (rowOf moment (now (image .entry)) (entryIn (now (image .entry)) place)) ⌝ }
+{
+    if before == 1 {
+        return row;
+    }
+    open_item(image, entry_in(image, place), moment)
 }
 
 // A disabled anchor is not opened.

@@ -4,20 +4,29 @@ use crl::listed;
 use elements::same;
 use image::part;
 ghost use mathlib.Core.Path.{_≡_};
+ghost use mathlib.Core.Bool.{false, cond};
 ghost use Prim.Native.Nat.{_≤_};
+ghost use lib.Dec.{eqb};
 ghost use Rattle.chain.specs.Rows.{pieceOf, signedOf, spokenOf, roleBy, Roles};
 
-// 1 a usable anchor, 2 a usable link, 3 a usable signer, else 0.
-pub(crate) fn roles_of(image: &[u8], places: usize, rows: [Row; 96], counting: [u8; 96]) -> [u8; 96]
+// 1 a usable anchor, 2 a usable link, 3 a usable signer, else 0; of the places that were near before the roles are handed on.
+pub(crate) fn roles_of(
+    image: &[u8],
+    places: usize,
+    before: [u8; 96],
+    rows: [Row; 96],
+    counting: [u8; 96],
+    roles: [u8; 96],
+) -> [u8; 96]
     requires { ⌜ places ≤ 96 ⌝ }
-    ensures { λ r. ⌜ Roles (now (image .entry)) places rows counting r ⌝ }
+    ensures { λ r. ⌜ Roles (now (image .entry)) places before rows counting roles r ⌝ }
 {
-    let mut roles = [0u8; 96];
+    let mut more = [0u8; 96];
     let mut place = 0;
     while place < places {
         let own = rows[place];
         let mut spoken = 0;
-        if signed(own) {
+        if asked(own, before[place]) {
             let mut list = 0;
             while list < places {
                 if counting[list] == 1 {
@@ -26,10 +35,29 @@ pub(crate) fn roles_of(image: &[u8], places: usize, rows: [Row; 96], counting: [
                 list += 1;
             }
         }
-        roles[place] = role_of(own, spoken);
+        more[place] = role_after(own, spoken, before[place], roles[place]);
         place += 1;
     }
-    roles
+    more
+}
+
+// A link or a signer that was not near before.
+fn asked(row: Row, before: u8) -> bool
+    ensures { λ r. ⌜ r ≡ cond (eqb before 1) false (signedOf row) ⌝ }
+{
+    if before == 1 {
+        return false;
+    }
+    signed(row)
+}
+
+fn role_after(row: Row, spoken: u8, before: u8, role: u8) -> u8
+    ensures { λ r. ⌜ r ≡ cond (eqb before 1) role (roleBy row spoken) ⌝ }
+{
+    if before == 1 {
+        return role;
+    }
+    role_of(row, spoken)
 }
 
 // A link or a signer.

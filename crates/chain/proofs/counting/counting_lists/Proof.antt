@@ -5,7 +5,6 @@ use mathlib.Core.Logic.{⊎-elim}
 use native.Mathlib.Nat.{mul-le-mul}
 use native.Mathlib.Omega.{arith}
 use borrow.Author.Needs.{needs}
-use borrow.Author.Tests.{eq-eqb, ne-eqb}
 use lib.ListN.{length, length-set}
 use Rattle.chain.specs.Items.{someBelow}
 use Rattle.chain.specs.Rows.{flag, vouchedBy, countedOf}
@@ -25,7 +24,7 @@ abbrev μ-loop2 : tie.MeasureT-loop2
 μ-loop2 table places rows counting list own vouched₀ anchor₀ vouched anchor = places - anchor
 
 abbrev Inv-loop : tie.InvT-loop
-Inv-loop table places rows counting₀ list₀ counting list = (list ≤ places) × (length counting ≡ 96) × Upto (λ c. flag (countedOf places table rows c)) counting list
+Inv-loop table places rows counting₀ list₀ counting list = (list ≤ places) × (length counting ≡ 96) × Upto 0 (λ c. flag (countedOf places table rows c)) counting list
 
 abbrev μ-loop : tie.MeasureT-loop
 μ-loop table places rows counting₀ list₀ counting list = places - list

@@ -1,6 +1,6 @@
 -- Each test answers one of the definition's.
 use borrow.Author.Tests.{eq-eqb, ne-eqb}
-use Rattle.chain.specs.Rows.{ledOf}
+use Rattle.chain.specs.Near.{ledOf}
 use Rattle.chain.proofs.matching.led.Statement.{statement}
 use Rattle.chain.proofs.matching.led.Tie as tie
 use Rattle.chain.proofs.matching.led.Reads as reads

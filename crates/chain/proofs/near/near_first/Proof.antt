@@ -1,0 +1,56 @@
+-- The slots of the places so far are told.
+use Prim.Native.Nat.{_-_, _≤_}
+use mathlib.Core.Path.{_≡_, refl}
+use native.Mathlib.Omega.{arith}
+use borrow.Author.Needs.{needs}
+use lib.ListN.{length, length-set}
+use Rattle.image.specs.Index.{entryIn}
+use Rattle.chain.specs.Near.{firstOf}
+use Rattle.chain.proofs.Slots.{empty-slots, Upto, slot-set}
+use Rattle.chain.proofs.near.near_first.Statement.{statement}
+use Rattle.chain.proofs.near.near_first.Tie as tie
+
+abbrev Inv-loop : tie.InvT-loop
+Inv-loop image places target near₀ place₀ near place = (place ≤ places) × (length near ≡ 96) × Upto 0 (λ p. firstOf target p (entryIn image p)) near place
+
+abbrev μ-loop : tie.MeasureT-loop
+μ-loop image places target near₀ place₀ near place = places - place
+
+loop-holds : tie.Need-loop-holds Inv-loop μ-loop
+loop-holds c = (omega arith, refl, record { before = λ c h. absurd (omega arith); behind = λ c h. empty-slots 96 c })
+
+entry-in-requires : tie.Need-entry-in-requires Inv-loop μ-loop
+entry-in-requires c κs = search needs
+
+first-requires : tie.Need-first-requires Inv-loop μ-loop
+first-requires c κs = search needs
+
+array-write-near : tie.Need-array-write-near Inv-loop μ-loop
+array-write-near c = omega (arith, c .before .before .before .before .before .pre, c .before .before .loop-test .taken)
+
+add-place : tie.Need-add-place Inv-loop μ-loop
+add-place c = omega (arith, c .before .before .before .before .before .pre, c .before .before .loop-test .taken)
+
+loop-less : tie.Need-loop-less Inv-loop μ-loop
+loop-less c = omega (arith, c .before .before .loop-test .taken)
+
+loop-again : tie.Need-loop-again Inv-loop μ-loop
+loop-again c = let inv = c .before .before .before .loop .inv in (omega (arith, c .before .before .loop-test .taken), rw length-set (inv .1), slot-set (inv .2) (omega (arith, inv .1, c .before .before .before .before .before .pre, c .before .before .loop-test .taken)) (rw (c .before .entry-in .ensures) at (c .first .ensures)))
+
+returns : tie.Need-returns Inv-loop μ-loop
+returns c = let all : c .before .loop .place ≡ c .before .before .before .args .places = omega (arith, c .loop-test .left, c .before .loop .inv .0) in λ k h. c .before .loop .inv .2 .before k (omega arith)
+
+pub near-first-spec : {M : Type 1} → statement M
+near-first-spec =
+    tie.close
+    (tie.spec
+    Inv-loop
+    μ-loop
+    loop-holds
+    entry-in-requires
+    first-requires
+    array-write-near
+    add-place
+    loop-less
+    loop-again
+    returns)

@@ -1,0 +1,104 @@
+-- The inner loop asks one signer more, the outer one goes to the next usable place.
+use Prim.Native.Nat.{_-_, _*_, _≤_}
+use mathlib.Core.Path.{_≡_, sym, _∙_}
+use mathlib.Core.Logic.{⊎-elim}
+use native.Mathlib.Nat.{mul-le-mul}
+use native.Mathlib.Omega.{arith}
+use borrow.Author.Needs.{needs}
+use lib.ListN.{length, length-set}
+use Rattle.chain.proofs.Layers.{Layer, layer-start, layer-marked, layer-done, layer-left, layer-end}
+use Rattle.chain.proofs.near.with_signers.Statement.{statement}
+use Rattle.chain.proofs.near.with_signers.Tie as tie
+
+abbrev Inv-loop2 : tie.InvT-loop2
+Inv-loop2 table places near roles more₀ v u₀ more u = (u ≤ places) × (length more ≡ 96) × Layer places table roles near more v u
+
+abbrev μ-loop2 : tie.MeasureT-loop2
+μ-loop2 table places near roles more₀ v u₀ more u = places - u
+
+abbrev Inv-loop : tie.InvT-loop
+Inv-loop table places near roles more₀ v₀ more v = (v ≤ places) × (length more ≡ 96) × Layer places table roles near more v 0
+
+abbrev μ-loop : tie.MeasureT-loop
+μ-loop table places near roles more₀ v₀ more v = places - v
+
+loop-holds : tie.Need-loop-holds Inv-loop2 μ-loop2 Inv-loop μ-loop
+loop-holds c = (omega arith, omega arith, layer-start _ _ _ _)
+
+array-read-led : tie.Need-array-read-led Inv-loop2 μ-loop2 Inv-loop μ-loop
+array-read-led c = omega (arith, c .before .before .before .pre, c .loop-test .taken)
+
+led-requires : tie.Need-led-requires Inv-loop2 μ-loop2 Inv-loop μ-loop
+led-requires c κs = search needs
+
+loop2-holds : tie.Need-loop2-holds Inv-loop2 μ-loop2 Inv-loop μ-loop
+loop2-holds c = (omega arith, c .before .before .before .loop .inv .1, c .before .before .before .loop .inv .2)
+
+array-read-marked : tie.Need-array-read-marked Inv-loop2 μ-loop2 Inv-loop μ-loop
+array-read-marked c = omega (arith, c .before .before .before .before .before .before .before .pre, c .loop2-test .taken)
+
+array-read-marked-2 : tie.Need-array-read-marked-2 Inv-loop2 μ-loop2 Inv-loop μ-loop
+array-read-marked-2 c = omega (arith, c .before .before .before .before .before .before .before .before .pre, c .before .loop2-test .taken)
+
+mul-octet : tie.Need-mul-octet Inv-loop2 μ-loop2 Inv-loop μ-loop
+mul-octet c = let m : c .before .loop2 .u * c .before .before .before .before .before .before .before .args .places ≤ 96 * 96 = mul-le-mul {n₂ = 96} {m₂ = 96} (omega (arith, c .before .before .before .before .before .before .before .pre, c .loop2-test .taken)) (omega (arith, c .before .before .before .before .before .before .before .pre)) in omega (arith, m, c .before .before .before .before .before .before .before .pre, c .before .before .before .before .loop-test .taken)
+
+add-octet : tie.Need-add-octet Inv-loop2 μ-loop2 Inv-loop μ-loop
+add-octet c = let m : c .before .loop2 .u * c .before .before .before .before .before .before .before .args .places ≤ 96 * 96 = mul-le-mul {n₂ = 96} {m₂ = 96} (omega (arith, c .before .before .before .before .before .before .before .pre, c .loop2-test .taken)) (omega (arith, c .before .before .before .before .before .before .before .pre)) in omega (arith, m, c .before .before .before .before .before .before .before .pre, c .before .before .before .before .loop-test .taken)
+
+octet-requires : tie.Need-octet-requires Inv-loop2 μ-loop2 Inv-loop μ-loop
+octet-requires c κs = search needs
+
+marked-requires : tie.Need-marked-requires Inv-loop2 μ-loop2 Inv-loop μ-loop
+marked-requires c κs = search needs
+
+array-write-more : tie.Need-array-write-more Inv-loop2 μ-loop2 Inv-loop μ-loop
+array-write-more c = omega (arith, c .before .before .before .before .before .before .before .before .before .pre, c .before .before .loop2-test .taken)
+
+add-u : tie.Need-add-u Inv-loop2 μ-loop2 Inv-loop μ-loop
+add-u c = omega (arith, c .before .before .before .before .before .before .before .before .before .pre, c .before .before .loop2-test .taken)
+
+loop2-less : tie.Need-loop2-less Inv-loop2 μ-loop2 Inv-loop μ-loop
+loop2-less c = omega (arith, c .before .before .loop2-test .taken)
+
+loop2-again : tie.Need-loop2-again Inv-loop2 μ-loop2 Inv-loop μ-loop
+loop2-again c = (omega (arith, c .before .before .loop2-test .taken), rw length-set (c .before .before .before .loop2 .inv .1), layer-marked (c .before .before .before .loop2 .inv .2) (omega (arith, c .before .before .before .loop2 .inv .1, c .before .before .before .before .before .before .before .before .before .pre, c .before .before .loop2-test .taken)) (c .before .octet .ensures) (c .marked .ensures))
+
+add-v : tie.Need-add-v Inv-loop2 μ-loop2 Inv-loop μ-loop
+add-v c = omega (arith, c .before .before .before .before .before .pre, c .before .before .loop-test .taken)
+
+loop-less : tie.Need-loop-less Inv-loop2 μ-loop2 Inv-loop μ-loop
+loop-less c = omega (arith, c .before .before .loop-test .taken)
+
+loop-again : tie.Need-loop-again Inv-loop2 μ-loop2 Inv-loop μ-loop
+loop-again c = (omega (arith, c .before .before .loop-test .taken), ⊎-elim (λ w. rw (w .3) (w .1 .inv .1)) (λ w. rw (w .1) (c .before .before .before .loop .inv .1)) (c .if1 .came), ⊎-elim (λ w. rw (w .3) (layer-done (omega (arith, w .1 .inv .0, w .2 .left)) (w .1 .inv .2))) (λ w. rw (w .1) (layer-left (c .before .before .before .loop .inv .2) (sym (c .before .led .ensures) ∙ w .0 .left))) (c .if1 .came))
+
+returns : tie.Need-returns Inv-loop2 μ-loop2 Inv-loop μ-loop
+returns c = layer-end (c .before .loop .inv .2) (omega (arith, c .loop-test .left, c .before .loop .inv .0))
+
+pub with-signers-spec : {M : Type 1} → statement M
+with-signers-spec =
+    tie.close
+    (tie.spec
+    Inv-loop2
+    μ-loop2
+    Inv-loop
+    μ-loop
+    loop-holds
+    array-read-led
+    led-requires
+    loop2-holds
+    array-read-marked
+    mul-octet
+    add-octet
+    octet-requires
+    array-read-marked-2
+    marked-requires
+    array-write-more
+    add-u
+    loop2-less
+    loop2-again
+    add-v
+    loop-less
+    loop-again
+    returns)

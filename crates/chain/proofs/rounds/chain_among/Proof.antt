@@ -1,0 +1,102 @@
+-- What holds at the start of a round holds at that of the next, and what a round settles is the answer.
+use Prim.Native.Nat.{_-_, _≤_}
+use mathlib.Core.Path.{refl}
+use mathlib.Core.Logic.{inl, inr}
+use native.Mathlib.Omega.{arith}
+use borrow.Author.Needs.{needs}
+use Rattle.chain.proofs.RoundsHold.{Round, first-round, next-round, round-answer, closed-answer, no-signer}
+use Rattle.chain.proofs.rounds.chain_among.Statement.{statement}
+use Rattle.chain.proofs.rounds.chain_among.Tie as tie
+
+abbrev Inv-loop : tie.InvT-loop
+Inv-loop image table places moment target near₀ rows₀ counting roles₀ round₀ near rows roles round = (round ≤ 4) × Round image table moment target round near rows counting roles
+
+abbrev μ-loop : tie.MeasureT-loop
+μ-loop image table places moment target near₀ rows₀ counting roles₀ round₀ near rows roles round = 4 - round
+
+blank-row-requires : tie.Need-blank-row-requires Inv-loop μ-loop
+blank-row-requires c κs = search needs
+
+near-first-requires : tie.Need-near-first-requires Inv-loop μ-loop
+near-first-requires c κs = search needs
+
+open-items-requires : tie.Need-open-items-requires Inv-loop μ-loop
+open-items-requires c κs = search needs
+
+counting-lists-requires : tie.Need-counting-lists-requires Inv-loop μ-loop
+counting-lists-requires c κs = search needs
+
+roles-of-requires : tie.Need-roles-of-requires Inv-loop μ-loop
+roles-of-requires c κs = search needs
+
+array-read-if1 : tie.Need-array-read-if1 Inv-loop μ-loop
+array-read-if1 c = omega arith
+
+returns : tie.Need-returns Inv-loop μ-loop
+returns c = no-signer _ _ _ _ _ (c .before .before .before .before .before .before .before .before .pre .0) {roles = c .before .roles-of .result} (first-round _ _ _ _ _ (c .before .before .before .before .before .before .before .before .pre .0) _ (c .before .before .before .before .near-first .ensures) _ (c .before .before .before .before .before .before .before .before .pre .2) (c .before .before .before .open-items .ensures) (c .before .before .counting-lists .ensures) (c .before .roles-of .ensures)) (c .before .before .before .before .before .before .before .before .pre .2) (c .if1 .taken) refl refl
+
+loop-holds : tie.Need-loop-holds Inv-loop μ-loop
+loop-holds c = (omega arith, first-round _ _ _ _ _ (c .before .before .before .before .before .before .before .before .pre .0) _ (c .before .before .before .before .near-first .ensures) _ (c .before .before .before .before .before .before .before .before .pre .2) (c .before .before .before .open-items .ensures) (c .before .before .counting-lists .ensures) (c .before .roles-of .ensures))
+
+searched-requires : tie.Need-searched-requires Inv-loop μ-loop
+searched-requires c κs = search needs
+
+returns-2 : tie.Need-returns-2 Inv-loop μ-loop
+returns-2 c = round-answer _ _ _ _ _ (c .before .before .before .before .before .before .before .before .before .before .before .pre .0) (c .before .before .loop .inv .1) (c .before .before .before .before .before .before .before .before .before .before .before .pre .1) (c .before .searched .ensures) (inl (c .if2 .taken))
+
+add-if4 : tie.Need-add-if4 Inv-loop μ-loop
+add-if4 c = omega arith
+
+returns-3 : tie.Need-returns-3 Inv-loop μ-loop
+returns-3 c = round-answer _ _ _ _ _ (c .before .before .before .before .before .before .before .before .before .before .before .before .before .pre .0) (c .before .before .before .before .loop .inv .1) (c .before .before .before .before .before .before .before .before .before .before .before .before .before .pre .1) (c .before .before .before .searched .ensures) (inr (c .before .if3 .taken, c .if4 .taken))
+
+add-round : tie.Need-add-round Inv-loop μ-loop
+add-round c = omega arith
+
+near-next-requires : tie.Need-near-next-requires Inv-loop μ-loop
+near-next-requires c κs = search needs
+
+unchanged-requires : tie.Need-unchanged-requires Inv-loop μ-loop
+unchanged-requires c κs = c .before .before .before .before .before .before .before .before .before .before .before .before .before .pre .1
+
+returns-4 : tie.Need-returns-4 Inv-loop μ-loop
+returns-4 c = closed-answer _ _ _ _ _ (c .before .before .before .before .before .before .before .before .before .before .before .before .before .before .before .pre .0) (c .before .before .before .before .before .before .loop .inv .1) (c .before .before .near-next .ensures) (c .before .before .before .before .before .before .before .before .before .before .before .before .before .before .before .pre .1) (c .before .before .before .before .before .searched .ensures) (c .before .unchanged .ensures (c .if5 .taken))
+
+open-items-requires-2 : tie.Need-open-items-requires-2 Inv-loop μ-loop
+open-items-requires-2 c κs = c .before .before .before .before .before .before .before .before .before .before .before .before .before .before .before .pre .1
+
+roles-of-requires-2 : tie.Need-roles-of-requires-2 Inv-loop μ-loop
+roles-of-requires-2 c κs = c .before .before .before .before .before .before .before .before .before .before .before .before .before .before .before .before .pre .1
+
+loop-less : tie.Need-loop-less Inv-loop μ-loop
+loop-less c = omega arith
+
+loop-again : tie.Need-loop-again Inv-loop μ-loop
+loop-again c = (omega arith, next-round _ _ _ _ _ (c .before .before .before .before .before .before .before .before .before .before .before .before .before .before .before .before .before .pre .0) (c .before .before .before .before .before .before .before .before .loop .inv .1) (c .before .before .before .before .near-next .ensures) (c .before .before .before .before .before .before .before .before .before .before .before .before .before .before .before .before .before .pre .2) (c .before .open-items2 .ensures) (c .roles-of2 .ensures))
+
+pub chain-among-spec : {M : Type 1} → statement M
+chain-among-spec =
+    tie.close
+    (tie.spec
+    Inv-loop
+    μ-loop
+    blank-row-requires
+    near-first-requires
+    open-items-requires
+    counting-lists-requires
+    roles-of-requires
+    array-read-if1
+    returns
+    loop-holds
+    searched-requires
+    returns-2
+    add-if4
+    returns-3
+    add-round
+    near-next-requires
+    unchanged-requires
+    returns-4
+    open-items-requires-2
+    roles-of-requires-2
+    loop-less
+    loop-again)

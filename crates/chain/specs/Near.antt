@@ -1,0 +1,38 @@
+-- Which places a round opens: 1 for these, 2 for a link that is not among them, else 0. The contract of `best_chain` cites
+-- nothing of this.
+use Prim.Native.Nat.{ℕ, _<_}
+use mathlib.Core.Path.{_≡_}
+use mathlib.Core.Bool.{Bool, true, cond}
+use mathlib.Core.List.{List}
+use mathlib.Core.Logic.{_⊎_}
+use lib.Dec.{eqb}
+use lib.ListN.{getD}
+use Rattle.image.specs.declared.IndexEntry.{IndexEntry}
+use Rattle.chain.specs.Table.{verdictIn}
+
+unfoldable pub isNear : List ℕ → ℕ → Bool
+isNear near place = eqb (getD near place 0) 1
+
+-- at first the target, the anchors and the CRLs
+unfoldable pub firstOf : ℕ → ℕ → IndexEntry → ℕ
+firstOf target place e = cond (eqb place target) 1 (cond (eqb (e .kind) 2) 2 (cond (eqb (e .kind) 3) 0 1))
+
+-- a link with verdict 1 is near
+unfoldable pub markedOf : ℕ → ℕ → ℕ → ℕ
+markedOf before verdict mark = cond (eqb before 2) (cond (eqb verdict 1) 1 mark) mark
+
+-- role 2 or 3: a usable link or signer
+unfoldable pub ledOf : ℕ → Bool
+ledOf role = cond (eqb role 2) true (eqb role 3)
+
+-- some slots are 1 now, among them each link that has verdict 1 for a usable link or signer
+pub record Near (n : ℕ) (table roles before near : List ℕ) : Type 0 where
+  pub kept : (p : ℕ) → p < n → (getD near p 0 ≡ 1) ⊎ (getD near p 0 ≡ getD before p 0)
+  pub signers :
+      (u v : ℕ) → u < n → v < n → ledOf (getD roles v 0) ≡ true → verdictIn n table u v ≡ true → getD before u 0 ≡ 2
+      → getD near u 0 ≡ 1
+
+-- in the last round each link
+pub record Wider (n : ℕ) (table : List ℕ) (round : ℕ) (roles before near : List ℕ) : Type 0 where
+  pub layer : Near n table roles before near
+  pub links : round ≡ 4 → (u : ℕ) → u < n → getD before u 0 ≡ 2 → getD near u 0 ≡ 1

@@ -1,0 +1,120 @@
+// Which places a round opens: 1 for these, 2 for a link that is not among them, else 0.
+use crate::counting::octet;
+use crate::matching::led;
+use image::IndexEntry;
+use image::entry_in;
+ghost use mathlib.Core.Path.{_≡_};
+ghost use mathlib.Core.Bool.{true};
+ghost use Prim.Native.Nat.{ℕ, _≤_, _<_};
+ghost use lib.ListN.{getD};
+ghost use Rattle.chain.specs.Near.{firstOf, markedOf, Near, Wider};
+ghost use Rattle.image.specs.Index.{entryIn};
+
+// The round that opens all links.
+pub(crate) const LAST: usize = 4;
+
+// At first the target, the anchors and the CRLs. Other signers are in no chain to the target.
+pub(crate) fn near_first(image: &[u8], places: usize, target: usize) -> [u8; 96]
+    requires { ⌜ places ≤ 96 ⌝ }
+    ensures { λ r. ⌜ ((p : ℕ) → p < places → getD r p 0 ≡ firstOf target p (entryIn (now (image .entry)) p)) ⌝ }
+{
+    let mut near = [0u8; 96];
+    let mut place = 0;
+    while place < places {
+        near[place] = first(entry_in(image, place), place, target);
+        place += 1;
+    }
+    near
+}
+
+fn first(e: IndexEntry, place: usize, target: usize) -> u8
+    ensures { λ r. ⌜ r ≡ firstOf target place e ⌝ }
+{
+    if place == target {
+        return 1;
+    }
+    if e.kind == 2 {
+        return 2;
+    }
+    if e.kind == 3 {
+        return 0;
+    }
+    1
+}
+
+// Then the links that have verdict 1 for a usable link or signer of the round before, and in the last round all links.
+pub(crate) fn near_next(
+    table: &[u8],
+    places: usize,
+    round: usize,
+    near: [u8; 96],
+    roles: [u8; 96],
+) -> [u8; 96]
+    requires { ⌜ places ≤ 96 ⌝ }
+    ensures { λ r. ⌜ Wider places (now (table .entry)) round roles near r ⌝ }
+{
+    if round == LAST {
+        return with_links(places, near);
+    }
+    with_signers(table, places, near, roles)
+}
+
+fn with_links(places: usize, near: [u8; 96]) -> [u8; 96]
+    requires { ⌜ places ≤ 96 ⌝ }
+    ensures { λ r. ⌜ ((p : ℕ) → p < places → getD r p 0 ≡ markedOf (getD near p 0) 1 (getD near p 0)) ⌝ }
+{
+    let mut more = [0u8; 96];
+    let mut place = 0;
+    while place < places {
+        more[place] = marked(near[place], 1, near[place]);
+        place += 1;
+    }
+    more
+}
+
+fn with_signers(table: &[u8], places: usize, near: [u8; 96], roles: [u8; 96]) -> [u8; 96]
+    requires { ⌜ places ≤ 96 ⌝ }
+    ensures { λ r. ⌜ Near places (now (table .entry)) roles near r ⌝ }
+{
+    let mut more = near;
+    let mut v = 0;
+    while v < places {
+        if led(roles[v]) {
+            let mut u = 0;
+            while u < places {
+                more[u] = marked(near[u], octet(table, u * places + v), more[u]);
+                u += 1;
+            }
+        }
+        v += 1;
+    }
+    more
+}
+
+// 1 for a link with verdict 1, and any other as it is now.
+fn marked(before: u8, verdict: u8, mark: u8) -> u8
+    ensures { λ r. ⌜ r ≡ markedOf before verdict mark ⌝ }
+{
+    if before != 2 {
+        return mark;
+    }
+    if verdict == 1 {
+        return 1;
+    }
+    mark
+}
+
+// Whether a round opens no more than the one before.
+pub(crate) fn unchanged(places: usize, before: [u8; 96], near: [u8; 96]) -> bool
+    requires { ⌜ places ≤ 96 ⌝ }
+    ensures { λ r. ⌜ (r ≡ true → (p : ℕ) → p < places → getD before p 0 ≡ getD near p 0) ⌝ }
+{
+    let mut place = 0;
+    while place < places {
+        if before[place] != near[place] {
+            return false;
+        }
+        place += 1;
+    }
+    true
+}
