@@ -4,6 +4,9 @@ use mathlib.Core.Path.{_≡_, refl}
 use mathlib.Core.Bool.{Bool, true, false, cond, _&&_}
 use native.Mathlib.Omega.{arith}
 
+pub false-true : {A : Type 0} → false ≡ true → A
+false-true e = absurd (let z : _≡_ {A = ℕ} 0 1 = cc in omega arith)
+
 pub and-false : (b : Bool) → (b && false) ≡ false
 and-false true = refl
 and-false false = refl
@@ -11,6 +14,10 @@ and-false false = refl
 pub first : (a b : Bool) → (a && b) ≡ true → a ≡ true
 first true b e = refl
 first false b e = e
+
+pub second : (a b : Bool) → (a && b) ≡ true → b ≡ true
+second true b e = e
+second false b e = false-true e
 
 pub both-true : (a b : Bool) → a ≡ true → b ≡ true → (a && b) ≡ true
 both-true a b e f = rw (e, f)
@@ -44,8 +51,7 @@ grouped-near given false k l m o e f = rw e
 
 -- what tests in a row say
 pub middle : (a b c : Bool) → (a && (b && c)) ≡ true → b ≡ true
-middle true b c e = first b c e
-middle false b c e = absurd (let z : _≡_ {A = ℕ} 0 1 = cc in omega arith)
+middle a b c e = first b c (second a (b && c) e)
 
 pub but-last : (a b c d : Bool) → (a && (b && (c && d))) ≡ true → (a && (b && c)) ≡ true
 but-last true true c d e = first c d e

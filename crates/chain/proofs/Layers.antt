@@ -12,6 +12,7 @@ use lib.ListN.{length, getD, set}
 use lib.Seq.{getD-set-same, getD-set-other}
 use Rattle.chain.specs.Near.{markedOf, ledOf, Near, Wider}
 use Rattle.chain.specs.Table.{verdictIn}
+use Rattle.chain.proofs.Booleans.{false-true}
 
 -- a mark becomes 1, or stays
 marked-or-kept : (before verdict mark : ℕ) → (markedOf before verdict mark ≡ 1) ⊎ (markedOf before verdict mark ≡ mark)
@@ -109,16 +110,13 @@ module _ {n : ℕ} {table roles before more : List ℕ} {v : ℕ} where
       record {
         kept = l .kept;
         done = λ w x k h.
-            ⊎-elim (λ (q : x ≡ v). λ a b t. absurd (never (sym unled ∙ (rw q at a)))) (λ (q : x < v). l .done w x k q)
+            ⊎-elim (λ (q : x ≡ v). λ a b t. false-true (sym unled ∙ (rw q at a))) (λ (q : x < v). l .done w x k q)
             (eq-or-lt-of-le (least x h));
         part = λ w h. absurd (omega arith);
       }
     where
       least : (x : ℕ) → x < v + 1 → x ≤ v
       least x h = omega arith
-
-      never : false ≡ true → ⊥
-      never e = let z : _≡_ {A = ℕ} 0 1 = cc in omega arith
 
   pub layer-end : Layer n table roles before more v 0 → n ≤ v → Near n table roles before more
   layer-end l all = record { kept = λ p h. l .kept p; signers = λ u x hu hx. l .done u x hu (omega arith) }

@@ -3,11 +3,13 @@ pub mod Bits
 pub mod Booleans
 pub mod Cells
 pub mod CountingMeans
+pub mod FirstRound
 pub mod ImageOpened
 pub mod ItemsTold
 pub mod Layers
 pub mod Meaning
 pub mod NearRows
+pub mod NextRound
 pub mod PlacesMean
 pub mod RolesMean
 pub mod RoundsHold

@@ -2,7 +2,7 @@
 -- the whole, where each chain is near or longer than the one found.
 use Prim.Native.Nat.{ℕ, _<_, _≤_}
 use mathlib.Core.Path.{_≡_, sym, _∙_}
-use mathlib.Core.Bool.{Bool, true, false, _&&_}
+use mathlib.Core.Bool.{Bool, true, _&&_}
 use mathlib.Core.List.{List, [], _∷_}
 use mathlib.Core.Logic.{_⊎_, inl, inr, ⊎-elim}
 use native.Mathlib.Omega.{arith}
@@ -10,7 +10,7 @@ use lib.ListN.{length}
 use Rattle.graph.specs.declared.Found.{Found}
 use Rattle.graph.specs.Chains.{Graph, Onward, ends, goes, Chain, chain}
 use Rattle.graph.specs.Answer.{Answered, found, none}
-use Rattle.chain.proofs.Booleans.{both-true}
+use Rattle.chain.proofs.Booleans.{second, both-true}
 
 -- the same places and anchors, of the links and signers those that are near, and the same steps from an anchor or a link to a
 -- link or a signer
@@ -31,10 +31,6 @@ pub data AllNear (near : ℕ → Bool) : List ℕ → Type 0 where
 abbrev pub NearOrLonger : (ℕ → Bool) → Graph → ℕ → Found → Type 0
 NearOrLonger near h t r =
     (u : ℕ) (c : List ℕ) → Onward h t u c → AllNear near c ⊎ ((r .length ≡ 0 → ⊥) × (r .length ≤ length c))
-
-second : (a b : Bool) → (a && b) ≡ true → b ≡ true
-second true b e = e
-second false b e = absurd (let z : _≡_ {A = ℕ} 0 1 = cc in omega arith)
 
 module _ {near : ℕ → Bool} {g h : Graph} (a : Part near g h) {t : ℕ} where
   outward : {u : ℕ} {c : List ℕ} → u < g .places → (g .anchor u ≡ true) ⊎ (g .link u ≡ true) → Onward g t u c → Onward h t u c

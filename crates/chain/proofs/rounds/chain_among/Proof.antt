@@ -4,7 +4,9 @@ use mathlib.Core.Path.{refl}
 use mathlib.Core.Logic.{inl, inr}
 use native.Mathlib.Omega.{arith}
 use borrow.Author.Needs.{needs}
-use Rattle.chain.proofs.RoundsHold.{Round, first-round, next-round, round-answer, closed-answer, no-signer}
+use Rattle.chain.proofs.FirstRound.{first-round}
+use Rattle.chain.proofs.NextRound.{next-round, closed-answer}
+use Rattle.chain.proofs.RoundsHold.{Round, round-answer, no-signer}
 use Rattle.chain.proofs.rounds.chain_among.Statement.{statement}
 use Rattle.chain.proofs.rounds.chain_among.Tie as tie
 
