@@ -6,7 +6,12 @@ use elements::element_at;
 use elements::element_tagged;
 use elements::same;
 ghost use mathlib.Core.Path.{_≡_};
+ghost use mathlib.Core.Bool.{true};
+ghost use Prim.Native.Nat.{_≤_, _<_};
+ghost use lib.ListN.{length};
+ghost use Rattle.der.specs.Heading.{identifierGood};
 ghost use Rattle.crl.specs.Listed.{lists, listedOf};
+ghost use Rattle.crl.specs.Looks.{Short, Another};
 
 // Whether an entry between two offsets of a CRL has a serial of those contents octets.
 pub fn listed(item: &[u8], from: usize, end: usize, serial: &[u8]) -> bool
@@ -14,6 +19,11 @@ pub fn listed(item: &[u8], from: usize, end: usize, serial: &[u8]) -> bool
 {
     let mut at = from;
     loop {
+        let next = passed_by(item, at, end, serial);
+        if 0 < next {
+            at = next;
+            continue;
+        }
         let Found::One(e) = element_at(item, at, end) else {
             return false;
         };
@@ -22,6 +32,59 @@ pub fn listed(item: &[u8], from: usize, end: usize, serial: &[u8]) -> bool
         }
         at = e.end;
     }
+}
+
+// The offset after the entry at `at` if the length of its serial or the last octet shows that it is another; 0 where
+// these do not tell, or a length is in the long form.
+fn passed_by(item: &[u8], at: usize, end: usize, serial: &[u8]) -> usize
+    ensures { λ r. ⌜ (0 < r → Another (now (item .entry)) at end (now (serial .entry)) r) ⌝ }
+{
+    if item.len() < end {
+        return 0;
+    }
+    if end < at {
+        return 0;
+    }
+    let next = short_element(item, at, end, 0x30);
+    if next == 0 {
+        return 0;
+    }
+    let after = short_element(item, at + 2, next, 0x02);
+    if after == 0 {
+        return 0;
+    }
+    let size = after - at - 4;
+    if size != serial.len() {
+        return next;
+    }
+    if size == 0 {
+        return 0;
+    }
+    if item[after - 1] != serial[size - 1] {
+        return next;
+    }
+    0
+}
+
+// The offset after the element at `at` if it has the tag, a length in the short form, and its end within `end`; else 0.
+fn short_element(item: &[u8], at: usize, end: usize, tag: u8) -> usize
+    requires { ⌜ (at ≤ end) × (end ≤ length (now item)) × (identifierGood tag ≡ true) ⌝ }
+    ensures { λ r. ⌜ (0 < r → Short (now (item .entry)) at end tag r) ⌝ }
+{
+    if end - at < 2 {
+        return 0;
+    }
+    if item[at] != tag {
+        return 0;
+    }
+    let size = item[at + 1] as usize;
+    if 128 <= size {
+        return 0;
+    }
+    if end - at - 2 < size {
+        return 0;
+    }
+    at + 2 + size
 }
 
 fn has_serial(item: &[u8], serial: &[u8], e: Element) -> bool

@@ -2,10 +2,11 @@
 use Prim.Native.Nat.{_-_}
 use mathlib.Core.Path.{_≡_, refl, sym, _∙_}
 use native.Mathlib.Omega.{arith}
-use borrow.Author.Needs.{needs}
 use Rattle.elements.specs.Elements.{membersOf}
 use Rattle.elements.proofs.Members.{found-within, members-none, members-more}
 use Rattle.crl.specs.Listed.{someLists, listedOf}
+use Rattle.crl.proofs.Looks.{none-lost, farther}
+use borrow.Author.Needs.{needs}
 use Rattle.crl.proofs.listing.listed.Statement.{statement}
 use Rattle.crl.proofs.listing.listed.Tie as tie
 
@@ -19,6 +20,15 @@ loop-holds : tie.Need-loop-holds Inv-loop μ-loop
 unfolding listedOf
 loop-holds c = refl
 
+passed-by-requires : tie.Need-passed-by-requires Inv-loop μ-loop
+passed-by-requires c κs = search needs
+
+loop-less : tie.Need-loop-less Inv-loop μ-loop
+loop-less c = farther (c .before .passed-by .ensures (c .if1 .taken))
+
+loop-again : tie.Need-loop-again Inv-loop μ-loop
+loop-again c = c .before .before .loop .inv ∙ none-lost (c .before .passed-by .ensures (c .if1 .taken))
+
 element-at-requires : tie.Need-element-at-requires Inv-loop μ-loop
 element-at-requires c κs = search needs
 
@@ -30,21 +40,21 @@ enum-told c = search needs
 
 returns : tie.Need-returns Inv-loop μ-loop
 unfolding someLists
-returns c = sym (c .before .before .before .loop .inv ∙ rw (members-none _ _ _ (sym (c .before .before .element-at .ensures) ∙ c .enum-told .given .1)))
+returns c = sym (c .before .before .before .before .before .loop .inv ∙ rw (members-none _ _ _ (sym (c .before .before .element-at .ensures) ∙ c .enum-told .given .1)))
 
 has-serial-requires : tie.Need-has-serial-requires Inv-loop μ-loop
 has-serial-requires c κs = search needs
 
 returns-2 : tie.Need-returns-2 Inv-loop μ-loop
 unfolding someLists
-returns-2 c = sym (c .before .before .before .before .before .before .loop .inv ∙ rw (members-more _ _ _ (sym (c .before .before .before .before .before .element-at .ensures) ∙ c .before .before .before .e .given .1), ← c .before .has-serial .ensures, c .if1 .taken))
+returns-2 c = sym (c .before .before .before .before .before .before .before .before .loop .inv ∙ rw (members-more _ _ _ (sym (c .before .before .before .before .before .element-at .ensures) ∙ c .before .before .before .e .given .1), ← c .before .has-serial .ensures, c .if2 .taken))
 
-loop-less : tie.Need-loop-less Inv-loop μ-loop
-loop-less c = omega (arith, found-within _ _ _ (sym (c .before .before .before .before .before .element-at .ensures) ∙ c .before .before .before .e .given .1))
+loop-less-2 : tie.Need-loop-less-2 Inv-loop μ-loop
+loop-less-2 c = omega (arith, found-within _ _ _ (sym (c .before .before .before .before .before .element-at .ensures) ∙ c .before .before .before .e .given .1))
 
-loop-again : tie.Need-loop-again Inv-loop μ-loop
+loop-again-2 : tie.Need-loop-again-2 Inv-loop μ-loop
 unfolding someLists
-loop-again c = c .before .before .before .before .before .before .loop .inv ∙ rw (members-more _ _ _ (sym (c .before .before .before .before .before .element-at .ensures) ∙ c .before .before .before .e .given .1), ← c .before .has-serial .ensures, c .if1 .left)
+loop-again-2 c = c .before .before .before .before .before .before .before .before .loop .inv ∙ rw (members-more _ _ _ (sym (c .before .before .before .before .before .element-at .ensures) ∙ c .before .before .before .e .given .1), ← c .before .has-serial .ensures, c .if2 .left)
 
 pub listed-spec : {M : Type 1} → statement M
 listed-spec =
@@ -53,11 +63,14 @@ listed-spec =
     Inv-loop
     μ-loop
     loop-holds
+    passed-by-requires
+    loop-less
+    loop-again
     element-at-requires
     enum-known-e
     enum-told
     returns
     has-serial-requires
     returns-2
-    loop-less
-    loop-again)
+    loop-less-2
+    loop-again-2)

@@ -1,0 +1,22 @@
+-- What a quick look at an entry can tell.
+use Prim.Native.Nat.{ℕ, _+_, _≤_}
+use mathlib.Core.Bool.{false}
+use mathlib.Core.List.{List}
+use mathlib.Core.Path.{_≡_}
+use Rattle.elements.specs.declared.elements.Element.{Element}
+use Rattle.elements.specs.declared.elements.Found.the-variants.{One}
+use Rattle.elements.specs.Elements.{foundAt}
+use Rattle.crl.specs.Listed.{lists}
+
+-- an element with a length in the short form stands at `at` and ends at r
+pub record Short (s : List ℕ) (at end tag r : ℕ) : Type 0 where
+  pub low : at + 2 ≤ r
+  pub high : r ≤ end
+  pub found : foundAt s at end ≡ One (record { tag = tag; at = at; contents = at + 2; end = r })
+
+-- the entry that stands at `at` ends at r, and has another serial
+pub record Another (s : List ℕ) (at end : ℕ) (serial : List ℕ) (r : ℕ) : Type 0 where
+  pub entry : Element
+  pub found : foundAt s at end ≡ One entry
+  pub ends : entry .end ≡ r
+  pub other : lists s serial entry ≡ false
