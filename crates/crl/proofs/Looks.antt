@@ -5,7 +5,7 @@ use mathlib.Core.List.{List}
 use mathlib.Core.Path.{_≡_, refl, ap, sym, _∙_}
 use native.Mathlib.Nat.{add-zero}
 use native.Mathlib.Omega.{arith}
-use borrow.Author.Tests.{le-leb}
+use borrow.Author.Tests.{le-leb, eq-eqb}
 use lib.ListN.{length, getD, take, drop, length-drop}
 use lib.Seq.{length-take-le, getD-take, getD-drop}
 use Rattle.der.specs.declared.heading.Heading.the-variants.{Header}
@@ -18,8 +18,10 @@ use Rattle.elements.specs.Elements.{stepped, foundAt, foundTagged, onFound, mem
 use Rattle.elements.specs.Octets.{alike}
 use Rattle.elements.proofs.Likeness.{unequal-unlike, unlike-length}
 use Rattle.elements.proofs.Members.{tag-kept, found-within, members-more}
+use Rattle.times.specs.Times.{timeAt, timeTag}
+use Rattle.crl.specs.Entries.{entryOf}
 use Rattle.crl.specs.Listed.{lists, someLists}
-use Rattle.crl.specs.Looks.{Short, Another}
+use Rattle.crl.specs.Looks.{Short, Usual, Another}
 
 module _ (s : List ℕ) (at end : ℕ) (before : at ≤ end) (inside : end ≤ length s) where
   abbrev part : List ℕ
@@ -85,3 +87,20 @@ module _ {s : List ℕ} {at end : ℕ} {serial : List ℕ} {r : ℕ} (a : Anothe
 
   pub farther : end - r < end - at
   farther = omega (arith, a .ends, found-within s at end (a .found))
+
+-- a serial and a UTCTime that ends with the entry are the whole of it
+module _ {s : List ℕ} {at end time : ℕ} (inside : end ≤ length s) where
+  usual-at : Short s at end 0x30 (time + 15) → Short s (at + 2) (time + 15) 0x02 time → Short s time (time + 15) 0x17 (time + 15) → Usual s at end time
+  unfolding entryOf foundTagged timeAt timeTag onFound
+  usual-at entry first last =
+      record {
+        room = omega (arith, entry .high);
+        entry = record { tag = 0x30; at = at; contents = at + 2; end = time + 15 };
+        found = entry .found;
+        ends = refl;
+        serial = record { tag = 0x02; at = at + 2; contents = at + 2 + 2; end = time };
+        bare = simp (tag-kept 0x02 (first .found) refl, last .found, eq-eqb (time + 15) (time + 15) refl);
+      }
+
+  pub usual : {next : ℕ} → next ≡ time + 15 → Short s at end 0x30 next → Short s (at + 2) next 0x02 time → Short s time next 0x17 next → Usual s at end time
+  usual long entry first last = usual-at (rw long at entry) (rw long at first) (rw long at last)

@@ -1,8 +1,8 @@
 -- The entries that are left, with what was found of those before them, come to what all of them come to.
-use Prim.Native.Nat.{ℕ, zero, suc, _+_, _≤_}
+use Prim.Native.Nat.{ℕ, zero, suc, _+_, _-_, _<_, _≤_}
 use mathlib.Core.Bool.{Bool, true, false, cond, _&&_, not, and-true, and-assoc}
 use mathlib.Core.List.{List, [], _∷_}
-use mathlib.Core.Path.{_≡_, sym, _∙_}
+use mathlib.Core.Path.{_≡_, refl, ap, sym, _∙_}
 use native.Mathlib.Omega.{arith}
 use lib.ListN.{length}
 use Rattle.elements.specs.declared.elements.Element.{Element}
@@ -11,10 +11,11 @@ use Rattle.elements.specs.declared.elements.Found.the-variants.{One, Missing}
 use Rattle.elements.specs.Elements.{foundAt, onFound, membersIn, membersOf}
 use Rattle.extensions.specs.Extensions.{criticalOf}
 use Rattle.times.specs.Times.{timeOf}
-use Rattle.elements.proofs.Members.{members-none, members-more}
+use Rattle.elements.proofs.Members.{found-within, members-none, members-more}
 use Rattle.crl.specs.declared.entries.Entry.the-variants.{Bare, Extended, Misshapen}
 use Rattle.crl.specs.declared.entries.Survey.{Survey}
 use Rattle.crl.specs.declared.entries.Survey.the-variants.{Entries, Shapeless}
+use Rattle.crl.specs.Looks.{utcAt, Usual}
 use Rattle.crl.specs.Entries.{entryOf, shaped, isTime, timely, calm, allShaped, allTimely, allCalm, surveyOf}
 
 -- there are no more members than octets
@@ -82,3 +83,15 @@ module _ {s : List ℕ} {e serial time : Element} {times quiet times' quiet' : B
   pub extended-adds : {extensions : Element} → entryOf s e ≡ Extended serial time extensions → times' ≡ (times && isTime (timeOf s time)) → quiet' ≡ (quiet && not (criticalOf s extensions false)) → Adds s e times quiet times' quiet'
   unfolding shaped timely calm
   extended-adds h t q = record { fit = rw h; timed = rw (h, t); calmed = rw (h, q) }
+
+-- a usual entry adds its time
+module _ {s : List ℕ} {at end r : ℕ} (u : Usual s at end r) where
+  pub usual-more : length (membersOf s at end) ≡ suc (length (membersOf s (r + 15) end))
+  usual-more = rw (u .ends) at (ap length (members-more s at end (u .found)))
+
+  pub usual-less : end - (r + 15) < end - at
+  usual-less = omega (arith, u .ends, found-within s at end (u .found))
+
+  pub usual-on : (count : ℕ) (times quiet : Bool) {times' : Bool} → times' ≡ (times && isTime (timeOf s (utcAt r)))
+      → surveyWith s count times quiet (membersOf s at end) ≡ surveyWith s (count + 1) times' quiet (membersOf s (r + 15) end)
+  usual-on count times quiet t = rw (u .ends) at (survey-on s count times quiet at end (u .found) (bare-adds (u .bare) t refl))

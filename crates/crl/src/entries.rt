@@ -1,4 +1,5 @@
 // Entries of a CRL, and what the rules ask of all of them, found in one pass.
+use crate::headers::short_element;
 use elements::Element;
 use elements::Found;
 use elements::element_at;
@@ -9,7 +10,10 @@ use times::Time;
 use times::time_at;
 use times::time_of;
 ghost use mathlib.Core.Path.{_≡_};
+ghost use Prim.Native.Nat.{_+_, _≤_, _<_};
+ghost use lib.ListN.{length};
 ghost use Rattle.crl.specs.Entries.{isTime, entryOf, surveyOf};
+ghost use Rattle.crl.specs.Looks.{utcAt, Usual};
 ghost use Rattle.times.specs.Times.{timeOf};
 
 // An entry's serial, time and extensions.
@@ -44,6 +48,15 @@ pub(crate) fn survey_of(item: &[u8], from: usize, end: usize) -> Survey
     let mut calm = true;
     let mut at = from;
     loop {
+        let time = usual_time(item, at, end);
+        if 0 < time {
+            if !is_utc(item, time) {
+                timely = false;
+            }
+            count += 1;
+            at = time + 15;
+            continue;
+        }
         let Found::One(e) = element_at(item, at, end) else {
             return Survey::Entries {
                 count,
@@ -76,6 +89,34 @@ pub(crate) fn survey_of(item: &[u8], from: usize, end: usize) -> Survey
     }
 }
 
+// The offset of the time of the entry at `at` if the entry is a serial and a UTCTime of 13 octets, each length in the
+// short form; else 0.
+fn usual_time(item: &[u8], at: usize, end: usize) -> usize
+    ensures { λ r. ⌜ (0 < r → Usual (now (item .entry)) at end r) ⌝ }
+{
+    if item.len() < end {
+        return 0;
+    }
+    if end < at {
+        return 0;
+    }
+    let next = short_element(item, at, end, 0x30);
+    if next == 0 {
+        return 0;
+    }
+    let time = short_element(item, at + 2, next, 0x02);
+    if time == 0 {
+        return 0;
+    }
+    if short_element(item, time, next, 0x17) != next {
+        return 0;
+    }
+    if next - time != 15 {
+        return 0;
+    }
+    time
+}
+
 // SEQUENCE {INTEGER, time, optional SEQUENCE of extensions}.
 fn entry_of(item: &[u8], e: Element) -> Entry
     ensures { λ r. ⌜ r ≡ entryOf (now (item .entry)) e ⌝ }
@@ -106,6 +147,20 @@ fn entry_of(item: &[u8], e: Element) -> Entry
         };
     }
     Entry::Misshapen
+}
+
+// Whether the UTCTime of 13 octets at an offset is a time.
+fn is_utc(item: &[u8], at: usize) -> bool
+    requires { ⌜ at + 15 ≤ length (now item) ⌝ }
+    ensures { λ r. ⌜ r ≡ isTime (timeOf (now (item .entry)) (utcAt at)) ⌝ }
+{
+    let e = Element {
+        tag: 0x17,
+        at,
+        contents: at + 2,
+        end: at + 15,
+    };
+    is_time(item, e)
 }
 
 fn is_time(item: &[u8], time: Element) -> bool

@@ -1,5 +1,6 @@
 // Whether an item is a CRL of the profile, its fields, whether it lists a serial, and its age.
 mod entries;
+mod headers;
 mod listing;
 mod rules;
 mod shapes;

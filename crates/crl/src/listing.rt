@@ -1,4 +1,5 @@
 // Whether a serial is listed.
+use crate::headers::short_element;
 use elements::Element;
 use elements::Found;
 use elements::contents;
@@ -6,12 +7,9 @@ use elements::element_at;
 use elements::element_tagged;
 use elements::same;
 ghost use mathlib.Core.Path.{_≡_};
-ghost use mathlib.Core.Bool.{true};
-ghost use Prim.Native.Nat.{_≤_, _<_};
-ghost use lib.ListN.{length};
-ghost use Rattle.der.specs.Heading.{identifierGood};
+ghost use Prim.Native.Nat.{_<_};
 ghost use Rattle.crl.specs.Listed.{lists, listedOf};
-ghost use Rattle.crl.specs.Looks.{Short, Another};
+ghost use Rattle.crl.specs.Looks.{Another};
 
 // Whether an entry between two offsets of a CRL has a serial of those contents octets.
 pub fn listed(item: &[u8], from: usize, end: usize, serial: &[u8]) -> bool
@@ -64,27 +62,6 @@ fn passed_by(item: &[u8], at: usize, end: usize, serial: &[u8]) -> usize
         return next;
     }
     0
-}
-
-// The offset after the element at `at` if it has the tag, a length in the short form, and its end within `end`; else 0.
-fn short_element(item: &[u8], at: usize, end: usize, tag: u8) -> usize
-    requires { ⌜ (at ≤ end) × (end ≤ length (now item)) × (identifierGood tag ≡ true) ⌝ }
-    ensures { λ r. ⌜ (0 < r → Short (now (item .entry)) at end tag r) ⌝ }
-{
-    if end - at < 2 {
-        return 0;
-    }
-    if item[at] != tag {
-        return 0;
-    }
-    let size = item[at + 1] as usize;
-    if 128 <= size {
-        return 0;
-    }
-    if end - at - 2 < size {
-        return 0;
-    }
-    at + 2 + size
 }
 
 fn has_serial(item: &[u8], serial: &[u8], e: Element) -> bool

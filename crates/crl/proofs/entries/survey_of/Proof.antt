@@ -10,7 +10,7 @@ use lib.ListN.{length}
 use Rattle.elements.specs.Elements.{membersOf}
 use Rattle.elements.proofs.Members.{found-within, members-more}
 use Rattle.crl.specs.Entries.{surveyOf}
-use Rattle.crl.proofs.Surveys.{members-few, surveyWith, survey-starts, survey-done, survey-bad, survey-on, falls, stays, bare-adds, extended-adds}
+use Rattle.crl.proofs.Surveys.{members-few, surveyWith, survey-starts, survey-done, survey-bad, survey-on, falls, stays, bare-adds, extended-adds, usual-more, usual-less, usual-on}
 use Rattle.crl.proofs.entries.survey_of.Statement.{statement}
 use Rattle.crl.proofs.entries.survey_of.Tie as tie
 
@@ -23,6 +23,35 @@ abbrev μ-loop : tie.MeasureT-loop
 loop-holds : tie.Need-loop-holds Inv-loop μ-loop
 loop-holds c = (omega (arith, members-few (c .before .args .item .now) (c .before .args .from) (c .before .args .end)), survey-starts _ _ _)
 
+usual-time-requires : tie.Need-usual-time-requires Inv-loop μ-loop
+usual-time-requires c κs = search needs
+
+is-utc-requires : tie.Need-is-utc-requires Inv-loop μ-loop
+is-utc-requires c κs = (c .before .usual-time .ensures (c .if1 .taken)) .room
+
+add-count : tie.Need-add-count Inv-loop μ-loop
+add-count c = omega (arith, c .before .before .before .before .loop .inv .0, usual-more (c .before .before .before .usual-time .ensures (c .before .before .if1 .taken)))
+
+add-at : tie.Need-add-at Inv-loop μ-loop
+add-at c = omega (arith, (c .before .before .before .usual-time .ensures (c .before .before .if1 .taken)) .room)
+
+loop-less : tie.Need-loop-less Inv-loop μ-loop
+loop-less c = usual-less (c .before .before .before .usual-time .ensures (c .before .before .if1 .taken))
+
+loop-again : tie.Need-loop-again Inv-loop μ-loop
+loop-again c =
+    let was = c .before .before .before .before .loop in
+    let seen = c .before .before .before .usual-time .ensures (c .before .before .if1 .taken) in
+    let told = c .before .is-utc .ensures in (
+      omega (arith, was .inv .0, usual-more seen),
+      was .inv .1
+          ∙ usual-on seen _ _ _
+          (⊎-elim
+          (λ w. falls (was .timely) (sym told ∙ not-true _ (w .0 .taken)) (w .1))
+          (λ w. stays (was .timely) (sym told ∙ not-false _ (w .0 .left)) (w .1))
+          (c .if2 .came)),
+    )
+
 element-at-requires : tie.Need-element-at-requires Inv-loop μ-loop
 element-at-requires c κs = search needs
 
@@ -33,7 +62,7 @@ enum-told : tie.Need-enum-told Inv-loop μ-loop
 enum-told c = search needs
 
 returns : tie.Need-returns Inv-loop μ-loop
-returns c = sym (c .before .before .before .loop .inv .1 ∙ survey-done _ _ _ _ _ _ (sym (c .before .before .element-at .ensures) ∙ c .enum-told .given .1))
+returns c = sym (c .before .before .before .before .before .loop .inv .1 ∙ survey-done _ _ _ _ _ _ (sym (c .before .before .element-at .ensures) ∙ c .enum-told .given .1))
 
 entry-of-requires : tie.Need-entry-of-requires Inv-loop μ-loop
 entry-of-requires c κs = search needs
@@ -42,7 +71,7 @@ enum-told-2 : tie.Need-enum-told-2 Inv-loop μ-loop
 enum-told-2 c = search needs
 
 returns-2 : tie.Need-returns-2 Inv-loop μ-loop
-returns-2 c = sym (c .before .before .before .before .before .before .before .loop .inv .1 ∙ survey-bad _ _ _ _ _ _ (sym (c .before .before .before .before .before .before .element-at .ensures) ∙ c .before .before .before .before .e .given .1) (sym (c .before .before .entry-of .ensures) ∙ c .enum-told2 .given .1))
+returns-2 c = sym (c .before .before .before .before .before .before .before .before .before .loop .inv .1 ∙ survey-bad _ _ _ _ _ _ (sym (c .before .before .before .before .before .before .element-at .ensures) ∙ c .before .before .before .before .e .given .1) (sym (c .before .before .entry-of .ensures) ∙ c .enum-told2 .given .1))
 
 enum-known-time : tie.Need-enum-known-time Inv-loop μ-loop
 enum-known-time c = search needs
@@ -59,15 +88,15 @@ is-time-requires-2 c κs = search needs
 some-critical-requires : tie.Need-some-critical-requires Inv-loop μ-loop
 some-critical-requires c κs = search needs
 
-add-count : tie.Need-add-count Inv-loop μ-loop
-add-count c = omega (arith, c .before .before .before .before .before .before .loop .inv .0, ap length (members-more _ _ _ (sym (c .before .before .before .before .before .element-at .ensures) ∙ c .before .before .before .e .given .1)))
+add-count-2 : tie.Need-add-count-2 Inv-loop μ-loop
+add-count-2 c = omega (arith, c .before .before .before .before .before .before .before .before .loop .inv .0, ap length (members-more _ _ _ (sym (c .before .before .before .before .before .element-at .ensures) ∙ c .before .before .before .e .given .1)))
 
-loop-less : tie.Need-loop-less Inv-loop μ-loop
-loop-less c = omega (arith, found-within _ _ _ (sym (c .before .before .before .before .before .element-at .ensures) ∙ c .before .before .before .e .given .1))
+loop-less-2 : tie.Need-loop-less-2 Inv-loop μ-loop
+loop-less-2 c = omega (arith, found-within _ _ _ (sym (c .before .before .before .before .before .element-at .ensures) ∙ c .before .before .before .e .given .1))
 
-loop-again : tie.Need-loop-again Inv-loop μ-loop
-loop-again c =
-    let was = c .before .before .before .before .before .before .loop in
+loop-again-2 : tie.Need-loop-again-2 Inv-loop μ-loop
+loop-again-2 c =
+    let was = c .before .before .before .before .before .before .before .before .loop in
     let found = sym (c .before .before .before .before .before .element-at .ensures) ∙ c .before .before .before .e .given .1 in
     let entry = sym (c .before .entry-of .ensures) in (
       omega (arith, was .inv .0, ap length (members-more _ _ _ found)),
@@ -90,6 +119,12 @@ survey-of-spec =
     Inv-loop
     μ-loop
     loop-holds
+    usual-time-requires
+    is-utc-requires
+    add-count
+    add-at
+    loop-less
+    loop-again
     element-at-requires
     enum-known-e
     enum-told
@@ -102,6 +137,6 @@ survey-of-spec =
     enum-known-time-2
     is-time-requires-2
     some-critical-requires
-    add-count
-    loop-less
-    loop-again)
+    add-count-2
+    loop-less-2
+    loop-again-2)

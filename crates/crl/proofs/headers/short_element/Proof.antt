@@ -3,8 +3,8 @@ use Prim.Native.Nat.{_+_}
 use native.Mathlib.Omega.{arith}
 use Rattle.crl.proofs.Looks.{short-found}
 use borrow.Author.Needs.{needs}
-use Rattle.crl.proofs.listing.short_element.Statement.{statement}
-use Rattle.crl.proofs.listing.short_element.Tie as tie
+use Rattle.crl.proofs.headers.short_element.Statement.{statement}
+use Rattle.crl.proofs.headers.short_element.Tie as tie
 
 sub-if1 : tie.Need-sub-if1
 sub-if1 c = search needs
