@@ -14,6 +14,7 @@ use Rattle.der.specs.Heading.{identifierGood, headingOf}
 use Rattle.der.specs.Member.{placed, memberOf}
 use Rattle.der.proofs.Laws.{short-header}
 use Rattle.elements.specs.declared.elements.Element.{Element}
+use Rattle.elements.specs.declared.elements.Found.the-variants.{One}
 use Rattle.elements.specs.Elements.{stepped, foundAt, foundTagged, onFound, membersOf, contentsOf}
 use Rattle.elements.specs.Octets.{alike}
 use Rattle.elements.proofs.Likeness.{unequal-unlike, unlike-length}
@@ -21,7 +22,7 @@ use Rattle.elements.proofs.Members.{tag-kept, found-within, members-more}
 use Rattle.times.specs.Times.{timeAt, timeTag}
 use Rattle.crl.specs.Entries.{entryOf}
 use Rattle.crl.specs.Listed.{lists, someLists}
-use Rattle.crl.specs.Looks.{Short, Usual, Another}
+use Rattle.crl.specs.Looks.{utcAt, Short, Usual, Another}
 
 module _ (s : List ℕ) (at end : ℕ) (before : at ≤ end) (inside : end ≤ length s) where
   abbrev part : List ℕ
@@ -88,19 +89,27 @@ module _ {s : List ℕ} {at end : ℕ} {serial : List ℕ} {r : ℕ} (a : Anothe
   pub farther : end - r < end - at
   farther = omega (arith, a .ends, found-within s at end (a .found))
 
+utc-found : (s : List ℕ) (time : ℕ) → time + 15 ≤ length s → getD s time 0 ≡ 0x17 → getD s (time + 1) 0 ≡ 13
+    → foundAt s time (time + 15) ≡ One (utcAt time)
+unfolding identifierGood
+utc-found s time room tag size =
+    let end-is : time + 2 + getD s (time + 1) 0 ≡ time + 15 = omega (arith, size) in
+    rw end-is at (short-found s time (time + 15) (omega arith) room 0x17 (omega arith) refl tag (omega (arith, size)) (omega (arith, size)) .found)
+
 -- a serial and a UTCTime that ends with the entry are the whole of it
-module _ {s : List ℕ} {at end time : ℕ} (inside : end ≤ length s) where
-  usual-at : Short s at end 0x30 (time + 15) → Short s (at + 2) (time + 15) 0x02 time → Short s time (time + 15) 0x17 (time + 15) → Usual s at end time
+module _ {s : List ℕ} {at end time : ℕ} (inside : end ≤ length s) (tag : getD s time 0 ≡ 0x17) (size : getD s (time + 1) 0 ≡ 13) where
+  usual-at : Short s at end 0x30 (time + 15) → Short s (at + 2) (time + 15) 0x02 time → Usual s at end time
   unfolding entryOf foundTagged timeAt timeTag onFound
-  usual-at entry first last =
+  usual-at entry first =
+      let room : time + 15 ≤ length s = omega (arith, entry .high) in
       record {
-        room = omega (arith, entry .high);
+        room = room;
         entry = record { tag = 0x30; at = at; contents = at + 2; end = time + 15 };
         found = entry .found;
         ends = refl;
         serial = record { tag = 0x02; at = at + 2; contents = at + 2 + 2; end = time };
-        bare = simp (tag-kept 0x02 (first .found) refl, last .found, eq-eqb (time + 15) (time + 15) refl);
+        bare = simp (tag-kept 0x02 (first .found) refl, utc-found s time room tag size, eq-eqb (time + 15) (time + 15) refl);
       }
 
-  pub usual : {next : ℕ} → next ≡ time + 15 → Short s at end 0x30 next → Short s (at + 2) next 0x02 time → Short s time next 0x17 next → Usual s at end time
-  usual long entry first last = usual-at (rw long at entry) (rw long at first) (rw long at last)
+  pub usual : {next : ℕ} → next ≡ time + 15 → Short s at end 0x30 next → Short s (at + 2) next 0x02 time → Usual s at end time
+  usual long entry first = usual-at (rw long at entry) (rw long at first)

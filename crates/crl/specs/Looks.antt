@@ -1,15 +1,15 @@
 -- What a quick look at an entry can tell.
-use Prim.Native.Nat.{ℕ, _+_, _≤_}
+use Prim.Native.Nat.{ℕ, _+_, _-_, _≤_}
 use mathlib.Core.Bool.{false}
 use mathlib.Core.List.{List}
 use mathlib.Core.Path.{_≡_}
 use lib.ListN.{length}
 use Rattle.elements.specs.declared.elements.Element.{Element}
 use Rattle.elements.specs.declared.elements.Found.the-variants.{One}
-use Rattle.elements.specs.Elements.{foundAt}
+use Rattle.elements.specs.Elements.{foundAt, membersOf}
 use Rattle.crl.specs.declared.entries.Entry.the-variants.{Bare}
 use Rattle.crl.specs.Entries.{entryOf}
-use Rattle.crl.specs.Listed.{lists}
+use Rattle.crl.specs.Listed.{lists, someLists}
 
 -- an element with a length in the short form stands at `at` and ends at r
 pub record Short (s : List ℕ) (at end tag r : ℕ) : Type 0 where
@@ -36,3 +36,8 @@ pub record Another (s : List ℕ) (at end : ℕ) (serial : List ℕ) (r : ℕ) :
   pub found : foundAt s at end ≡ One entry
   pub ends : entry .end ≡ r
   pub other : lists s serial entry ≡ false
+
+-- none of the entries from `from` to r has the serial
+pub record NoneBefore (s : List ℕ) (from end : ℕ) (serial : List ℕ) (r : ℕ) : Type 0 where
+  pub none : someLists s serial (membersOf s from end) ≡ someLists s serial (membersOf s r end)
+  pub nearer : end - r ≤ end - from

@@ -108,10 +108,13 @@ fn usual_time(item: &[u8], at: usize, end: usize) -> usize
     if time == 0 {
         return 0;
     }
-    if short_element(item, time, next, 0x17) != next {
+    if next - time != 15 {
         return 0;
     }
-    if next - time != 15 {
+    if item[time] != 0x17 {
+        return 0;
+    }
+    if item[time + 1] != 13 {
         return 0;
     }
     time

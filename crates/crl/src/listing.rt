@@ -9,7 +9,7 @@ use elements::same;
 ghost use mathlib.Core.Path.{_≡_};
 ghost use Prim.Native.Nat.{_<_};
 ghost use Rattle.crl.specs.Listed.{lists, listedOf};
-ghost use Rattle.crl.specs.Looks.{Another};
+ghost use Rattle.crl.specs.Looks.{Another, NoneBefore};
 
 // Whether an entry between two offsets of a CRL has a serial of those contents octets.
 pub fn listed(item: &[u8], from: usize, end: usize, serial: &[u8]) -> bool
@@ -17,11 +17,7 @@ pub fn listed(item: &[u8], from: usize, end: usize, serial: &[u8]) -> bool
 {
     let mut at = from;
     loop {
-        let next = passed_by(item, at, end, serial);
-        if 0 < next {
-            at = next;
-            continue;
-        }
+        at = first_like(item, at, end, serial);
         let Found::One(e) = element_at(item, at, end) else {
             return false;
         };
@@ -29,6 +25,20 @@ pub fn listed(item: &[u8], from: usize, end: usize, serial: &[u8]) -> bool
             return true;
         }
         at = e.end;
+    }
+}
+
+// The offset of the first entry from `from` on that a quick look does not show to be another, or of the end of the list.
+fn first_like(item: &[u8], from: usize, end: usize, serial: &[u8]) -> usize
+    ensures { λ r. ⌜ NoneBefore (now (item .entry)) from end (now (serial .entry)) r ⌝ }
+{
+    let mut at = from;
+    loop {
+        let next = passed_by(item, at, end, serial);
+        if next == 0 {
+            return at;
+        }
+        at = next;
     }
 }
 

@@ -30,24 +30,32 @@ short-element-requires-2 c κs = let entry = c .before .short-element .ensures (
 returns-4 : tie.Need-returns-4
 returns-4 c = λ some. absurd (omega arith)
 
-short-element-requires-3 : tie.Need-short-element-requires-3
-unfolding identifierGood
-short-element-requires-3 c κs = let entry = c .before .before .before .short-element .ensures (omega arith) in let first = c .before .short-element2 .ensures (omega arith) in (first .high, omega (arith, entry .high, c .before .before .before .before .before .if1 .left), refl)
+sub-if5 : tie.Need-sub-if5
+sub-if5 c = let first = c .before .short-element2 .ensures (omega arith) in first .high
 
 returns-5 : tie.Need-returns-5
 returns-5 c = λ some. absurd (omega arith)
 
-sub-if6 : tie.Need-sub-if6
-sub-if6 c = let first = c .before .before .before .short-element2 .ensures (omega arith) in first .high
+shared-slice-read-if6 : tie.Need-shared-slice-read-if6
+shared-slice-read-if6 c = let entry = c .before .before .before .before .before .short-element .ensures (omega arith) in let first = c .before .before .before .short-element2 .ensures (omega arith) in omega (arith, entry .high, first .high, c .before .before .before .before .before .before .before .if1 .left, c .before .if5 .left)
 
 returns-6 : tie.Need-returns-6
 returns-6 c = λ some. absurd (omega arith)
 
+add-if7 : tie.Need-add-if7
+add-if7 c = search needs
+
+shared-slice-read-if7 : tie.Need-shared-slice-read-if7
+shared-slice-read-if7 c = let entry = c .before .before .before .before .before .before .before .short-element .ensures (omega arith) in let first = c .before .before .before .before .before .short-element2 .ensures (omega arith) in omega (arith, entry .high, first .high, c .before .before .before .before .before .before .before .before .before .if1 .left, c .before .before .before .if5 .left)
+
 returns-7 : tie.Need-returns-7
-returns-7 c = λ some.
-    let entry = c .before .before .before .before .before .before .short-element .ensures (omega arith) in
-    let first = c .before .before .before .before .short-element2 .ensures (omega arith) in
-    usual (c .before .before .before .before .before .before .before .before .if1 .left) (omega (arith, first .high, c .if6 .left)) entry first (rw (c .before .if5 .left) at (c .before .before .short-element3 .ensures (omega (arith, c .before .if5 .left, c .before .before .before .before .before .if3 .left))))
+returns-7 c = λ some. absurd (omega arith)
+
+returns-8 : tie.Need-returns-8
+returns-8 c = λ some.
+    let entry = c .before .before .before .before .before .before .before .before .short-element .ensures (omega arith) in
+    let first = c .before .before .before .before .before .before .short-element2 .ensures (omega arith) in
+    usual (c .before .before .before .before .before .before .before .before .before .before .if1 .left) (c .before .before .if6 .left) (c .if7 .left) (omega (arith, first .high, c .before .before .before .before .if5 .left)) entry first
 
 pub usual-time-spec : {M : Type 1} → statement M
 usual-time-spec =
@@ -60,8 +68,11 @@ usual-time-spec =
     add-short-element
     short-element-requires-2
     returns-4
-    short-element-requires-3
+    sub-if5
     returns-5
-    sub-if6
+    shared-slice-read-if6
     returns-6
-    returns-7)
+    add-if7
+    shared-slice-read-if7
+    returns-7
+    returns-8)

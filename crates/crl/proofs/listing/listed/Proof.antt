@@ -2,11 +2,10 @@
 use Prim.Native.Nat.{_-_}
 use mathlib.Core.Path.{_≡_, refl, sym, _∙_}
 use native.Mathlib.Omega.{arith}
+use borrow.Author.Needs.{needs}
 use Rattle.elements.specs.Elements.{membersOf}
 use Rattle.elements.proofs.Members.{found-within, members-none, members-more}
 use Rattle.crl.specs.Listed.{someLists, listedOf}
-use Rattle.crl.proofs.Looks.{none-lost, farther}
-use borrow.Author.Needs.{needs}
 use Rattle.crl.proofs.listing.listed.Statement.{statement}
 use Rattle.crl.proofs.listing.listed.Tie as tie
 
@@ -20,14 +19,8 @@ loop-holds : tie.Need-loop-holds Inv-loop μ-loop
 unfolding listedOf
 loop-holds c = refl
 
-passed-by-requires : tie.Need-passed-by-requires Inv-loop μ-loop
-passed-by-requires c κs = search needs
-
-loop-less : tie.Need-loop-less Inv-loop μ-loop
-loop-less c = farther (c .before .passed-by .ensures (c .if1 .taken))
-
-loop-again : tie.Need-loop-again Inv-loop μ-loop
-loop-again c = c .before .before .loop .inv ∙ none-lost (c .before .passed-by .ensures (c .if1 .taken))
+first-like-requires : tie.Need-first-like-requires Inv-loop μ-loop
+first-like-requires c κs = search needs
 
 element-at-requires : tie.Need-element-at-requires Inv-loop μ-loop
 element-at-requires c κs = search needs
@@ -40,21 +33,21 @@ enum-told c = search needs
 
 returns : tie.Need-returns Inv-loop μ-loop
 unfolding someLists
-returns c = sym (c .before .before .before .before .before .loop .inv ∙ rw (members-none _ _ _ (sym (c .before .before .element-at .ensures) ∙ c .enum-told .given .1)))
+returns c = sym (c .before .before .before .before .loop .inv ∙ c .before .before .before .first-like .ensures .none ∙ rw (members-none _ _ _ (sym (c .before .before .element-at .ensures) ∙ c .enum-told .given .1)))
 
 has-serial-requires : tie.Need-has-serial-requires Inv-loop μ-loop
 has-serial-requires c κs = search needs
 
 returns-2 : tie.Need-returns-2 Inv-loop μ-loop
 unfolding someLists
-returns-2 c = sym (c .before .before .before .before .before .before .before .before .loop .inv ∙ rw (members-more _ _ _ (sym (c .before .before .before .before .before .element-at .ensures) ∙ c .before .before .before .e .given .1), ← c .before .has-serial .ensures, c .if2 .taken))
+returns-2 c = sym (c .before .before .before .before .before .before .before .loop .inv ∙ c .before .before .before .before .before .before .first-like .ensures .none ∙ rw (members-more _ _ _ (sym (c .before .before .before .before .before .element-at .ensures) ∙ c .before .before .before .e .given .1), ← c .before .has-serial .ensures, c .if1 .taken))
 
-loop-less-2 : tie.Need-loop-less-2 Inv-loop μ-loop
-loop-less-2 c = omega (arith, found-within _ _ _ (sym (c .before .before .before .before .before .element-at .ensures) ∙ c .before .before .before .e .given .1))
+loop-less : tie.Need-loop-less Inv-loop μ-loop
+loop-less c = omega (arith, c .before .before .before .before .before .before .first-like .ensures .nearer, found-within _ _ _ (sym (c .before .before .before .before .before .element-at .ensures) ∙ c .before .before .before .e .given .1))
 
-loop-again-2 : tie.Need-loop-again-2 Inv-loop μ-loop
+loop-again : tie.Need-loop-again Inv-loop μ-loop
 unfolding someLists
-loop-again-2 c = c .before .before .before .before .before .before .before .before .loop .inv ∙ rw (members-more _ _ _ (sym (c .before .before .before .before .before .element-at .ensures) ∙ c .before .before .before .e .given .1), ← c .before .has-serial .ensures, c .if2 .left)
+loop-again c = c .before .before .before .before .before .before .before .loop .inv ∙ c .before .before .before .before .before .before .first-like .ensures .none ∙ rw (members-more _ _ _ (sym (c .before .before .before .before .before .element-at .ensures) ∙ c .before .before .before .e .given .1), ← c .before .has-serial .ensures, c .if1 .left)
 
 pub listed-spec : {M : Type 1} → statement M
 listed-spec =
@@ -63,14 +56,12 @@ listed-spec =
     Inv-loop
     μ-loop
     loop-holds
-    passed-by-requires
-    loop-less
-    loop-again
+    first-like-requires
     element-at-requires
     enum-known-e
     enum-told
     returns
     has-serial-requires
     returns-2
-    loop-less-2
-    loop-again-2)
+    loop-less
+    loop-again)
