@@ -103,7 +103,7 @@ fn leap_year(year: u64) -> bool
 
 // The days of a month of a year, 0 for a month that is none. To July the odd months are the long ones, from August
 // the even.
-fn month_length(year: u64, month: u64) -> u64
+pub fn month_length(year: u64, month: u64) -> u64
     ensures { λ r. ⌜ r ≡ monthLength year month ⌝ }
 {
     if month == 2 {

@@ -2,5 +2,5 @@ pub mod Chains
 pub mod Surveys
 pub mod Firsts
 pub mod Serials
+pub mod Looks
 pub mod Theorems
-pub mod Plains

@@ -1,8 +1,8 @@
 -- The entries that are left, with what was found of those before them, come to what all of them come to.
-use Prim.Native.Nat.{ℕ, zero, suc, _+_, _≤_}
+use Prim.Native.Nat.{ℕ, zero, suc, _+_, _-_, _<_, _≤_}
 use mathlib.Core.Bool.{Bool, true, false, cond, _&&_, not, and-true, and-assoc}
 use mathlib.Core.List.{List, [], _∷_}
-use mathlib.Core.Path.{_≡_, refl, sym, ap, _∙_}
+use mathlib.Core.Path.{_≡_, refl, ap, sym, _∙_}
 use native.Mathlib.Omega.{arith}
 use lib.ListN.{length}
 use Rattle.elements.specs.declared.elements.Element.{Element}
@@ -11,11 +11,12 @@ use Rattle.elements.specs.declared.elements.Found.the-variants.{One, Missing}
 use Rattle.elements.specs.Elements.{foundAt, onFound, membersIn, membersOf}
 use Rattle.extensions.specs.Extensions.{criticalOf}
 use Rattle.times.specs.Times.{timeOf}
-use Rattle.elements.proofs.Members.{members-none, members-more}
+use Rattle.elements.proofs.Members.{found-within, members-none, members-more}
 use Rattle.crl.specs.declared.entries.Entry.the-variants.{Bare, Extended, Misshapen}
 use Rattle.crl.specs.declared.entries.Survey.{Survey}
 use Rattle.crl.specs.declared.entries.Survey.the-variants.{Entries, Shapeless}
-use Rattle.crl.specs.Entries.{entryOf, shaped, isTime, timely, calm, allShaped, allTimely, allCalm, surveyOf, Plain}
+use Rattle.crl.specs.Looks.{utcAt, Usual}
+use Rattle.crl.specs.Entries.{entryOf, shaped, isTime, timely, calm, allShaped, allTimely, allCalm, surveyOf}
 
 -- there are no more members than octets
 members-in-few : (fuel : ℕ) (s : List ℕ) (from end : ℕ) → length (membersIn fuel s from end) ≤ fuel
@@ -83,12 +84,14 @@ module _ {s : List ℕ} {e serial time : Element} {times quiet times' quiet' : B
   unfolding shaped timely calm
   extended-adds h t q = record { fit = rw h; timed = rw (h, t); calmed = rw (h, q) }
 
--- an entry that has nothing to tell is counted
-pub plain-on :
-    (s : List ℕ) (from end count : ℕ) (times quiet : Bool) (at : ℕ) {past : ℕ} → Plain s at end past
-    → (count + length (membersOf s at end) ≤ length s) × (surveyOf s from end ≡ surveyWith s count times quiet (membersOf s at end))
-    → (count + 1 + length (membersOf s past end) ≤ length s) × (surveyOf s from end ≡ surveyWith s (count + 1) times quiet (membersOf s past end))
-plain-on s from end count times quiet at p (room, is) =
-    let adds : Adds s (p .e) times quiet times quiet =
-    record { fit = p .fit; timed = stays times (p .timed) refl; calmed = stays quiet (p .calmed) refl } in
-    rw (sym (p .ends)) (omega (arith, room, ap length (members-more s at end (p .found))), is ∙ survey-on s count times quiet at end (p .found) adds)
+-- a usual entry adds its time
+module _ {s : List ℕ} {at end r : ℕ} (u : Usual s at end r) where
+  pub usual-more : length (membersOf s at end) ≡ suc (length (membersOf s (r + 15) end))
+  usual-more = rw (u .ends) at (ap length (members-more s at end (u .found)))
+
+  pub usual-less : end - (r + 15) < end - at
+  usual-less = omega (arith, u .ends, found-within s at end (u .found))
+
+  pub usual-on : (count : ℕ) (times quiet : Bool) {times' : Bool} → times' ≡ (times && isTime (timeOf s (utcAt r)))
+      → surveyWith s count times quiet (membersOf s at end) ≡ surveyWith s (count + 1) times' quiet (membersOf s (r + 15) end)
+  usual-on count times quiet t = rw (u .ends) at (survey-on s count times quiet at end (u .found) (bare-adds (u .bare) t refl))

@@ -2,14 +2,12 @@
 use Prim.Native.Nat.{ℕ}
 use mathlib.Core.Bool.{Bool, true, false, cond, _&&_, not}
 use mathlib.Core.List.{List, [], _∷_}
-use mathlib.Core.Path.{_≡_}
 use lib.Dec.{eqb}
 use lib.ListN.{length}
 use Rattle.elements.specs.declared.elements.Element.{Element}
 use Rattle.times.specs.declared.Time.{Time}
 use Rattle.times.specs.declared.Time.the-variants.{Moment, Untimely}
-use Rattle.elements.specs.declared.elements.Found.the-variants.{One}
-use Rattle.elements.specs.Elements.{foundAt, foundTagged, onFound, membersOf}
+use Rattle.elements.specs.Elements.{foundTagged, onFound, membersOf}
 use Rattle.extensions.specs.Extensions.{extensionsShaped, criticalOf}
 use Rattle.times.specs.Times.{timeAt, timeOf}
 use Rattle.crl.specs.declared.entries.Entry.{Entry}
@@ -51,15 +49,6 @@ unfoldable pub calm : List ℕ → Entry → Bool
 calm s Misshapen = true
 calm s (Bare serial time) = true
 calm s (Extended serial time extensions) = not (criticalOf s extensions false)
-
--- an entry at `at` that ends at `r` and has nothing to tell but that it is there
-pub record Plain (s : List ℕ) (at end r : ℕ) : Type 0 where
-  pub e : Element
-  pub found : foundAt s at end ≡ One e
-  pub ends : e .end ≡ r
-  pub fit : shaped (entryOf s e) ≡ true
-  pub timed : timely s (entryOf s e) ≡ true
-  pub calmed : calm s (entryOf s e) ≡ true
 
 unfoldable pub allShaped : List ℕ → List Element → Bool
 allShaped s [] = true

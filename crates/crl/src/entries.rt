@@ -10,8 +10,10 @@ use times::Time;
 use times::time_at;
 use times::time_of;
 ghost use mathlib.Core.Path.{_≡_};
-ghost use Prim.Native.Nat.{_<_};
-ghost use Rattle.crl.specs.Entries.{isTime, entryOf, surveyOf, Plain};
+ghost use Prim.Native.Nat.{_+_, _≤_, _<_};
+ghost use lib.ListN.{length};
+ghost use Rattle.crl.specs.Entries.{isTime, entryOf, surveyOf};
+ghost use Rattle.crl.specs.Looks.{utcAt, Usual};
 ghost use Rattle.times.specs.Times.{timeOf};
 
 // An entry's serial, time and extensions.
@@ -46,10 +48,13 @@ pub(crate) fn survey_of(item: &[u8], from: usize, end: usize) -> Survey
     let mut calm = true;
     let mut at = from;
     loop {
-        let past = plain_entry(item, at, end);
-        if 0 < past {
+        let time = usual_time(item, at, end);
+        if 0 < time {
+            if !is_utc(item, time) {
+                timely = false;
+            }
             count += 1;
-            at = past;
+            at = time + 15;
             continue;
         }
         let Found::One(e) = element_at(item, at, end) else {
@@ -84,33 +89,29 @@ pub(crate) fn survey_of(item: &[u8], from: usize, end: usize) -> Survey
     }
 }
 
-// Where the entry at `at` ends if it is SEQUENCE {INTEGER, UTCTime} with short headers and its time is one; else 0.
-fn plain_entry(item: &[u8], at: usize, end: usize) -> usize
-    ensures { λ r. ⌜ (0 < r → Plain (now (item .entry)) at end r) ⌝ }
+// The offset of the time of the entry at `at` if the entry is a serial and a UTCTime of 13 octets, each length in the
+// short form; else 0.
+fn usual_time(item: &[u8], at: usize, end: usize) -> usize
+    ensures { λ r. ⌜ (0 < r → Usual (now (item .entry)) at end r) ⌝ }
 {
-    let after = short_end(item, at, end, 0x30);
-    if after == 0 {
+    let next = short_end(item, at, end, 0x30);
+    if next == 0 {
         return 0;
     }
-    let time = short_end(item, at + 2, after, 0x02);
+    let time = short_end(item, at + 2, next, 0x02);
     if time == 0 {
         return 0;
     }
-    if short_end(item, time, after, 0x17) != after {
+    if next - time != 15 {
         return 0;
     }
-    if is_time(
-        item,
-        Element {
-            tag: 0x17,
-            at: time,
-            contents: time + 2,
-            end: after,
-        },
-    ) {
-        return after;
+    if item[time] != 0x17 {
+        return 0;
     }
-    0
+    if item[time + 1] != 13 {
+        return 0;
+    }
+    time
 }
 
 // SEQUENCE {INTEGER, time, optional SEQUENCE of extensions}.
@@ -143,6 +144,20 @@ fn entry_of(item: &[u8], e: Element) -> Entry
         };
     }
     Entry::Misshapen
+}
+
+// Whether the UTCTime of 13 octets at an offset is a time.
+fn is_utc(item: &[u8], at: usize) -> bool
+    requires { ⌜ at + 15 ≤ length (now item) ⌝ }
+    ensures { λ r. ⌜ r ≡ isTime (timeOf (now (item .entry)) (utcAt at)) ⌝ }
+{
+    let e = Element {
+        tag: 0x17,
+        at,
+        contents: at + 2,
+        end: at + 15,
+    };
+    is_time(item, e)
 }
 
 fn is_time(item: &[u8], time: Element) -> bool

@@ -5,8 +5,11 @@ use elements::contents;
 use elements::element_at;
 use elements::element_tagged;
 use elements::same;
+use elements::short_end;
 ghost use mathlib.Core.Path.{_≡_};
+ghost use Prim.Native.Nat.{_<_};
 ghost use Rattle.crl.specs.Listed.{lists, listedOf};
+ghost use Rattle.crl.specs.Looks.{Another, NoneBefore};
 
 // Whether an entry between two offsets of a CRL has a serial of those contents octets.
 pub fn listed(item: &[u8], from: usize, end: usize, serial: &[u8]) -> bool
@@ -14,6 +17,7 @@ pub fn listed(item: &[u8], from: usize, end: usize, serial: &[u8]) -> bool
 {
     let mut at = from;
     loop {
+        at = first_like(item, at, end, serial);
         let Found::One(e) = element_at(item, at, end) else {
             return false;
         };
@@ -22,6 +26,46 @@ pub fn listed(item: &[u8], from: usize, end: usize, serial: &[u8]) -> bool
         }
         at = e.end;
     }
+}
+
+// The offset of the first entry from `from` on that a quick look does not show to be another, or of the end of the list.
+fn first_like(item: &[u8], from: usize, end: usize, serial: &[u8]) -> usize
+    ensures { λ r. ⌜ NoneBefore (now (item .entry)) from end (now (serial .entry)) r ⌝ }
+{
+    let mut at = from;
+    loop {
+        let next = passed_by(item, at, end, serial);
+        if next == 0 {
+            return at;
+        }
+        at = next;
+    }
+}
+
+// The offset after the entry at `at` if the length of its serial or the last octet shows that it is another; 0 where
+// these do not tell, or a length is in the long form.
+fn passed_by(item: &[u8], at: usize, end: usize, serial: &[u8]) -> usize
+    ensures { λ r. ⌜ (0 < r → Another (now (item .entry)) at end (now (serial .entry)) r) ⌝ }
+{
+    let next = short_end(item, at, end, 0x30);
+    if next == 0 {
+        return 0;
+    }
+    let after = short_end(item, at + 2, next, 0x02);
+    if after == 0 {
+        return 0;
+    }
+    let size = after - at - 4;
+    if size != serial.len() {
+        return next;
+    }
+    if size == 0 {
+        return 0;
+    }
+    if item[after - 1] != serial[size - 1] {
+        return next;
+    }
+    0
 }
 
 fn has_serial(item: &[u8], serial: &[u8], e: Element) -> bool

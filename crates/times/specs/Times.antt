@@ -8,11 +8,14 @@ use Rattle.calendar.specs.Days.{realMoment}
 use Rattle.elements.specs.declared.elements.Element.{Element}
 use Rattle.times.specs.declared.Time.{Time}
 use Rattle.times.specs.declared.Time.the-variants.{Moment, Untimely}
-use Rattle.times.specs.declared.Figures.{Figures}
-use Rattle.times.specs.declared.Figures.the-variants.{Number, Wordy}
 use Rattle.elements.specs.declared.elements.Found.{Found}
 use Rattle.elements.specs.declared.elements.Found.the-variants.{One, Missing}
 use Rattle.elements.specs.Elements.{foundAt, onFound, contentsOf}
+
+-- the number that some digits write
+pub data Figures : Type 0 where
+  Number : ℕ → Figures
+  Wordy : Figures
 
 -- the number that goes on from n by decimal digits
 unfoldable pub figures : ℕ → List ℕ → Figures
@@ -24,6 +27,10 @@ decimalOf c = figures 0 c
 
 unfoldable pub realTime : ℕ → Time
 realTime moment = cond (realMoment 0 9999 moment) (Moment moment) Untimely
+
+unfoldable pub realNumber : Figures → Time
+realNumber Wordy = Untimely
+realNumber (Number n) = realTime n
 
 -- 00 to 49 mean 2000 to 2049, 50 to 99 mean 1950 to 1999
 unfoldable pub inCentury : Figures → Time

@@ -1,23 +1,18 @@
 // Times, as numbers YYYYMMDDHHMMSS.
-use calendar::any_moment;
+use calendar::month_length;
 use elements::Element;
 use elements::Found;
 use elements::contents;
 use elements::element_at;
 ghost use mathlib.Core.Path.{_≡_};
-ghost use Rattle.times.specs.Times.{decimalOf, realTime, timeIn, timeOf, timeTag, momentOf, inOrder, timeAt};
+ghost use Rattle.times.specs.Times.{figures, realNumber, timeOf, timeTag, momentOf, inOrder, timeAt};
+ghost use Rattle.times.specs.Pairs.{Pair, YearOf};
 ghost use Prim.Native.Nat.{_≤_};
 ghost use lib.ListN.{length};
 
 pub enum Time {
     Moment(u64),
     Untimely,
-}
-
-// The number that some digits write.
-enum Figures {
-    Number(u64),
-    Wordy,
 }
 
 // Whether a tag is that of a UTCTime or a GeneralizedTime.
@@ -34,79 +29,119 @@ pub fn time_tag(tag: u8) -> bool
 pub fn time_of(item: &[u8], e: Element) -> Time
     ensures { λ r. ⌜ r ≡ timeOf (now (item .entry)) e ⌝ }
 {
-    if e.tag == 0x17 {
-        return utc(contents(item, e));
+    let c = contents(item, e);
+    let year = year_of(e.tag, c);
+    if 9999 < year {
+        return Time::Untimely;
     }
-    if e.tag == 0x18 {
-        return generalized(contents(item, e));
-    }
-    Time::Untimely
+    let from = c.len() - 11;
+    let end = from + 10;
+    within(year, &c[from..end])
 }
 
-fn utc(c: &[u8]) -> Time
-    ensures { λ r. ⌜ r ≡ timeIn 0x17 (now (c .entry)) ⌝ }
+// The year at the front of a time, with ten octets and a Z after it; 10000 where there is none.
+fn year_of(tag: u8, c: &[u8]) -> u64
+    ensures { λ r. ⌜ YearOf tag (now (c .entry)) r ⌝ }
+{
+    match tag {
+        0x17 => short_year(c),
+        0x18 => full_year(c),
+        _ => 10000,
+    }
+}
+
+// Two digits: 00 to 49 mean 2000 to 2049, 50 to 99 mean 1950 to 1999.
+fn short_year(c: &[u8]) -> u64
+    ensures { λ r. ⌜ YearOf 0x17 (now (c .entry)) r ⌝ }
 {
     if c.len() != 13 {
-        return Time::Untimely;
+        return 10000;
     }
     if c[12] != 90 {
-        return Time::Untimely;
+        return 10000;
     }
-    let Figures::Number(n) = decimal(&c[0..12]) else {
-        return Time::Untimely;
-    };
-    if n < 500000000000 {
-        return real(n + 20000000000000);
+    let year = pair(c[0], c[1]);
+    if year < 50 {
+        return 2000 + year;
     }
-    real(n + 19000000000000)
+    if year < 100 {
+        return 1900 + year;
+    }
+    10000
 }
 
-fn generalized(c: &[u8]) -> Time
-    ensures { λ r. ⌜ r ≡ timeIn 0x18 (now (c .entry)) ⌝ }
+// Four digits, 2050 or more.
+fn full_year(c: &[u8]) -> u64
+    ensures { λ r. ⌜ YearOf 0x18 (now (c .entry)) r ⌝ }
 {
     if c.len() != 15 {
-        return Time::Untimely;
+        return 10000;
     }
     if c[14] != 90 {
-        return Time::Untimely;
+        return 10000;
     }
-    let Figures::Number(n) = decimal(&c[0..14]) else {
-        return Time::Untimely;
-    };
-    if n < 20500000000000 {
-        return Time::Untimely;
+    let century = pair(c[0], c[1]);
+    if 99 < century {
+        return 10000;
     }
-    real(n)
+    let rest = pair(c[2], c[3]);
+    if 99 < rest {
+        return 10000;
+    }
+    let year = century * 100 + rest;
+    if year < 2050 {
+        return 10000;
+    }
+    year
 }
 
-fn real(moment: u64) -> Time
-    ensures { λ r. ⌜ r ≡ realTime moment ⌝ }
+// The time in a year that ten digits write: month, day, hour, minute and second.
+fn within(year: u64, c: &[u8]) -> Time
+    requires { ⌜ (year ≤ 9999) × (length (now c) ≡ 10) ⌝ }
+    ensures { λ r. ⌜ r ≡ realNumber (figures year (now (c .entry))) ⌝ }
 {
-    if any_moment(moment) {
-        return Time::Moment(moment);
+    let month = pair(c[0], c[1]);
+    if 12 < month {
+        return Time::Untimely;
     }
-    Time::Untimely
+    let day = pair(c[2], c[3]);
+    if day < 1 {
+        return Time::Untimely;
+    }
+    if month_length(year, month) < day {
+        return Time::Untimely;
+    }
+    let hour = pair(c[4], c[5]);
+    if 23 < hour {
+        return Time::Untimely;
+    }
+    let minute = pair(c[6], c[7]);
+    if 59 < minute {
+        return Time::Untimely;
+    }
+    let second = pair(c[8], c[9]);
+    if 59 < second {
+        return Time::Untimely;
+    }
+    let date = (year * 100 + month) * 100 + day;
+    Time::Moment(((date * 100 + hour) * 100 + minute) * 100 + second)
 }
 
-// The number that at most fourteen digits write.
-fn decimal(c: &[u8]) -> Figures
-    requires { ⌜ length (now c) ≤ 14 ⌝ }
-    ensures { λ r. ⌜ r ≡ decimalOf (now (c .entry)) ⌝ }
+// The number that two digits write; of other octets a greater one.
+fn pair(a: u8, b: u8) -> u64
+    ensures { λ r. ⌜ Pair a b r ⌝ }
 {
-    let mut n: u64 = 0;
-    let mut i = 0;
-    while i < c.len() {
-        let o = c[i];
-        if o < 48 {
-            return Figures::Wordy;
-        }
-        if 57 < o {
-            return Figures::Wordy;
-        }
-        n = n * 10 + (o - 48) as u64;
-        i += 1;
+    if b < 48 {
+        return 100;
     }
-    Figures::Number(n)
+    if 57 < b {
+        return 100;
+    }
+    let n = a as u64 * 10 + b as u64;
+    if n < 528 {
+        return 100;
+    }
+    n - 528
 }
 
 // The moment of a time, 0 of what is none.

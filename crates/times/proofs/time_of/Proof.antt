@@ -1,7 +1,9 @@
--- The tag says which of the two forms the contents have.
-use mathlib.Core.Path.{sym}
-use borrow.Author.Tests.{eq-eqb, ne-eqb}
-use Rattle.times.specs.Times.{timeOf, timeIn}
+-- The year, and the ten digits after it.
+use Prim.Native.Nat.{_+_, _-_}
+use mathlib.Core.Path.{_≡_, sym, _∙_}
+use native.Mathlib.Omega.{arith}
+use lib.ListN.{length}
+use Rattle.times.specs.Times.{timeOf}
 use borrow.Author.Needs.{needs}
 use Rattle.times.proofs.time_of.Statement.{statement}
 use Rattle.times.proofs.time_of.Tie as tie
@@ -9,35 +11,49 @@ use Rattle.times.proofs.time_of.Tie as tie
 contents-requires : tie.Need-contents-requires
 contents-requires c κs = search needs
 
-utc-requires : tie.Need-utc-requires
-utc-requires c κs = search needs
+year-of-requires : tie.Need-year-of-requires
+year-of-requires c κs = search needs
 
 returns : tie.Need-returns
-unfolding timeOf timeIn
-returns c = simp (eq-eqb _ _ (c .before .before .if1 .taken), sym (c .before .contents .ensures)) (c .utc .ensures)
+unfolding timeOf
+returns c = sym (rw (← c .before .before .contents .ensures) (c .before .year-of .ensures .none (c .if1 .taken)))
 
-contents-requires-2 : tie.Need-contents-requires-2
-contents-requires-2 c κs = search needs
+sub-from : tie.Need-sub-from
+sub-from c = c .before .year-of .ensures .long (c .if1 .left)
 
-generalized-requires : tie.Need-generalized-requires
-generalized-requires c κs = search needs
+add-end : tie.Need-add-end
+add-end c = search needs
+
+sub-within : tie.Need-sub-within
+sub-within c = search needs
+
+part-within-start : tie.Need-part-within-start
+part-within-start c = search needs
+
+part-within-end : tie.Need-part-within-end
+part-within-end c = omega (arith, c .before .year-of .ensures .long (c .if1 .left))
+
+within-requires : tie.Need-within-requires
+within-requires c κs = search needs
 
 returns-2 : tie.Need-returns-2
-unfolding timeOf timeIn
-returns-2 c = simp (ne-eqb _ _ (c .before .before .before .before .if1 .left), eq-eqb _ _ (c .before .before .if2 .taken), sym (c .before .contents2 .ensures)) (c .generalized .ensures)
-
-returns-3 : tie.Need-returns-3
-unfolding timeOf timeIn
-returns-3 c = simp (ne-eqb _ _ (c .before .before .if1 .left), ne-eqb _ _ (c .if2 .left))
+unfolding timeOf
+returns-2 c =
+    let from = length (c .before .before .before .before .contents .result .now) - 11 in
+    let ten : from + 10 - from ≡ 10 = omega arith in
+    rw (← c .before .before .before .before .contents .ensures) (rw ten at (c .within .ensures) ∙ sym (c .before .before .before .year-of .ensures .some (c .before .before .if1 .left)))
 
 pub time-of-spec : {M : Type 1} → statement M
 time-of-spec =
     tie.close
     (tie.spec
     contents-requires
-    utc-requires
+    year-of-requires
     returns
-    contents-requires-2
-    generalized-requires
-    returns-2
-    returns-3)
+    sub-from
+    add-end
+    sub-within
+    part-within-start
+    part-within-end
+    within-requires
+    returns-2)

@@ -10,7 +10,7 @@ use lib.ListN.{length}
 use Rattle.elements.specs.Elements.{membersOf}
 use Rattle.elements.proofs.Members.{found-within, members-more}
 use Rattle.crl.specs.Entries.{surveyOf}
-use Rattle.crl.proofs.Surveys.{members-few, surveyWith, survey-starts, survey-done, survey-bad, survey-on, plain-on, falls, stays, bare-adds, extended-adds}
+use Rattle.crl.proofs.Surveys.{members-few, surveyWith, survey-starts, survey-done, survey-bad, survey-on, falls, stays, bare-adds, extended-adds, usual-more, usual-less, usual-on}
 use Rattle.crl.proofs.entries.survey_of.Statement.{statement}
 use Rattle.crl.proofs.entries.survey_of.Tie as tie
 
@@ -23,17 +23,34 @@ abbrev μ-loop : tie.MeasureT-loop
 loop-holds : tie.Need-loop-holds Inv-loop μ-loop
 loop-holds c = (omega (arith, members-few (c .before .args .item .now) (c .before .args .from) (c .before .args .end)), survey-starts _ _ _)
 
-plain-entry-requires : tie.Need-plain-entry-requires Inv-loop μ-loop
-plain-entry-requires c κs = search needs
+usual-time-requires : tie.Need-usual-time-requires Inv-loop μ-loop
+usual-time-requires c κs = search needs
+
+is-utc-requires : tie.Need-is-utc-requires Inv-loop μ-loop
+is-utc-requires c κs = (c .before .usual-time .ensures (c .if1 .taken)) .room
 
 add-count : tie.Need-add-count Inv-loop μ-loop
-add-count c = let p = c .before .plain-entry .ensures (c .if1 .taken) in omega (arith, c .before .before .loop .inv .0, ap length (members-more _ _ _ (p .found)))
+add-count c = omega (arith, c .before .before .before .before .loop .inv .0, usual-more (c .before .before .before .usual-time .ensures (c .before .before .if1 .taken)))
+
+add-at : tie.Need-add-at Inv-loop μ-loop
+add-at c = omega (arith, (c .before .before .before .usual-time .ensures (c .before .before .if1 .taken)) .room)
 
 loop-less : tie.Need-loop-less Inv-loop μ-loop
-loop-less c = let p = c .before .plain-entry .ensures (c .if1 .taken) in omega (arith, p .ends, found-within _ _ _ (p .found))
+loop-less c = usual-less (c .before .before .before .usual-time .ensures (c .before .before .if1 .taken))
 
 loop-again : tie.Need-loop-again Inv-loop μ-loop
-loop-again c = plain-on _ _ _ _ _ _ _ (c .before .plain-entry .ensures (c .if1 .taken)) (c .before .before .loop .inv)
+loop-again c =
+    let was = c .before .before .before .before .loop in
+    let seen = c .before .before .before .usual-time .ensures (c .before .before .if1 .taken) in
+    let told = c .before .is-utc .ensures in (
+      omega (arith, was .inv .0, usual-more seen),
+      was .inv .1
+          ∙ usual-on seen _ _ _
+          (⊎-elim
+          (λ w. falls (was .timely) (sym told ∙ not-true _ (w .0 .taken)) (w .1))
+          (λ w. stays (was .timely) (sym told ∙ not-false _ (w .0 .left)) (w .1))
+          (c .if2 .came)),
+    )
 
 element-at-requires : tie.Need-element-at-requires Inv-loop μ-loop
 element-at-requires c κs = search needs
@@ -102,8 +119,10 @@ survey-of-spec =
     Inv-loop
     μ-loop
     loop-holds
-    plain-entry-requires
+    usual-time-requires
+    is-utc-requires
     add-count
+    add-at
     loop-less
     loop-again
     element-at-requires

@@ -1,0 +1,69 @@
+-- The code makes the definition's tests in its order; the two digits decide the century.
+use mathlib.Core.Path.{sym}
+use native.Mathlib.Omega.{arith}
+use borrow.Author.Tests.{eq-eqb, ne-eqb}
+use Rattle.times.specs.Times.{timeIn, zulu, inCentury}
+use Rattle.times.proofs.Years.{no-year, a-year, short-wordy, short-read, in-two-thousands, in-nineteen-hundreds, ten-left}
+use borrow.Author.Needs.{needs}
+use Rattle.times.proofs.short_year.Statement.{statement}
+use Rattle.times.proofs.short_year.Tie as tie
+
+returns : tie.Need-returns
+unfolding timeIn zulu
+returns c = no-year _ _ (simp (ne-eqb _ _ (c .if1 .taken)))
+
+shared-slice-read-if2 : tie.Need-shared-slice-read-if2
+shared-slice-read-if2 c = search needs
+
+returns-2 : tie.Need-returns-2
+unfolding timeIn zulu
+returns-2 c = no-year _ _ (simp (eq-eqb _ _ (c .before .before .if1 .left), ne-eqb _ _ (c .if2 .taken)))
+
+shared-slice-read-pair : tie.Need-shared-slice-read-pair
+shared-slice-read-pair c = search needs
+
+shared-slice-read-pair-2 : tie.Need-shared-slice-read-pair-2
+shared-slice-read-pair-2 c = search needs
+
+pair-requires : tie.Need-pair-requires
+pair-requires c κs = search needs
+
+add-result : tie.Need-add-result
+add-result c = search needs
+
+returns-3 : tie.Need-returns-3
+unfolding timeIn zulu
+returns-3 c =
+    a-year _ _ 2 _ (c .before .before .before .before .before .before .if1 .left) (omega arith)
+    (simp (eq-eqb _ _ (c .before .before .before .before .before .before .if1 .left), eq-eqb _ _ (c .before .before .before .before .if2 .left), short-read (c .before .before .before .before .before .before .before .before .args .c .now) (omega arith) (c .before .pair .ensures) (omega arith))
+    (sym (in-two-thousands _ (ten-left (c .before .before .before .before .before .before .before .before .args .c .now) 2 (omega arith)) _ (c .if3 .taken))))
+
+add-result-2 : tie.Need-add-result-2
+add-result-2 c = search needs
+
+returns-4 : tie.Need-returns-4
+unfolding timeIn zulu
+returns-4 c =
+    a-year _ _ 2 _ (c .before .before .before .before .before .before .before .if1 .left) (omega arith)
+    (simp (eq-eqb _ _ (c .before .before .before .before .before .before .before .if1 .left), eq-eqb _ _ (c .before .before .before .before .before .if2 .left), short-read (c .before .before .before .before .before .before .before .before .before .args .c .now) (omega arith) (c .before .before .pair .ensures) (omega arith))
+    (sym (in-nineteen-hundreds _ (ten-left (c .before .before .before .before .before .before .before .before .before .args .c .now) 2 (omega arith)) _ (c .before .if3 .left))))
+
+returns-5 : tie.Need-returns-5
+unfolding timeIn zulu inCentury
+returns-5 c = no-year _ _ (simp (eq-eqb _ _ (c .before .before .before .before .before .before .before .if1 .left), eq-eqb _ _ (c .before .before .before .before .before .if2 .left), short-wordy (c .before .before .before .before .before .before .before .before .before .args .c .now) (omega arith) (c .before .before .pair .ensures) (omega arith)))
+
+pub short-year-spec : {M : Type 1} → statement M
+short-year-spec =
+    tie.close
+    (tie.spec
+    returns
+    shared-slice-read-if2
+    returns-2
+    shared-slice-read-pair
+    shared-slice-read-pair-2
+    pair-requires
+    add-result
+    returns-3
+    add-result-2
+    returns-4
+    returns-5)

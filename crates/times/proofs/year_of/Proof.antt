@@ -1,0 +1,31 @@
+-- The tag says which of the two forms the year has.
+use borrow.Author.Needs.{needs}
+use borrow.Author.Tests.{ne-eqb}
+use Rattle.times.specs.Times.{timeIn}
+use Rattle.times.proofs.Years.{no-year}
+use Rattle.times.proofs.year_of.Statement.{statement}
+use Rattle.times.proofs.year_of.Tie as tie
+use Rattle.times.proofs.year_of.Reads as reads
+use Rattle.times.proofs.year_of.Lts as lts
+use Rattle.times.proofs.full_year.Reads as full-year-reads
+use Rattle.times.proofs.short_year.Reads as short-year-reads
+
+short-year-requires : tie.Need-short-year-requires
+short-year-requires c κs = search needs
+
+full-year-requires : tie.Need-full-year-requires
+full-year-requires c κs = search needs
+
+returns : tie.Need-returns
+returns c = rw (c .before .match .keys1) (c .short-year .ensures)
+
+returns-2 : tie.Need-returns-2
+returns-2 c = rw (c .before .match .keys2) (c .full-year .ensures)
+
+returns-3 : tie.Need-returns-3
+unfolding timeIn
+returns-3 c = no-year _ _ (simp (ne-eqb _ _ (c .match .rest .0 .1), ne-eqb _ _ (c .match .rest .1)))
+
+pub year-of-spec : {M : Type 1} → statement M
+year-of-spec =
+    tie.close (tie.spec short-year-requires full-year-requires returns returns-2 returns-3)
