@@ -4,11 +4,11 @@ use mathlib.Core.Bool.{Bool, true, false, cond, and-eq-true-iff}
 use mathlib.Core.List.{List}
 use mathlib.Core.Path.{_≡_, refl, ap, sym, _∙_}
 use native.Mathlib.Omega.{arith}
-use borrow.Author.Tests.{le-leb, leb-true, ltb-true, ltb-false}
-use lib.Dec.{leb, ltb}
+use borrow.Author.Tests.{le-leb, leb-true}
+use lib.Dec.{leb}
 use lib.ListN.{length, getD, drop, drop-of-length-le}
 use Rattle.calendar.specs.Days.{monthLength, realDay, realMoment, yearOf, monthOf, dayOf}
-use Rattle.calendar.proofs.Days.{by-test, Real, real, length-none, length-most}
+use Rattle.calendar.proofs.Days.{Real, real, length-most}
 use Rattle.times.specs.declared.Time.the-variants.{Moment, Untimely}
 use Rattle.times.specs.Pairs.{Pair}
 use Rattle.times.specs.Times.{Figures, Number, Wordy, figures, realTime, realNumber}
@@ -62,13 +62,6 @@ real-at m t =
       minute = leb-true _ _ minute;
       second = leb-true _ _ second;
     }
-
--- a month that has a day is one of the twelve, and the day one of 31
-pub few-days : (year month day : ℕ) → 1 ≤ day → day ≤ monthLength year month → (month ≤ 12) × (day ≤ 31)
-few-days year month day low high = (
-  by-test (ltb 12 month) (λ e. absurd (omega (arith, length-none year month (ltb-true _ _ e)))) (λ e. ltb-false _ _ e),
-  omega (arith, length-most year month),
-)
 
 module _ (year : ℕ) (c : List ℕ) (ten : length c ≡ 10) where
   -- the parts of a number that is written so
