@@ -16,7 +16,7 @@ pub enum Time {
 }
 
 // Whether a tag is that of a UTCTime or a GeneralizedTime.
-pub fn time_tag(tag: u8) -> bool
+fn time_tag(tag: u8) -> bool
     ensures { λ r. ⌜ r ≡ timeTag tag ⌝ }
 {
     if tag == 0x17 {

@@ -327,7 +327,7 @@ fn elements_at_the_limit() {
 #[test]
 fn a_change_never_contradicts_the_walk() {
     let mut random = Random::new(5);
-    for _ in 0..60_000 {
+    for _ in 0..20_000 {
         let role = *random.pick(&ROLES);
         let mut item = Made::typical(role).encode();
         make::change::change(&mut item, &mut random);

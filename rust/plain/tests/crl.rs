@@ -99,7 +99,7 @@ fn order_of_refusals() {
     assert_eq!(crl(&[0x30, 0]), refused(4, 1));
     assert_eq!(crl(&[0x30, 0, 0]), refused(2, 2));
     let mut random = Random::new(5);
-    for _ in 0..30_000 {
+    for _ in 0..10_000 {
         let mut item = Made::typical(2).encode();
         make::change::change(&mut item, &mut random);
         let (walked, answer) = (walk(&item), crl(&item));

@@ -110,7 +110,7 @@ fn random_files_and_words_never_crash() {
     let mut random = Random::new(99);
     let mut source = Source::new(98);
     let mut seen = std::collections::BTreeSet::new();
-    for turn in 0..300 {
+    for turn in 0..150 {
         bench.write("x", &file(&mut random, &mut source));
         let line: Vec<std::ffi::OsString> = match turn % 3 {
             0 => {
