@@ -20,7 +20,8 @@ use Rattle.elements.proofs.Shorts.{brief, short-found, short-inside}
 use Rattle.names.specs.declared.Attribute.the-variants.{Other}
 use Rattle.names.specs.declared.Name.the-variants.{Holds}
 use Rattle.names.specs.declared.Seen.{Seen}
-use Rattle.names.specs.Names.{countryName, attributeOf, oneSet, Plain}
+use Rattle.names.specs.Names.{countryName, attributeOf, oneSet}
+use Rattle.names.specs.Looks.{Plain}
 use Rattle.names.proofs.Sets.{attributes-other, attributes-done, set-filled}
 
 -- nothing starts at the end

@@ -10,7 +10,8 @@ use Rattle.names.specs.declared.Attribute.the-variants.{Country, Other, 
 use Rattle.names.specs.declared.Seen.{Seen}
 use Rattle.names.specs.declared.Name.the-variants.{Holds, Shapeless}
 use Rattle.elements.specs.Elements.{foundAt, membersOf, inside}
-use Rattle.names.specs.Names.{attributeOf, oneMore, attributed, attributesOf, oneSet, afterSet, setsOf, Plain}
+use Rattle.names.specs.Names.{attributeOf, oneMore, attributed, attributesOf, oneSet, afterSet, setsOf}
+use Rattle.names.specs.Looks.{Plain}
 use Rattle.elements.proofs.Members.{members-none, members-more}
 
 -- one attribute, and those after it

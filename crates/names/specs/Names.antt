@@ -2,11 +2,9 @@
 use Prim.Native.Nat.{ℕ, _+_}
 use mathlib.Core.Bool.{Bool, true, false, cond, _&&_}
 use mathlib.Core.List.{List, [], _∷_}
-use mathlib.Core.Path.{_≡_}
 use lib.Dec.{leb, eqb}
 use lib.ListN.{length, getD}
 use Rattle.elements.specs.declared.elements.Element.{Element}
-use Rattle.elements.specs.declared.elements.Found.the-variants.{One}
 use Rattle.names.specs.declared.Attribute.{Attribute}
 use Rattle.names.specs.declared.Attribute.the-variants.{Country, Other, Misshapen}
 use Rattle.names.specs.declared.Seen.{Seen}
@@ -51,13 +49,6 @@ attributesOf s (e ∷ rest) seen = attributed (attributeOf s e) seen λ more. at
 unfoldable pub oneSet : List ℕ → Element → Seen → Name
 oneSet s e seen =
     cond (eqb (e .tag) 0x31) (cond (eqb (length (inside s e)) 0) Shapeless (attributesOf s (inside s e) seen)) Shapeless
-
--- a SET at `at` that ends at `r` and has no countryName
-pub record Plain (s : List ℕ) (at end r : ℕ) : Type 0 where
-  pub e : Element
-  pub found : foundAt s at end ≡ One e
-  pub ends : e .end ≡ r
-  pub holds : (seen : Seen) → oneSet s e seen ≡ Holds seen
 
 unfoldable pub afterSet : Name → (Seen → Name) → Name
 afterSet Shapeless next = Shapeless

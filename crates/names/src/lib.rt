@@ -8,7 +8,8 @@ use elements::same;
 use elements::short_end;
 ghost use mathlib.Core.Path.{_≡_};
 ghost use Prim.Native.Nat.{_<_};
-ghost use Rattle.names.specs.Names.{attributeOf, oneMore, oneSet, nameOf, Plain, isCapital, lettersOf, firstLetter, secondLetter};
+ghost use Rattle.names.specs.Looks.{Plain};
+ghost use Rattle.names.specs.Names.{attributeOf, oneMore, oneSet, nameOf, isCapital, lettersOf, firstLetter, secondLetter};
 
 // The value of a countryName, another attribute, or what is none.
 pub enum Attribute {
