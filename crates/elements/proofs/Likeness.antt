@@ -89,3 +89,11 @@ module _ (a b : List ℕ) (at : ℕ) where
       go : (t : Bool) → parts count ≡ t → t ≡ alike a b
       go true g = sym (is-alike a b (all g))
       go false g = sym (unlike-part count g)
+
+-- three octets, one by one
+pub three : (c : List ℕ) → length c ≡ 3 → c ≡ getD c 0 0 ∷ getD c 1 0 ∷ getD c 2 0 ∷ []
+three [] h = absurd (omega arith)
+three (x ∷ []) h = absurd (omega arith)
+three (x ∷ y ∷ []) h = absurd (omega arith)
+three (x ∷ y ∷ z ∷ []) h = refl
+three (x ∷ y ∷ z ∷ w ∷ rest) h = absurd (omega arith)

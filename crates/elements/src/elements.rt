@@ -1,7 +1,10 @@
 // The elements that stand in a stretch of a walked item.
+use crate::short::short_end;
 use der::Step;
 use der::member;
 ghost use mathlib.Core.Path.{_≡_};
+ghost use mathlib.Core.Bool.{true};
+ghost use Rattle.der.specs.Heading.{identifierGood};
 ghost use Rattle.elements.specs.Elements.{foundAt, foundTagged, wholeOf, contentsOf};
 ghost use Prim.Native.Nat.{_-_};
 ghost use lib.ListN.{take, drop};
@@ -34,8 +37,42 @@ pub fn element_at(item: &[u8], from: usize, end: usize) -> Found
     }
 }
 
-// The same, if it has the tag.
+// The same, if it has the tag. Most headers are short, and told at a look.
 pub fn element_tagged(item: &[u8], from: usize, end: usize, tag: u8) -> Found
+    ensures { λ r. ⌜ r ≡ foundTagged (now (item .entry)) from end tag ⌝ }
+{
+    let next = short_end(item, from, end, tag);
+    if 0 < next {
+        if usual(tag) {
+            return Found::One(Element {
+                tag,
+                at: from,
+                contents: from + 2,
+                end: next,
+            });
+        }
+    }
+    any_tagged(item, from, end, tag)
+}
+
+// Tags that the profiles ask for; each is a good identifier.
+fn usual(tag: u8) -> bool
+    ensures { λ r. ⌜ (r ≡ true → identifierGood tag ≡ true) ⌝ }
+{
+    match tag {
+        0x02 => true,
+        0x03 => true,
+        0x06 => true,
+        0x17 => true,
+        0x30 => true,
+        0xa0 => true,
+        0xa3 => true,
+        _ => false,
+    }
+}
+
+// The same with a header of any kind.
+fn any_tagged(item: &[u8], from: usize, end: usize, tag: u8) -> Found
     ensures { λ r. ⌜ r ≡ foundTagged (now (item .entry)) from end tag ⌝ }
 {
     let Found::One(e) = element_at(item, from, end) else {

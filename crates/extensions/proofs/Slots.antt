@@ -29,13 +29,6 @@ same-test m n x p q = go (eqb m n) refl x refl
     go true e false f = sym (p (eqb-true m n e)) ∙ f
     go false e true f = absurd (eqb-false m n e (q f))
 
-pub three : (c : List ℕ) → length c ≡ 3 → c ≡ getD c 0 0 ∷ getD c 1 0 ∷ getD c 2 0 ∷ []
-three [] h = absurd (omega arith)
-three (x ∷ []) h = absurd (omega arith)
-three (x ∷ y ∷ []) h = absurd (omega arith)
-three (x ∷ y ∷ z ∷ []) h = refl
-three (x ∷ y ∷ z ∷ w ∷ rest) h = absurd (omega arith)
-
 abbrev typesOid : List ℕ
 typesOid = 0x67 ∷ 0x81 ∷ 0x08 ∷ 0x01 ∷ 0x01 ∷ 0x06 ∷ 0x02 ∷ []
 

@@ -1,10 +1,29 @@
-// An extension whose headers have two octets each, taken apart at a look.
+// Extensions whose headers have two octets each, found and taken apart at a look.
 use crate::Extension;
 use elements::Element;
+use elements::Found;
+use elements::element_at;
 use elements::short_end;
 ghost use mathlib.Core.Path.{_≡_};
 ghost use mathlib.Core.Bool.{true};
+ghost use Rattle.elements.specs.Elements.{foundAt};
 ghost use Rattle.extensions.specs.Extensions.{extensionOf, present};
+
+// The element that starts at `from`, before `end`; most are SEQUENCEs.
+pub(crate) fn sequence_at(item: &[u8], from: usize, end: usize) -> Found
+    ensures { λ r. ⌜ r ≡ foundAt (now (item .entry)) from end ⌝ }
+{
+    let next = short_end(item, from, end, 0x30);
+    if 0 < next {
+        return Found::One(Element {
+            tag: 0x30,
+            at: from,
+            contents: from + 2,
+            end: next,
+        });
+    }
+    element_at(item, from, end)
+}
 
 // The extension, or `Absent` for any that is not of that kind.
 pub(crate) fn brief_extension(item: &[u8], e: Element) -> Extension

@@ -2,6 +2,7 @@
 mod brief;
 
 use brief::brief_extension;
+use brief::sequence_at;
 use elements::Element;
 use elements::Found;
 use elements::contents;
@@ -99,7 +100,7 @@ pub fn extensions_shaped(item: &[u8], e: Element) -> bool
     }
     let mut at = e.contents;
     loop {
-        let Found::One(one) = element_at(item, at, e.end) else {
+        let Found::One(one) = sequence_at(item, at, e.end) else {
             return true;
         };
         let Extension::Is {
@@ -158,7 +159,7 @@ pub fn one_pass(item: &[u8], extensions: Element) -> Overview
     let mut slots = [none; 23];
     let mut at = extensions.contents;
     loop {
-        let Found::One(e) = element_at(item, at, extensions.end) else {
+        let Found::One(e) = sequence_at(item, at, extensions.end) else {
             break;
         };
         let own = extension_of(item, e);
@@ -285,13 +286,13 @@ pub fn doubled(item: &[u8], extensions: Element) -> bool
     let mut at = extensions.contents;
     let mut twice = false;
     'each: loop {
-        let Found::One(e) = element_at(item, at, end) else {
+        let Found::One(e) = sequence_at(item, at, end) else {
             break 'each;
         };
         let own = extension_of(item, e);
         let mut later = e.end;
         loop {
-            let Found::One(other) = element_at(item, later, end) else {
+            let Found::One(other) = sequence_at(item, later, end) else {
                 break;
             };
             if doubles(item, own, other) {
@@ -311,7 +312,7 @@ pub fn some_critical(item: &[u8], extensions: Element, allow: bool) -> bool
 {
     let mut at = extensions.contents;
     loop {
-        let Found::One(e) = element_at(item, at, extensions.end) else {
+        let Found::One(e) = sequence_at(item, at, extensions.end) else {
             return false;
         };
         if refused_critical(item, allow, extension_of(item, e)) {
@@ -327,7 +328,7 @@ fn place_of(item: &[u8], from: usize, end: usize, oid: &[u8]) -> usize
 {
     let mut at = from;
     loop {
-        let Found::One(e) = element_at(item, at, end) else {
+        let Found::One(e) = sequence_at(item, at, end) else {
             break end;
         };
         if has_oid(item, oid, extension_of(item, e)) {

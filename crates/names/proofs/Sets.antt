@@ -1,7 +1,7 @@
 -- The attributes of a SET and the SETs of a name, one by one as they are found.
-use Prim.Native.Nat.{ℕ}
+use Prim.Native.Nat.{ℕ, _+_}
 use mathlib.Core.List.{List, _∷_}
-use mathlib.Core.Path.{_≡_}
+use mathlib.Core.Path.{_≡_, ap, _∙_}
 use borrow.Author.Tests.{eq-eqb, ne-eqb}
 use lib.Dec.{eqb·suc-zero}
 use Rattle.elements.specs.declared.elements.Element.{Element}
@@ -11,7 +11,7 @@ use Rattle.names.specs.declared.Seen.{Seen}
 use Rattle.names.specs.declared.Name.the-variants.{Holds, Shapeless}
 use Rattle.elements.specs.Elements.{foundAt, membersOf, inside}
 use Rattle.names.specs.Names.{attributeOf, oneMore, attributed, attributesOf, oneSet, afterSet, setsOf}
-use Rattle.names.specs.Looks.{Plain}
+use Rattle.names.specs.Looks.{Plain, Land}
 use Rattle.elements.proofs.Members.{members-none, members-more}
 
 -- one attribute, and those after it
@@ -65,3 +65,9 @@ module _ (s : List ℕ) (at end : ℕ) (seen : Seen) where
   -- a SET that has no countryName
   pub sets-plain : {past : ℕ} → Plain s at end past → setsOf s (membersOf s at end) seen ≡ setsOf s (membersOf s past end) seen
   sets-plain p = rw (← p .ends) (sets-more (p .found) (p .holds seen))
+
+  -- a SET that has one countryName
+  pub sets-country : {past : ℕ} → Land s at end past → setsOf s (membersOf s at end) seen ≡ setsOf s (membersOf s past end) (oneMore seen (record { tag = 0x13; at = at + 9; contents = at + 11; end = past }))
+  sets-country {past} p =
+      sets-more (p .found) (p .holds seen)
+      ∙ ap (λ (n : ℕ). setsOf s (membersOf s n end) (oneMore seen (record { tag = 0x13; at = at + 9; contents = at + 11; end = past }))) (p .ends)

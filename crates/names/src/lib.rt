@@ -1,14 +1,15 @@
 // Names, and the countryName in one.
+mod looks;
+
 use elements::Element;
 use elements::Found;
 use elements::contents;
 use elements::element_at;
 use elements::element_tagged;
 use elements::same;
-use elements::short_end;
+use looks::country_set;
+use looks::plain_set;
 ghost use mathlib.Core.Path.{_≡_};
-ghost use Prim.Native.Nat.{_<_};
-ghost use Rattle.names.specs.Looks.{Plain};
 ghost use Rattle.names.specs.Names.{attributeOf, oneMore, oneSet, nameOf, isCapital, lettersOf, firstLetter, secondLetter};
 
 // The value of a countryName, another attribute, or what is none.
@@ -52,6 +53,18 @@ pub fn name_of(item: &[u8], e: Element) -> Name
             at = past;
             continue;
         }
+        let past = country_set(item, at, e.end);
+        if 0 < past {
+            let value = Element {
+                tag: 0x13,
+                at: at + 9,
+                contents: at + 11,
+                end: past,
+            };
+            seen = one_more(seen, value);
+            at = past;
+            continue;
+        }
         let Found::One(set) = element_at(item, at, e.end) else {
             return Name::Holds(seen);
         };
@@ -61,34 +74,6 @@ pub fn name_of(item: &[u8], e: Element) -> Name
         seen = more;
         at = set.end;
     }
-}
-
-// Where the SET at `at` ends if it has one attribute, with short headers, a string as its value and an OID that cannot be
-// countryName by its last octet; else 0.
-fn plain_set(item: &[u8], at: usize, end: usize) -> usize
-    ensures { λ r. ⌜ (0 < r → Plain (now (item .entry)) at end r) ⌝ }
-{
-    let after = short_end(item, at, end, 0x31);
-    if after == 0 {
-        return 0;
-    }
-    if short_end(item, at + 2, after, 0x30) != after {
-        return 0;
-    }
-    let value = short_end(item, at + 4, after, 0x06);
-    if value == 0 {
-        return 0;
-    }
-    if item[value - 1] == 0x06 {
-        return 0;
-    }
-    if short_end(item, value, after, 0x13) == after {
-        return after;
-    }
-    if short_end(item, value, after, 0x0c) == after {
-        return after;
-    }
-    0
 }
 
 // One SET of a name, after the countryNames seen before it.

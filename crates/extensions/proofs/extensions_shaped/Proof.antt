@@ -24,8 +24,8 @@ loop-holds : tie.Need-loop-holds Inv-loop μ-loop
 unfolding extensionsShaped inside
 loop-holds c = rw (eq-eqb _ _ (c .if1 .left))
 
-element-at-requires : tie.Need-element-at-requires Inv-loop μ-loop
-element-at-requires c κs = search needs
+sequence-at-requires : tie.Need-sequence-at-requires Inv-loop μ-loop
+sequence-at-requires c κs = search needs
 
 enum-known-one : tie.Need-enum-known-one Inv-loop μ-loop
 enum-known-one c = search needs
@@ -35,7 +35,7 @@ enum-told c = search needs
 
 returns-2 : tie.Need-returns-2 Inv-loop μ-loop
 unfolding allShaped
-returns-2 c = sym (c .before .before .before .loop .inv ∙ rw (members-none _ _ _ (sym (c .before .before .element-at .ensures) ∙ c .enum-told .given .1)))
+returns-2 c = sym (c .before .before .before .loop .inv ∙ rw (members-none _ _ _ (sym (c .before .before .sequence-at .ensures) ∙ c .enum-told .given .1)))
 
 extension-of-requires : tie.Need-extension-of-requires Inv-loop μ-loop
 extension-of-requires c κs = search needs
@@ -48,14 +48,14 @@ enum-told-3 c = search needs
 
 returns-3 : tie.Need-returns-3 Inv-loop μ-loop
 unfolding allShaped present
-returns-3 c = sym (c .before .before .before .before .before .before .before .loop .inv ∙ rw (members-more _ _ _ (sym (c .before .before .before .before .before .before .element-at .ensures) ∙ c .before .before .before .before .one .given .1), sym (c .before .before .extension-of .ensures) ∙ c .enum-told3 .given .1))
+returns-3 c = sym (c .before .before .before .before .before .before .before .loop .inv ∙ rw (members-more _ _ _ (sym (c .before .before .before .before .before .before .sequence-at .ensures) ∙ c .before .before .before .before .one .given .1), sym (c .before .before .extension-of .ensures) ∙ c .enum-told3 .given .1))
 
 loop-less : tie.Need-loop-less Inv-loop μ-loop
-loop-less c = omega (arith, found-within _ _ _ (sym (c .before .before .before .before .before .before .element-at .ensures) ∙ c .before .before .before .before .one .given .1))
+loop-less c = omega (arith, found-within _ _ _ (sym (c .before .before .before .before .before .before .sequence-at .ensures) ∙ c .before .before .before .before .one .given .1))
 
 loop-again : tie.Need-loop-again Inv-loop μ-loop
 unfolding allShaped present
-loop-again c = c .before .before .before .before .before .before .before .loop .inv ∙ rw (members-more _ _ _ (sym (c .before .before .before .before .before .before .element-at .ensures) ∙ c .before .before .before .before .one .given .1), sym (c .before .before .extension-of .ensures) ∙ c .enum-told2 .given .1)
+loop-again c = c .before .before .before .before .before .before .before .loop .inv ∙ rw (members-more _ _ _ (sym (c .before .before .before .before .before .before .sequence-at .ensures) ∙ c .before .before .before .before .one .given .1), sym (c .before .before .extension-of .ensures) ∙ c .enum-told2 .given .1)
 
 pub extensions-shaped-spec : {M : Type 1} → statement M
 extensions-shaped-spec =
@@ -65,7 +65,7 @@ extensions-shaped-spec =
     μ-loop
     returns
     loop-holds
-    element-at-requires
+    sequence-at-requires
     enum-known-one
     enum-told
     returns-2

@@ -24,8 +24,8 @@ held-of-requires c κs = search needs
 loop-holds : tie.Need-loop-holds Inv-loop μ-loop
 loop-holds c = rw (c .held-of .ensures) (far-start _ _)
 
-element-at-requires : tie.Need-element-at-requires Inv-loop μ-loop
-element-at-requires c κs = search needs
+sequence-at-requires : tie.Need-sequence-at-requires Inv-loop μ-loop
+sequence-at-requires c κs = search needs
 
 enum-known-e : tie.Need-enum-known-e Inv-loop μ-loop
 enum-known-e c = search needs
@@ -58,42 +58,42 @@ array-set-from-slots : tie.Need-array-set-from-slots Inv-loop μ-loop
 array-set-from-slots c = omega (arith, c .before .before .before .before .before .before .before .before .before .before .before .loop .inv .table .long, c .before .before .before .if1 .taken)
 
 loop-less : tie.Need-loop-less Inv-loop μ-loop
-loop-less c = omega (arith, found-within _ _ _ (sym (c .before .before .before .before .before .before .before .before .before .element-at .ensures) ∙ c .before .before .before .before .before .before .before .e .given .1))
+loop-less c = omega (arith, found-within _ _ _ (sym (c .before .before .before .before .before .before .before .before .before .sequence-at .ensures) ∙ c .before .before .before .before .before .before .before .e .given .1))
 
 loop-again : tie.Need-loop-again Inv-loop μ-loop
 unfolding heldOf
-loop-again c = far-again (c .before .before .before .before .before .before .before .before .before .before .loop .inv) (sym (c .before .before .before .before .before .before .before .before .before .element-at .ensures) ∙ c .before .before .before .before .before .before .before .e .given .1) (rw (← c .before .before .before .before .before .extension-of .ensures) (c .before .before .before .before .slot-of .ensures)) (rw (← c .before .before .before .before .before .extension-of .ensures) (c .before .before .before .unusual .ensures _ (c .before .before .before .before .slot-of .ensures))) (c .before .before .if1 .taken) (c .if2 .taken)
+loop-again c = far-again (c .before .before .before .before .before .before .before .before .before .before .loop .inv) (sym (c .before .before .before .before .before .before .before .before .before .sequence-at .ensures) ∙ c .before .before .before .before .before .before .before .e .given .1) (rw (← c .before .before .before .before .before .extension-of .ensures) (c .before .before .before .before .slot-of .ensures)) (rw (← c .before .before .before .before .before .extension-of .ensures) (c .before .before .before .unusual .ensures _ (c .before .before .before .before .slot-of .ensures))) (c .before .before .if1 .taken) (c .if2 .taken)
 
 loop-less-2 : tie.Need-loop-less-2 Inv-loop μ-loop
-loop-less-2 c = omega (arith, found-within _ _ _ (sym (c .before .before .before .before .before .before .before .before .before .before .element-at .ensures) ∙ c .before .before .before .before .before .before .before .before .e .given .1))
+loop-less-2 c = omega (arith, found-within _ _ _ (sym (c .before .before .before .before .before .before .before .before .before .before .sequence-at .ensures) ∙ c .before .before .before .before .before .before .before .before .e .given .1))
 
 loop-again-2 : tie.Need-loop-again-2 Inv-loop μ-loop
 unfolding heldOf
-loop-again-2 c = far-new (c .before .before .before .before .before .before .before .before .before .before .before .loop .inv) (sym (c .before .before .before .before .before .before .before .before .before .before .element-at .ensures) ∙ c .before .before .before .before .before .before .before .before .e .given .1) (rw (← c .before .before .before .before .before .before .extension-of .ensures) (c .before .before .before .before .before .slot-of .ensures)) (rw (← c .before .before .before .before .before .before .extension-of .ensures) (c .before .before .before .before .unusual .ensures _ (c .before .before .before .before .before .slot-of .ensures))) (rw (← c .before .before .before .before .before .before .extension-of .ensures) (c .held-of2 .ensures)) (c .before .before .before .if1 .taken) (c .before .if2 .left)
+loop-again-2 c = far-new (c .before .before .before .before .before .before .before .before .before .before .before .loop .inv) (sym (c .before .before .before .before .before .before .before .before .before .before .sequence-at .ensures) ∙ c .before .before .before .before .before .before .before .before .e .given .1) (rw (← c .before .before .before .before .before .before .extension-of .ensures) (c .before .before .before .before .before .slot-of .ensures)) (rw (← c .before .before .before .before .before .before .extension-of .ensures) (c .before .before .before .before .unusual .ensures _ (c .before .before .before .before .before .slot-of .ensures))) (rw (← c .before .before .before .before .before .before .extension-of .ensures) (c .held-of2 .ensures)) (c .before .before .before .if1 .taken) (c .before .if2 .left)
 
 loop-less-3 : tie.Need-loop-less-3 Inv-loop μ-loop
-loop-less-3 c = omega (arith, found-within _ _ _ (sym (c .before .before .before .before .before .before .before .before .element-at .ensures) ∙ c .before .before .before .before .before .before .e .given .1))
+loop-less-3 c = omega (arith, found-within _ _ _ (sym (c .before .before .before .before .before .before .before .before .sequence-at .ensures) ∙ c .before .before .before .before .before .before .e .given .1))
 
 loop-again-3 : tie.Need-loop-again-3 Inv-loop μ-loop
-loop-again-3 c = far-stranger (c .before .before .before .before .before .before .before .before .before .loop .inv) (sym (c .before .before .before .before .before .before .before .before .element-at .ensures) ∙ c .before .before .before .before .before .before .e .given .1) (rw (← c .before .before .before .before .extension-of .ensures) (c .before .before .before .slot-of .ensures)) (rw (← c .before .before .before .before .extension-of .ensures) (c .before .before .unusual .ensures _ (c .before .before .before .slot-of .ensures))) (c .before .if1 .left)
+loop-again-3 c = far-stranger (c .before .before .before .before .before .before .before .before .before .loop .inv) (sym (c .before .before .before .before .before .before .before .before .sequence-at .ensures) ∙ c .before .before .before .before .before .before .e .given .1) (rw (← c .before .before .before .before .extension-of .ensures) (c .before .before .before .slot-of .ensures)) (rw (← c .before .before .before .before .extension-of .ensures) (c .before .before .unusual .ensures _ (c .before .before .before .slot-of .ensures))) (c .before .if1 .left)
 
 loop-less-4 : tie.Need-loop-less-4 Inv-loop μ-loop
-loop-less-4 c = omega (arith, found-within _ _ _ (sym (c .before .before .before .before .before .before .before .before .element-at .ensures) ∙ c .before .before .before .before .before .before .e .given .1))
+loop-less-4 c = omega (arith, found-within _ _ _ (sym (c .before .before .before .before .before .before .before .before .sequence-at .ensures) ∙ c .before .before .before .before .before .before .e .given .1))
 
 loop-again-4 : tie.Need-loop-again-4 Inv-loop μ-loop
-loop-again-4 c = far-none (c .before .before .before .before .before .before .before .before .before .loop .inv) (sym (c .before .before .before .before .before .before .before .before .element-at .ensures) ∙ c .before .before .before .before .before .before .e .given .1) (rw (← c .before .before .before .before .extension-of .ensures) (c .before .before .before .slot-of .ensures)) (rw (← c .before .before .before .before .extension-of .ensures) (c .before .before .unusual .ensures _ (c .before .before .before .slot-of .ensures))) (c .if3 .left)
+loop-again-4 c = far-none (c .before .before .before .before .before .before .before .before .before .loop .inv) (sym (c .before .before .before .before .before .before .before .before .sequence-at .ensures) ∙ c .before .before .before .before .before .before .e .given .1) (rw (← c .before .before .before .before .extension-of .ensures) (c .before .before .before .slot-of .ensures)) (rw (← c .before .before .before .before .extension-of .ensures) (c .before .before .unusual .ensures _ (c .before .before .before .slot-of .ensures))) (c .if3 .left)
 
 doubled-requires : tie.Need-doubled-requires Inv-loop μ-loop
 doubled-requires c κs = search needs
 
 returns : tie.Need-returns Inv-loop μ-loop
-returns c = record { shaped = end-shape (c .before .before .before .before .before .before .loop .inv) (sym (c .before .before .before .before .before .element-at .ensures) ∙ c .before .before .before .enum-told .given .1); critical = end-harsh (c .before .before .before .before .before .before .loop .inv) (sym (c .before .before .before .before .before .element-at .ensures) ∙ c .before .before .before .enum-told .given .1); doubled = c .doubled .ensures; placed = end-placed (c .before .before .before .before .before .before .loop .inv) (sym (c .before .before .before .before .before .element-at .ensures) ∙ c .before .before .before .enum-told .given .1) }
+returns c = record { shaped = end-shape (c .before .before .before .before .before .before .loop .inv) (sym (c .before .before .before .before .before .sequence-at .ensures) ∙ c .before .before .before .enum-told .given .1); critical = end-harsh (c .before .before .before .before .before .before .loop .inv) (sym (c .before .before .before .before .before .sequence-at .ensures) ∙ c .before .before .before .enum-told .given .1); doubled = c .doubled .ensures; placed = end-placed (c .before .before .before .before .before .before .loop .inv) (sym (c .before .before .before .before .before .sequence-at .ensures) ∙ c .before .before .before .enum-told .given .1) }
 
 returns-2 : tie.Need-returns-2 Inv-loop μ-loop
-returns-2 c = record { shaped = end-shape (c .before .before .before .before .before .loop .inv) (sym (c .before .before .before .before .element-at .ensures) ∙ c .before .before .enum-told .given .1); critical = end-harsh (c .before .before .before .before .before .loop .inv) (sym (c .before .before .before .before .element-at .ensures) ∙ c .before .before .enum-told .given .1); doubled = end-apart (c .before .before .before .before .before .loop .inv) (sym (c .before .before .before .before .element-at .ensures) ∙ c .before .before .enum-told .given .1) (not-true _ (c .before .if4 .taken)) (c .if5 .left); placed = end-placed (c .before .before .before .before .before .loop .inv) (sym (c .before .before .before .before .element-at .ensures) ∙ c .before .before .enum-told .given .1) }
+returns-2 c = record { shaped = end-shape (c .before .before .before .before .before .loop .inv) (sym (c .before .before .before .before .sequence-at .ensures) ∙ c .before .before .enum-told .given .1); critical = end-harsh (c .before .before .before .before .before .loop .inv) (sym (c .before .before .before .before .sequence-at .ensures) ∙ c .before .before .enum-told .given .1); doubled = end-apart (c .before .before .before .before .before .loop .inv) (sym (c .before .before .before .before .sequence-at .ensures) ∙ c .before .before .enum-told .given .1) (not-true _ (c .before .if4 .taken)) (c .if5 .left); placed = end-placed (c .before .before .before .before .before .loop .inv) (sym (c .before .before .before .before .sequence-at .ensures) ∙ c .before .before .enum-told .given .1) }
 
 returns-3 : tie.Need-returns-3 Inv-loop μ-loop
-returns-3 c = record { shaped = end-shape (c .before .before .before .before .loop .inv) (sym (c .before .before .before .element-at .ensures) ∙ c .before .enum-told .given .1); critical = end-harsh (c .before .before .before .before .loop .inv) (sym (c .before .before .before .element-at .ensures) ∙ c .before .enum-told .given .1); doubled = end-twice (c .before .before .before .before .loop .inv) (sym (c .before .before .before .element-at .ensures) ∙ c .before .enum-told .given .1) (not-false _ (c .if4 .left)); placed = end-placed (c .before .before .before .before .loop .inv) (sym (c .before .before .before .element-at .ensures) ∙ c .before .enum-told .given .1) }
+returns-3 c = record { shaped = end-shape (c .before .before .before .before .loop .inv) (sym (c .before .before .before .sequence-at .ensures) ∙ c .before .enum-told .given .1); critical = end-harsh (c .before .before .before .before .loop .inv) (sym (c .before .before .before .sequence-at .ensures) ∙ c .before .enum-told .given .1); doubled = end-twice (c .before .before .before .before .loop .inv) (sym (c .before .before .before .sequence-at .ensures) ∙ c .before .enum-told .given .1) (not-false _ (c .if4 .left)); placed = end-placed (c .before .before .before .before .loop .inv) (sym (c .before .before .before .sequence-at .ensures) ∙ c .before .enum-told .given .1) }
 
 pub one-pass-spec : {M : Type 1} → statement M
 one-pass-spec =
@@ -103,7 +103,7 @@ one-pass-spec =
     μ-loop
     held-of-requires
     loop-holds
-    element-at-requires
+    sequence-at-requires
     enum-known-e
     enum-told
     extension-of-requires

@@ -4,7 +4,8 @@ use native.Mathlib.Omega.{arith}
 use borrow.Author.Tests.{ne-eqb}
 use Rattle.elements.specs.Octets.{alike}
 use Rattle.extensions.specs.Extensions.{present, hasOid, oidOf}
-use Rattle.extensions.proofs.Slots.{three, slot-types, slot-none}
+use Rattle.elements.proofs.Likeness.{three}
+use Rattle.extensions.proofs.Slots.{slot-types, slot-none}
 use borrow.Author.Needs.{needs}
 use Rattle.extensions.proofs.slot_of.Statement.{statement}
 use Rattle.extensions.proofs.slot_of.Tie as tie

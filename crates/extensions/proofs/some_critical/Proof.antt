@@ -19,8 +19,8 @@ loop-holds : tie.Need-loop-holds Inv-loop μ-loop
 unfolding criticalOf inside
 loop-holds c = refl
 
-element-at-requires : tie.Need-element-at-requires Inv-loop μ-loop
-element-at-requires c κs = search needs
+sequence-at-requires : tie.Need-sequence-at-requires Inv-loop μ-loop
+sequence-at-requires c κs = search needs
 
 enum-known-e : tie.Need-enum-known-e Inv-loop μ-loop
 enum-known-e c = search needs
@@ -30,7 +30,7 @@ enum-told c = search needs
 
 returns : tie.Need-returns Inv-loop μ-loop
 unfolding someCritical
-returns c = sym (c .before .before .before .loop .inv ∙ rw (members-none _ _ _ (sym (c .before .before .element-at .ensures) ∙ c .enum-told .given .1)))
+returns c = sym (c .before .before .before .loop .inv ∙ rw (members-none _ _ _ (sym (c .before .before .sequence-at .ensures) ∙ c .enum-told .given .1)))
 
 extension-of-requires : tie.Need-extension-of-requires Inv-loop μ-loop
 extension-of-requires c κs = search needs
@@ -40,14 +40,14 @@ refused-critical-requires c κs = search needs
 
 returns-2 : tie.Need-returns-2 Inv-loop μ-loop
 unfolding someCritical
-returns-2 c = sym (c .before .before .before .before .before .before .before .loop .inv ∙ rw (members-more _ _ _ (sym (c .before .before .before .before .before .before .element-at .ensures) ∙ c .before .before .before .before .e .given .1), ← c .before .before .extension-of .ensures, ← c .before .refused-critical .ensures, c .if1 .taken))
+returns-2 c = sym (c .before .before .before .before .before .before .before .loop .inv ∙ rw (members-more _ _ _ (sym (c .before .before .before .before .before .before .sequence-at .ensures) ∙ c .before .before .before .before .e .given .1), ← c .before .before .extension-of .ensures, ← c .before .refused-critical .ensures, c .if1 .taken))
 
 loop-less : tie.Need-loop-less Inv-loop μ-loop
-loop-less c = omega (arith, found-within _ _ _ (sym (c .before .before .before .before .before .before .element-at .ensures) ∙ c .before .before .before .before .e .given .1))
+loop-less c = omega (arith, found-within _ _ _ (sym (c .before .before .before .before .before .before .sequence-at .ensures) ∙ c .before .before .before .before .e .given .1))
 
 loop-again : tie.Need-loop-again Inv-loop μ-loop
 unfolding someCritical
-loop-again c = c .before .before .before .before .before .before .before .loop .inv ∙ rw (members-more _ _ _ (sym (c .before .before .before .before .before .before .element-at .ensures) ∙ c .before .before .before .before .e .given .1), ← c .before .before .extension-of .ensures, ← c .before .refused-critical .ensures, c .if1 .left)
+loop-again c = c .before .before .before .before .before .before .before .loop .inv ∙ rw (members-more _ _ _ (sym (c .before .before .before .before .before .before .sequence-at .ensures) ∙ c .before .before .before .before .e .given .1), ← c .before .before .extension-of .ensures, ← c .before .refused-critical .ensures, c .if1 .left)
 
 pub some-critical-spec : {M : Type 1} → statement M
 some-critical-spec =
@@ -56,7 +56,7 @@ some-critical-spec =
     Inv-loop
     μ-loop
     loop-holds
-    element-at-requires
+    sequence-at-requires
     enum-known-e
     enum-told
     returns

@@ -7,7 +7,7 @@ use borrow.Author.Tests.{eq-eqb, ne-eqb}
 use Rattle.elements.specs.Elements.{membersOf, inside}
 use Rattle.names.specs.Names.{setsOf, nameOf}
 use Rattle.elements.proofs.Members.{found-within}
-use Rattle.names.proofs.Sets.{sets-done, sets-bad, sets-more, sets-plain}
+use Rattle.names.proofs.Sets.{sets-done, sets-bad, sets-more, sets-plain, sets-country}
 use Rattle.names.proofs.name_of.Statement.{statement}
 use Rattle.names.proofs.name_of.Tie as tie
 
@@ -34,6 +34,24 @@ loop-less c = let p = c .before .plain-set .ensures (c .if2 .taken) in omega (ar
 loop-again : tie.Need-loop-again Inv-loop μ-loop
 loop-again c = sym (sets-plain _ _ _ _ (c .before .plain-set .ensures (c .if2 .taken))) ∙ c .before .before .loop .inv
 
+country-set-requires : tie.Need-country-set-requires Inv-loop μ-loop
+country-set-requires c κs = search needs
+
+add-t12 : tie.Need-add-t12 Inv-loop μ-loop
+add-t12 c = omega (arith, c .before .country-set .ensures (c .if3 .taken) .wide)
+
+add-t13 : tie.Need-add-t13 Inv-loop μ-loop
+add-t13 c = omega (arith, c .before .country-set .ensures (c .if3 .taken) .wide)
+
+one-more-requires : tie.Need-one-more-requires Inv-loop μ-loop
+one-more-requires c κs = search needs
+
+loop-less-2 : tie.Need-loop-less-2 Inv-loop μ-loop
+loop-less-2 c = let p = c .before .before .country-set .ensures (c .before .if3 .taken) in omega (arith, p .ends, found-within _ _ _ (p .found))
+
+loop-again-2 : tie.Need-loop-again-2 Inv-loop μ-loop
+loop-again-2 c = rw (c .one-more .ensures) (sym (sets-country _ _ _ _ (c .before .before .country-set .ensures (c .before .if3 .taken))) ∙ c .before .before .before .before .before .loop .inv)
+
 element-at-requires : tie.Need-element-at-requires Inv-loop μ-loop
 element-at-requires c κs = search needs
 
@@ -44,7 +62,7 @@ enum-told : tie.Need-enum-told Inv-loop μ-loop
 enum-told c = search needs
 
 returns-2 : tie.Need-returns-2 Inv-loop μ-loop
-returns-2 c = sym (sets-done _ _ _ _ (sym (c .before .before .element-at .ensures) ∙ c .enum-told .given .1)) ∙ c .before .before .before .before .before .loop .inv
+returns-2 c = sym (sets-done _ _ _ _ (sym (c .before .before .element-at .ensures) ∙ c .enum-told .given .1)) ∙ c .before .before .before .before .before .before .before .loop .inv
 
 set-of-requires : tie.Need-set-of-requires Inv-loop μ-loop
 set-of-requires c κs = search needs
@@ -56,13 +74,13 @@ enum-told-2 : tie.Need-enum-told-2 Inv-loop μ-loop
 enum-told-2 c = search needs
 
 returns-3 : tie.Need-returns-3 Inv-loop μ-loop
-returns-3 c = sym (sets-bad _ _ _ _ (sym (c .before .before .before .before .before .before .element-at .ensures) ∙ c .before .before .before .before .set .given .1) (sym (c .before .before .set-of .ensures) ∙ c .enum-told2 .given .1)) ∙ c .before .before .before .before .before .before .before .before .before .loop .inv
+returns-3 c = sym (sets-bad _ _ _ _ (sym (c .before .before .before .before .before .before .element-at .ensures) ∙ c .before .before .before .before .set .given .1) (sym (c .before .before .set-of .ensures) ∙ c .enum-told2 .given .1)) ∙ c .before .before .before .before .before .before .before .before .before .before .before .loop .inv
 
-loop-less-2 : tie.Need-loop-less-2 Inv-loop μ-loop
-loop-less-2 c = omega (arith, found-within _ _ _ (sym (c .before .before .before .before .before .before .before .element-at .ensures) ∙ c .before .before .before .before .before .set .given .1))
+loop-less-3 : tie.Need-loop-less-3 Inv-loop μ-loop
+loop-less-3 c = omega (arith, found-within _ _ _ (sym (c .before .before .before .before .before .before .before .element-at .ensures) ∙ c .before .before .before .before .before .set .given .1))
 
-loop-again-2 : tie.Need-loop-again-2 Inv-loop μ-loop
-loop-again-2 c = sym (sets-more _ _ _ _ (sym (c .before .before .before .before .before .before .before .element-at .ensures) ∙ c .before .before .before .before .before .set .given .1) (sym (c .before .before .before .set-of .ensures) ∙ c .before .more .given .1)) ∙ c .before .before .before .before .before .before .before .before .before .before .loop .inv
+loop-again-3 : tie.Need-loop-again-3 Inv-loop μ-loop
+loop-again-3 c = sym (sets-more _ _ _ _ (sym (c .before .before .before .before .before .before .before .element-at .ensures) ∙ c .before .before .before .before .before .set .given .1) (sym (c .before .before .before .set-of .ensures) ∙ c .before .more .given .1)) ∙ c .before .before .before .before .before .before .before .before .before .before .before .before .loop .inv
 
 pub name-of-spec : {M : Type 1} → statement M
 name-of-spec =
@@ -75,6 +93,12 @@ name-of-spec =
     plain-set-requires
     loop-less
     loop-again
+    country-set-requires
+    add-t12
+    add-t13
+    one-more-requires
+    loop-less-2
+    loop-again-2
     element-at-requires
     enum-known-set
     enum-told
@@ -83,5 +107,5 @@ name-of-spec =
     enum-known-more
     enum-told-2
     returns-3
-    loop-less-2
-    loop-again-2)
+    loop-less-3
+    loop-again-3)

@@ -1,32 +1,33 @@
--- The element that is found is kept if its tag is the one asked for.
-use mathlib.Core.Path.{sym, _∙_}
+-- A usual tag with a short header is the element that stands there; any other is asked for in the general way.
+use mathlib.Core.Path.{refl, sym, _∙_}
+use native.Mathlib.Omega.{arith}
 use borrow.Author.Needs.{needs}
 use Rattle.elements.specs.Elements.{foundTagged}
-use Rattle.elements.proofs.Members.{tag-missing, tag-kept, tag-other}
+use Rattle.elements.proofs.Members.{tag-kept}
+use Rattle.elements.proofs.Shorts.{short-found, short-within}
 use Rattle.elements.proofs.elements.element_tagged.Statement.{statement}
 use Rattle.elements.proofs.elements.element_tagged.Tie as tie
 
-element-at-requires : tie.Need-element-at-requires
-element-at-requires c κs = search needs
+short-end-requires : tie.Need-short-end-requires
+short-end-requires c κs = search needs
 
-enum-known-e : tie.Need-enum-known-e
-enum-known-e c = search needs
+usual-requires : tie.Need-usual-requires
+usual-requires c κs = search needs
 
-enum-told : tie.Need-enum-told
-enum-told c = search needs
+add-t8 : tie.Need-add-t8
+add-t8 c = omega (arith, short-within _ _ _ _ (c .before .before .before .short-end .ensures) (c .before .before .if1 .taken))
 
 returns : tie.Need-returns
 unfolding foundTagged
-returns c = sym (tag-missing _ (sym (c .before .before .element-at .ensures) ∙ c .enum-told .given .1))
+returns c = sym (tag-kept _ (short-found _ _ _ _ (c .before .usual .ensures (c .if2 .taken)) (c .before .before .if1 .taken) (c .before .before .before .short-end .ensures)) refl)
+
+any-tagged-requires : tie.Need-any-tagged-requires
+any-tagged-requires c κs = search needs
 
 returns-2 : tie.Need-returns-2
-unfolding foundTagged
-returns-2 c = sym (tag-kept _ (sym (c .before .before .before .before .before .element-at .ensures) ∙ c .before .before .before .e .given .1) (c .if1 .taken))
-
-returns-3 : tie.Need-returns-3
-unfolding foundTagged
-returns-3 c = sym (tag-other _ (sym (c .before .before .before .before .before .element-at .ensures) ∙ c .before .before .before .e .given .1) (c .if1 .left))
+returns-2 c = search needs
 
 pub element-tagged-spec : {M : Type 1} → statement M
 element-tagged-spec =
-    tie.close (tie.spec element-at-requires enum-known-e enum-told returns returns-2 returns-3)
+    tie.close
+    (tie.spec short-end-requires usual-requires add-t8 returns any-tagged-requires returns-2)

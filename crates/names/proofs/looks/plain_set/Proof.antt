@@ -5,8 +5,8 @@ use borrow.Author.Needs.{needs}
 use Rattle.der.specs.Heading.{identifierGood}
 use Rattle.elements.proofs.Shorts.{short-within, short-inside}
 use Rattle.names.proofs.Plains.{plain-set}
-use Rattle.names.proofs.plain_set.Statement.{statement}
-use Rattle.names.proofs.plain_set.Tie as tie
+use Rattle.names.proofs.looks.plain_set.Statement.{statement}
+use Rattle.names.proofs.looks.plain_set.Tie as tie
 
 short-end-requires : tie.Need-short-end-requires
 short-end-requires c κs = search needs

@@ -1,0 +1,32 @@
+-- The element that is found is kept if its tag is the one asked for.
+use mathlib.Core.Path.{sym, _∙_}
+use borrow.Author.Needs.{needs}
+use Rattle.elements.specs.Elements.{foundTagged}
+use Rattle.elements.proofs.Members.{tag-missing, tag-kept, tag-other}
+use Rattle.elements.proofs.elements.any_tagged.Statement.{statement}
+use Rattle.elements.proofs.elements.any_tagged.Tie as tie
+
+element-at-requires : tie.Need-element-at-requires
+element-at-requires c κs = search needs
+
+enum-known-e : tie.Need-enum-known-e
+enum-known-e c = search needs
+
+enum-told : tie.Need-enum-told
+enum-told c = search needs
+
+returns : tie.Need-returns
+unfolding foundTagged
+returns c = sym (tag-missing _ (sym (c .before .before .element-at .ensures) ∙ c .enum-told .given .1))
+
+returns-2 : tie.Need-returns-2
+unfolding foundTagged
+returns-2 c = sym (tag-kept _ (sym (c .before .before .before .before .before .element-at .ensures) ∙ c .before .before .before .e .given .1) (c .if1 .taken))
+
+returns-3 : tie.Need-returns-3
+unfolding foundTagged
+returns-3 c = sym (tag-other _ (sym (c .before .before .before .before .before .element-at .ensures) ∙ c .before .before .before .e .given .1) (c .if1 .left))
+
+pub any-tagged-spec : {M : Type 1} → statement M
+any-tagged-spec =
+    tie.close (tie.spec element-at-requires enum-known-e enum-told returns returns-2 returns-3)
