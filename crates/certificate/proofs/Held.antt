@@ -10,7 +10,7 @@ use Rattle.extensions.specs.declared.Extension.the-variants.{Is, Absent}
 use Rattle.extensions.specs.declared.Held.{Held}
 use Rattle.elements.specs.Octets.{alike}
 use Rattle.elements.specs.Elements.{contentsOf}
-use Rattle.extensions.specs.Extensions.{heldOf, present}
+use Rattle.extensions.specs.Extensions.{heldOf}
 use Rattle.certificate.specs.Keys.{walks, valueOf, octetString, firstOf, listGood}
 use Rattle.certificate.specs.Rules.{criticalWith}
 
@@ -25,11 +25,6 @@ pub record Holds (held : Held) (x : Extension) : Type 0 where
   pub end : held .end ≡ value .end
 
 module _ {held : Held} where
-  pub there-present : (x : Extension) → held ≡ heldOf x → held .there ≡ present x
-  unfolding heldOf present
-  there-present Absent h = rw h
-  there-present (Is oid critical value) h = rw h
-
   pub held-none : (x : Extension) → held ≡ heldOf x → held .there ≡ false → x ≡ Absent
   unfolding heldOf
   held-none Absent h n = refl

@@ -1,11 +1,11 @@
 // Entries of a CRL, and what the rules ask of all of them, found in one pass.
+use crate::passes::extensions_shaped;
+use crate::passes::some_critical;
 use elements::Element;
 use elements::Found;
 use elements::element_at;
 use elements::element_tagged;
 use elements::short_end;
-use extensions::extensions_shaped;
-use extensions::some_critical;
 use times::Time;
 use times::time_at;
 use times::time_of;
@@ -79,7 +79,7 @@ pub(crate) fn survey_of(item: &[u8], from: usize, end: usize) -> Survey
                 if !is_time(item, time) {
                     timely = false;
                 }
-                if some_critical(item, extensions, false) {
+                if some_critical(item, extensions) {
                     calm = false;
                 }
             }

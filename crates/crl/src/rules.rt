@@ -3,17 +3,18 @@ use crate::shapes::Layout;
 use elements::contents;
 use elements::same;
 use elements::whole;
-use extensions::Extension;
-use extensions::doubled;
-use extensions::lookup;
-use extensions::some_critical;
+use extensions::Held;
+use extensions::one_pass;
 use names::Letters;
 use names::letters_of;
 use times::Time;
 use times::in_order;
 use times::time_of;
 ghost use mathlib.Core.Path.{_≡_};
-ghost use Rattle.extensions.specs.Extensions.{present};
+ghost use mathlib.Core.Bool.{false};
+ghost use mathlib.Core.List.{List};
+ghost use Prim.Native.Nat.{ℕ};
+ghost use Rattle.extensions.specs.Extensions.{Placed, doubledOf, criticalOf};
 ghost use Rattle.refusal.specs.Rules.{firstBroken};
 ghost use Rattle.crl.specs.Rules.{readingsOf, rule2, rule3, rule4, rule5, rule6, rule7, rule8, rules2to8};
 
@@ -59,10 +60,13 @@ pub(crate) fn rules_2_to_8(item: &[u8], l: Layout, r: Readings) -> u64
     if !list_filled(l) {
         return 6;
     }
-    if !extensions_good(item, l) {
+    let extensions = l.extensions;
+    let seen = one_pass(item, extensions);
+    let slots = seen.slots;
+    if !extensions_good(l, seen.doubled, slots) {
         return 7;
     }
-    if !nothing_critical(item, l) {
+    if !nothing_critical(l, seen.marked) {
         return 8;
     }
     0
@@ -122,38 +126,25 @@ fn list_filled(l: Layout) -> bool
 }
 
 // 7: no OID twice, authorityKeyIdentifier and cRLNumber there.
-fn extensions_good(item: &[u8], l: Layout) -> bool
-    ensures { λ r. ⌜ r ≡ rule7 (now (item .entry)) l ⌝ }
+fn extensions_good(l: Layout, doubled: bool, slots: [Held; 23]) -> bool
+    ensures { λ r. ⌜ ((s : List ℕ) → doubled ≡ doubledOf s (l .extensions) → Placed s (l .extensions) slots → r ≡ rule7 s l) ⌝ }
 {
-    let extensions = l.extensions;
-    if doubled(item, extensions) {
+    if doubled {
         return false;
     }
-    if !there(lookup(item, extensions, b"\x55\x1d\x23")) {
+    let authority = slots[21];
+    if !authority.there {
         return false;
     }
-    there(lookup(item, extensions, b"\x55\x1d\x14"))
-}
-
-fn there(extension: Extension) -> bool
-    ensures { λ r. ⌜ r ≡ present extension ⌝ }
-{
-    match extension {
-        Extension::Is {
-            oid: _,
-            critical: _,
-            value: _,
-        } => true,
-        Extension::Absent => false,
-    }
+    let number = slots[6];
+    number.there
 }
 
 // 8: nothing critical, in entries either.
-fn nothing_critical(item: &[u8], l: Layout) -> bool
-    ensures { λ r. ⌜ r ≡ rule8 (now (item .entry)) l ⌝ }
+fn nothing_critical(l: Layout, marked: bool) -> bool
+    ensures { λ r. ⌜ ((s : List ℕ) → marked ≡ criticalOf s (l .extensions) false → r ≡ rule8 s l) ⌝ }
 {
-    let extensions = l.extensions;
-    if some_critical(item, extensions, false) {
+    if marked {
         return false;
     }
     l.calm

@@ -1,13 +1,13 @@
 // CRL rule 1: the shape.
 use crate::entries::Survey;
 use crate::entries::survey_of;
+use crate::passes::extensions_shaped;
 use elements::Element;
 use elements::Envelope;
 use elements::Found;
 use elements::element_tagged;
 use elements::envelope_of;
 use elements::only_member;
-use extensions::extensions_shaped;
 use names::Name;
 use names::Seen;
 use names::name_of;

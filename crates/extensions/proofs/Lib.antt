@@ -1,5 +1,4 @@
 pub mod Oids
-pub mod Places
 pub mod Slots
 pub mod Strangers
 pub mod Passing

@@ -18,17 +18,19 @@ use Rattle.extensions.specs.Extensions.{extensionOf, present, allShaped,
 use Rattle.extensions.proofs.Slots.{has-there, held-there, Open, open-start, open-none, open-set, open-left}
 use Rattle.extensions.proofs.Strangers.{Apart, apart-start, apart-none, apart-again, apart-new, apart-stranger, apart-absent}
 
-pub record Far (s : List ℕ) (x : Element) (shaped critical twice strange unsure : Bool) (slots : List Held) (at : ℕ) : Type 0 where
+pub record Far (s : List ℕ) (x : Element) (shaped marked critical twice strange unsure : Bool) (slots : List Held) (at : ℕ) : Type 0 where
   pub shape : extensionsShaped s x ≡ (shaped && allShaped s (membersOf s at (x .end)))
+  pub marks : criticalOf s x false ≡ (marked || someCritical s false (membersOf s at (x .end)))
   pub harsh : criticalOf s x true ≡ (critical || someCritical s true (membersOf s at (x .end)))
   pub table : Open s (x .contents) (x .end) slots at
   pub apart : Apart s (x .contents) (x .end) slots twice strange unsure at
 
-pub far-start : (s : List ℕ) (x : Element) → Far s x (eqb (x .tag) 0x30) false false false false (replicate 23 (heldOf Absent)) (x .contents)
+pub far-start : (s : List ℕ) (x : Element) → Far s x (eqb (x .tag) 0x30) false false false false false (replicate 23 (heldOf Absent)) (x .contents)
 unfolding extensionsShaped criticalOf inside
 far-start s x =
     record {
       shape = go (eqb (x .tag) 0x30);
+      marks = refl;
       harsh = refl;
       table = open-start s (x .contents) (x .end);
       apart = apart-start s (x .contents) (x .end);
@@ -38,7 +40,7 @@ far-start s x =
     go true = refl
     go false = refl
 
-module _ {s : List ℕ} {x : Element} {shaped critical twice strange unsure : Bool} {slots : List Held} {at : ℕ} (p : Far s x shaped critical twice strange unsure slots at) where
+module _ {s : List ℕ} {x : Element} {shaped marked critical twice strange unsure : Bool} {slots : List Held} {at : ℕ} (p : Far s x shaped marked critical twice strange unsure slots at) where
   module _ (f : foundAt s at (x .end) ≡ Missing) where
     pub end-shape : shaped ≡ extensionsShaped s x
     unfolding allShaped
@@ -48,13 +50,19 @@ module _ {s : List ℕ} {x : Element} {shaped critical twice strange unsure : Bo
         go true = refl
         go false = refl
 
-    pub end-harsh : critical ≡ criticalOf s x true
+    none-critical : (allow flag : Bool) → criticalOf s x allow ≡ (flag || someCritical s allow (membersOf s at (x .end))) → flag ≡ criticalOf s x allow
     unfolding someCritical
-    end-harsh = sym (p .harsh ∙ rw (members-none s at (x .end) f) (go critical))
+    none-critical allow flag h = sym (h ∙ rw (members-none s at (x .end) f) (go flag))
       where
         go : (t : Bool) → (t || false) ≡ t
         go true = refl
         go false = refl
+
+    pub end-marks : marked ≡ criticalOf s x false
+    end-marks = none-critical false marked (p .marks)
+
+    pub end-harsh : critical ≡ criticalOf s x true
+    end-harsh = none-critical true critical (p .harsh)
 
     pub end-placed : Placed s x slots
     unfolding lookupOf inside
@@ -68,7 +76,7 @@ module _ {s : List ℕ} {x : Element} {shaped critical twice strange unsure : Bo
     unfolding doubledOf inside
     end-twice t = t ∙ sym (p .apart .told t)
 
-  module _ {e : Element} {slot : ℕ} {told : Bool} (f : foundAt s at (x .end) ≡ One e) (h : Slotted s (extensionOf s e) slot) (u : told ≡ refusedCritical s true (extensionOf s e)) where
+  module _ {e : Element} {slot : ℕ} {mark told : Bool} (f : foundAt s at (x .end) ≡ One e) (h : Slotted s (extensionOf s e) slot) (m : mark ≡ refusedCritical s false (extensionOf s e)) (u : told ≡ refusedCritical s true (extensionOf s e)) where
     shape-next : extensionsShaped s x ≡ ((shaped && not (eqb slot 24)) && allShaped s (membersOf s (e .end) (x .end)))
     unfolding allShaped
     shape-next = p .shape ∙ rw (members-more s at (x .end) f, h .there) (go shaped (not (eqb slot 24)) (allShaped s (membersOf s (e .end) (x .end))))
@@ -78,9 +86,11 @@ module _ {s : List ℕ} {x : Element} {shaped critical twice strange unsure : Bo
         go true false c = refl
         go false b c = refl
 
-    harsh-next : criticalOf s x true ≡ ((critical || told) || someCritical s true (membersOf s (e .end) (x .end)))
+    critical-next :
+        (allow flag more : Bool) → criticalOf s x allow ≡ (flag || someCritical s allow (membersOf s at (x .end))) → more ≡ refusedCritical s allow (extensionOf s e)
+        → criticalOf s x allow ≡ ((flag || more) || someCritical s allow (membersOf s (e .end) (x .end)))
     unfolding someCritical
-    harsh-next = p .harsh ∙ rw (members-more s at (x .end) f, ← u) (go critical told (someCritical s true (membersOf s (e .end) (x .end))))
+    critical-next allow flag more was is = was ∙ rw (members-more s at (x .end) f, ← is) (go flag more (someCritical s allow (membersOf s (e .end) (x .end))))
       where
         go : (a b c : Bool) → (a || cond b true c) ≡ ((a || b) || c)
         go true b c = refl
@@ -88,10 +98,10 @@ module _ {s : List ℕ} {x : Element} {shaped critical twice strange unsure : Bo
         go false false c = refl
 
     abbrev Next : Bool → Bool → Bool → List Held → Type 0
-    Next twice strange unsure slots = Far s x (shaped && not (eqb slot 24)) (critical || told) twice strange unsure slots (e .end)
+    Next twice strange unsure slots = Far s x (shaped && not (eqb slot 24)) (marked || mark) (critical || told) twice strange unsure slots (e .end)
 
     far-next : {after : List Held} {doubled stranger doubt : Bool} → Open s (x .contents) (x .end) after (e .end) → Apart s (x .contents) (x .end) after doubled stranger doubt (e .end) → Next doubled stranger doubt after
-    far-next o a = record { shape = shape-next; harsh = harsh-next; table = o; apart = a }
+    far-next o a = record { shape = shape-next; marks = critical-next false marked mark (p .marks) m; harsh = critical-next true critical told (p .harsh) u; table = o; apart = a }
 
     pub far-new : {held : Held} → held ≡ heldOf (extensionOf s e) → slot < 23 → getD slots slot (heldOf Absent) .there ≡ false → Next twice strange unsure (set slots slot held)
     far-new {held} new l g = far-next (open-set (p .table) f h new l g) (apart-new (p .apart) f h held there (p .table .long) l g)

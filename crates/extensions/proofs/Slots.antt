@@ -132,6 +132,12 @@ unfolding present heldOf
 held-there Absent h = h
 held-there (Is own critical value) h = refl
 
+-- what is held says whether it is there
+pub there-present : {held : Held} (x : Extension) → held ≡ heldOf x → held .there ≡ present x
+unfolding heldOf present
+there-present Absent h = rw h
+there-present (Is oid critical value) h = rw h
+
 module _ {s : List ℕ} {from end at : ℕ} {slots : List Held} (o : Open s from end slots at) where
   pub open-none : foundAt s at end ≡ Missing → (k : ℕ) → k < 23 → getD slots k (heldOf Absent) ≡ heldOf (firstWith s (oidOf k) (membersOf s from end))
   unfolding firstWith

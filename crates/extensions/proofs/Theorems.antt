@@ -18,16 +18,16 @@ one-table :
 one-table s extensions r q m n a b =
     ext-getD (heldOf Absent) r q (m ∙ sym n) (λ k h. let l : k < 23 = omega (arith, h, m) in a .each k l ∙ sym (b .each k l))
 
-unfoldable made : Bool → Bool → Bool → List Held → Overview
-made shaped critical doubled slots = record { shaped = shaped; critical = critical; doubled = doubled; slots = slots }
+unfoldable made : Bool → Bool → Bool → Bool → List Held → Overview
+made shaped marked critical doubled slots = record { shaped = shaped; marked = marked; critical = critical; doubled = doubled; slots = slots }
 
-same-made : {a b c d e f : Bool} {t u : List Held} → a ≡ d → b ≡ e → c ≡ f → t ≡ u → made a b c t ≡ made d e f u
-same-made p q r w = cc
+same-made : {a b c d e f g h : Bool} {t u : List Held} → a ≡ e → b ≡ f → c ≡ g → d ≡ h → t ≡ u → made a b c d t ≡ made e f g h u
+same-made p q r v w = cc
 
 pub one-overview :
     (s : List ℕ) (extensions : Element) (r q : Overview) → length (r .slots) ≡ 23 → length (q .slots) ≡ 23 → Viewed s extensions r
     → Viewed s extensions q → r ≡ q
 unfolding made
 one-overview s extensions r q m n a b =
-    same-made (a .shaped ∙ sym (b .shaped)) (a .critical ∙ sym (b .critical)) (a .doubled ∙ sym (b .doubled))
+    same-made (a .shaped ∙ sym (b .shaped)) (a .marked ∙ sym (b .marked)) (a .critical ∙ sym (b .critical)) (a .doubled ∙ sym (b .doubled))
     (one-table s extensions (r .slots) (q .slots) m n (a .placed) (b .placed))

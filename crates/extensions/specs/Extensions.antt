@@ -56,11 +56,6 @@ firstWith s oid (e ∷ rest) = cond (hasOid s oid (extensionOf s e)) (extensionO
 unfoldable pub lookupOf : List ℕ → Element → List ℕ → Extension
 lookupOf s extensions oid = firstWith s oid (inside s extensions)
 
--- where the first of them with that OID starts, else `none`
-unfoldable pub placeIn : List ℕ → List ℕ → List Element → ℕ → ℕ
-placeIn s oid [] none = none
-placeIn s oid (e ∷ rest) none = cond (hasOid s oid (extensionOf s e)) (e .at) (placeIn s oid rest none)
-
 -- the OIDs that have a slot: 2.5.29.14 to 2.5.29.35 in slots 0 to 21, the document type list in slot 22
 unfoldable pub oidOf : ℕ → List ℕ
 oidOf k =
@@ -119,6 +114,7 @@ criticalOf s extensions allow = someCritical s allow (inside s extensions)
 -- what one pass over the extensions tells
 pub record Viewed (s : List ℕ) (extensions : Element) (o : Overview) : Type 0 where
   pub shaped : o .shaped ≡ extensionsShaped s extensions
+  pub marked : o .marked ≡ criticalOf s extensions false
   pub critical : o .critical ≡ criticalOf s extensions true
   pub doubled : o .doubled ≡ doubledOf s extensions
   pub placed : Placed s extensions (o .slots)

@@ -1,4 +1,4 @@
-// Extensions: their shape, the look-up by OID, and that none stands twice.
+// What one pass over extensions tells of their shape, of those that are critical, of OIDs, and of what they hold.
 mod brief;
 
 use brief::brief_extension;
@@ -10,12 +10,11 @@ use elements::element_at;
 use elements::element_tagged;
 use elements::same;
 ghost use mathlib.Core.Path.{_≡_};
-ghost use mathlib.Core.Bool.{true};
+ghost use mathlib.Core.Bool.{true, false};
 ghost use mathlib.Core.List.{List, [], _∷_};
 ghost use Prim.Native.Nat.{ℕ, _<_};
 ghost use lib.Dec.{eqb};
-ghost use Rattle.extensions.specs.Extensions.{holdingOf, extensionOf, extensionsShaped, lookupOf, doubledOf, hasOid, placeIn, sameOids, refusedCritical, criticalOf, oidOf, heldOf, Slotted, Viewed};
-ghost use Rattle.elements.specs.Elements.{membersOf};
+ghost use Rattle.extensions.specs.Extensions.{holdingOf, extensionOf, doubledOf, hasOid, sameOids, refusedCritical, oidOf, heldOf, Slotted, Viewed};
 ghost use Rattle.elements.specs.Octets.{alike};
 
 pub enum Extension {
@@ -91,42 +90,6 @@ fn holding(extension: Element, oid: Element, critical: bool, next: Found) -> Ext
     Extension::Absent
 }
 
-// A SEQUENCE of extensions.
-pub fn extensions_shaped(item: &[u8], e: Element) -> bool
-    ensures { λ r. ⌜ r ≡ extensionsShaped (now (item .entry)) e ⌝ }
-{
-    if e.tag != 0x30 {
-        return false;
-    }
-    let mut at = e.contents;
-    loop {
-        let Found::One(one) = sequence_at(item, at, e.end) else {
-            return true;
-        };
-        let Extension::Is {
-            oid: _,
-            critical: _,
-            value: _,
-        } = extension_of(item, one)
-        else {
-            return false;
-        };
-        at = one.end;
-    }
-}
-
-// The extension with that OID, the first of them.
-pub fn lookup(item: &[u8], extensions: Element, oid: &[u8]) -> Extension
-    ensures { λ r. ⌜ r ≡ lookupOf (now (item .entry)) extensions (now (oid .entry)) ⌝ }
-{
-    let end = extensions.end;
-    let at = place_of(item, extensions.contents, end, oid);
-    let Found::One(e) = element_at(item, at, end) else {
-        return Extension::Absent;
-    };
-    extension_of(item, e)
-}
-
 // Of an extension: whether it is there, whether it is critical, and where the contents of its value start and end.
 pub struct Held {
     pub there: bool,
@@ -135,11 +98,12 @@ pub struct Held {
     pub end: usize,
 }
 
-// What one pass over the extensions tells: whether each member is one; whether one beside keyUsage and basicConstraints is
-// critical; whether an OID stands twice; and what the first extension with each slot's OID holds: 2.5.29.14 to 2.5.29.35
-// in slots 0 to 21, the document type list in slot 22.
+// What one pass over the extensions tells: whether each member is one; whether one is critical, and whether one beside
+// keyUsage and basicConstraints is; whether an OID stands twice; and what the first extension with each slot's OID holds:
+// 2.5.29.14 to 2.5.29.35 in slots 0 to 21, the document type list in slot 22.
 pub struct Overview {
     pub shaped: bool,
+    pub marked: bool,
     pub critical: bool,
     pub doubled: bool,
     pub slots: [Held; 23],
@@ -151,6 +115,7 @@ pub fn one_pass(item: &[u8], extensions: Element) -> Overview
     ensures { λ r. ⌜ Viewed (now (item .entry)) extensions r ⌝ }
 {
     let mut shaped = extensions.tag == 0x30;
+    let mut marked = false;
     let mut critical = false;
     let mut repeated = false;
     let mut strange = false;
@@ -165,6 +130,7 @@ pub fn one_pass(item: &[u8], extensions: Element) -> Overview
         let own = extension_of(item, e);
         let slot = slot_of(item, own);
         shaped = shaped & (slot != 24);
+        marked = marked | is_critical(own);
         critical = critical | unusual(own, slot);
         if slot < 23 {
             let first = slots[slot];
@@ -186,6 +152,7 @@ pub fn one_pass(item: &[u8], extensions: Element) -> Overview
     }
     Overview {
         shaped,
+        marked,
         critical,
         doubled: repeated,
         slots,
@@ -214,6 +181,21 @@ fn held_of(extension: Extension) -> Held
         start: value.contents,
         end: value.end,
     }
+}
+
+// Whether an extension is critical.
+fn is_critical(extension: Extension) -> bool
+    ensures { λ r. ⌜ ((s : List ℕ) → r ≡ refusedCritical s false extension) ⌝ }
+{
+    let Extension::Is {
+        oid: _,
+        critical,
+        value: _,
+    } = extension
+    else {
+        return false;
+    };
+    critical
 }
 
 // Whether an extension is critical and neither keyUsage nor basicConstraints, by its slot.
@@ -279,7 +261,7 @@ fn slot_by(a: u8, b: u8, c: u8) -> usize
 }
 
 // Whether some OID stands twice.
-pub fn doubled(item: &[u8], extensions: Element) -> bool
+fn doubled(item: &[u8], extensions: Element) -> bool
     ensures { λ r. ⌜ r ≡ doubledOf (now (item .entry)) extensions ⌝ }
 {
     let end = extensions.end;
@@ -289,7 +271,7 @@ pub fn doubled(item: &[u8], extensions: Element) -> bool
         let Found::One(e) = sequence_at(item, at, end) else {
             break 'each;
         };
-        let own = extension_of(item, e);
+        let own = any_extension(item, e);
         let mut later = e.end;
         loop {
             let Found::One(other) = sequence_at(item, later, end) else {
@@ -304,38 +286,6 @@ pub fn doubled(item: &[u8], extensions: Element) -> bool
         at = e.end;
     }
     twice
-}
-
-// Whether a critical extension is there; with `allow`, one beside keyUsage and basicConstraints.
-pub fn some_critical(item: &[u8], extensions: Element, allow: bool) -> bool
-    ensures { λ r. ⌜ r ≡ criticalOf (now (item .entry)) extensions allow ⌝ }
-{
-    let mut at = extensions.contents;
-    loop {
-        let Found::One(e) = sequence_at(item, at, extensions.end) else {
-            return false;
-        };
-        if refused_critical(item, allow, extension_of(item, e)) {
-            return true;
-        }
-        at = e.end;
-    }
-}
-
-// The offset of the first extension with that OID, or the end where there is none.
-fn place_of(item: &[u8], from: usize, end: usize, oid: &[u8]) -> usize
-    ensures { λ r. ⌜ r ≡ placeIn (now (item .entry)) (now (oid .entry)) (membersOf (now (item .entry)) from end) end ⌝ }
-{
-    let mut at = from;
-    loop {
-        let Found::One(e) = sequence_at(item, at, end) else {
-            break end;
-        };
-        if has_oid(item, oid, extension_of(item, e)) {
-            break at;
-        }
-        at = e.end;
-    }
 }
 
 fn has_oid(item: &[u8], oid: &[u8], extension: Extension) -> bool
@@ -371,29 +321,5 @@ fn doubles(item: &[u8], own: Extension, other: Element) -> bool
     if !same(contents(item, its), wanted) {
         return false;
     }
-    has_oid(item, wanted, extension_of(item, other))
-}
-
-fn refused_critical(item: &[u8], allow: bool, extension: Extension) -> bool
-    ensures { λ r. ⌜ r ≡ refusedCritical (now (item .entry)) allow extension ⌝ }
-{
-    let Extension::Is {
-        oid,
-        critical,
-        value: _,
-    } = extension
-    else {
-        return false;
-    };
-    if !critical {
-        return false;
-    }
-    if !allow {
-        return true;
-    }
-    let own = contents(item, oid);
-    if same(own, b"\x55\x1d\x0f") {
-        return false;
-    }
-    !same(own, b"\x55\x1d\x13")
+    has_oid(item, wanted, any_extension(item, other))
 }

@@ -34,8 +34,8 @@ enum-known-e c = search needs
 enum-told : tie.Need-enum-told Inv-loop μ-loop Inv-each μ-each
 enum-told c = search needs
 
-extension-of-requires : tie.Need-extension-of-requires Inv-loop μ-loop Inv-each μ-each
-extension-of-requires c κs = search needs
+any-extension-requires : tie.Need-any-extension-requires Inv-loop μ-loop Inv-each μ-each
+any-extension-requires c κs = search needs
 
 loop-holds : tie.Need-loop-holds Inv-loop μ-loop Inv-each μ-each
 loop-holds c = (c .before .before .before .before .before .each .inv .0, refl)
@@ -64,7 +64,7 @@ each-less c = omega (arith, found-within _ _ _ (sym (c .before .before .before .
 
 each-again : tie.Need-each-again Inv-loop μ-loop Inv-each μ-each
 unfolding doubledIn standsIn
-each-again c = (c .before .before .before .loop .inv .0, c .before .before .before .before .before .before .before .before .before .each .inv .1 ∙ rw (members-more _ _ _ (sym (c .before .before .before .before .before .before .before .before .sequence-at .ensures) ∙ c .before .before .before .before .before .before .e .given .1), ← c .before .before .before .before .extension-of .ensures, c .before .before .before .loop .inv .1, members-none _ _ _ (sym (c .before .before .sequence-at2 .ensures) ∙ c .enum-told2 .given .1)))
+each-again c = (c .before .before .before .loop .inv .0, c .before .before .before .before .before .before .before .before .before .each .inv .1 ∙ rw (members-more _ _ _ (sym (c .before .before .before .before .before .before .before .before .sequence-at .ensures) ∙ c .before .before .before .before .before .before .e .given .1), ← c .before .before .before .before .any-extension .ensures, c .before .before .before .loop .inv .1, members-none _ _ _ (sym (c .before .before .sequence-at2 .ensures) ∙ c .enum-told2 .given .1)))
 
 returns : tie.Need-returns Inv-loop μ-loop Inv-each μ-each
 unfolding doubledOf inside doubledIn
@@ -72,7 +72,7 @@ returns c = c .before .before .before .each .inv .0 ∙ sym (c .before .before .
 
 returns-2 : tie.Need-returns-2 Inv-loop μ-loop Inv-each μ-each
 unfolding doubledOf inside doubledIn standsIn
-returns-2 c = sym (c .before .before .before .before .before .before .before .before .before .before .before .before .each .inv .1 ∙ rw (members-more _ _ _ (sym (c .before .before .before .before .before .before .before .before .before .before .before .sequence-at .ensures) ∙ c .before .before .before .before .before .before .before .before .before .e .given .1), ← c .before .before .before .before .before .before .before .extension-of .ensures, c .before .before .before .before .before .before .loop .inv .1, members-more _ _ _ (sym (c .before .before .before .before .before .sequence-at2 .ensures) ∙ c .before .before .before .other .given .1), ← c .before .doubles .ensures, c .if1 .taken))
+returns-2 c = sym (c .before .before .before .before .before .before .before .before .before .before .before .before .each .inv .1 ∙ rw (members-more _ _ _ (sym (c .before .before .before .before .before .before .before .before .before .before .before .sequence-at .ensures) ∙ c .before .before .before .before .before .before .before .before .before .e .given .1), ← c .before .before .before .before .before .before .before .any-extension .ensures, c .before .before .before .before .before .before .loop .inv .1, members-more _ _ _ (sym (c .before .before .before .before .before .sequence-at2 .ensures) ∙ c .before .before .before .other .given .1), ← c .before .doubles .ensures, c .if1 .taken))
 
 pub doubled-spec : {M : Type 1} → statement M
 doubled-spec =
@@ -86,7 +86,7 @@ doubled-spec =
     sequence-at-requires
     enum-known-e
     enum-told
-    extension-of-requires
+    any-extension-requires
     loop-holds
     sequence-at-requires-2
     enum-known-other

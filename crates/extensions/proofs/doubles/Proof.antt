@@ -43,15 +43,15 @@ returns-3 : tie.Need-returns-3
 unfolding sameOids
 returns-3 c = rw (c .before .before .before .before .before .before .before .before .before .own .given .1) (sym (other-oid _ _ _ _ (rw (← c .before .before .contents2 .ensures, ← c .before .before .before .contents .ensures) (sym (c .before .same .ensures) ∙ not-true _ (c .if1 .taken))) (sym (c .before .before .before .before .before .before .before .element-tagged .ensures) ∙ c .before .before .before .before .before .its .given .1)))
 
-extension-of-requires : tie.Need-extension-of-requires
-extension-of-requires c κs = search needs
+any-extension-requires : tie.Need-any-extension-requires
+any-extension-requires c κs = search needs
 
 has-oid-requires : tie.Need-has-oid-requires
 has-oid-requires c κs = search needs
 
 returns-4 : tie.Need-returns-4
 unfolding sameOids
-returns-4 c = rw (c .before .before .before .before .before .before .before .before .before .before .before .own .given .1, ← c .before .extension-of .ensures, ← c .before .before .before .before .before .contents .ensures) (c .has-oid .ensures)
+returns-4 c = rw (c .before .before .before .before .before .before .before .before .before .before .before .own .given .1, ← c .before .any-extension .ensures, ← c .before .before .before .before .before .contents .ensures) (c .has-oid .ensures)
 
 pub doubles-spec : {M : Type 1} → statement M
 doubles-spec =
@@ -68,6 +68,6 @@ doubles-spec =
     contents-requires-2
     same-requires
     returns-3
-    extension-of-requires
+    any-extension-requires
     has-oid-requires
     returns-4)

@@ -6,16 +6,16 @@ use borrow.Author.Needs.{needs}
 use borrow.Author.Tests.{not-true, not-false}
 use Rattle.elements.proofs.Members.{found-within}
 use Rattle.extensions.specs.Extensions.{heldOf}
-use Rattle.extensions.proofs.Passing.{Far, far-start, far-new, far-again, far-stranger, far-none, end-shape, end-harsh, end-placed, end-apart, end-twice}
+use Rattle.extensions.proofs.Passing.{Far, far-start, far-new, far-again, far-stranger, far-none, end-shape, end-marks, end-harsh, end-placed, end-apart, end-twice}
 use Rattle.extensions.proofs.one_pass.Statement.{statement}
 use Rattle.extensions.proofs.one_pass.Tie as tie
 
 abbrev Inv-loop : tie.InvT-loop
-Inv-loop item extensions shaped₀ critical₀ repeated₀ strange₀ unsure₀ slots₀ at₀ shaped critical repeated strange unsure slots at =
-    Far item extensions shaped critical repeated strange unsure slots at
+Inv-loop item extensions shaped₀ marked₀ critical₀ repeated₀ strange₀ unsure₀ slots₀ at₀ shaped marked critical repeated strange unsure slots at =
+    Far item extensions shaped marked critical repeated strange unsure slots at
 
 abbrev μ-loop : tie.MeasureT-loop
-μ-loop item extensions shaped₀ critical₀ repeated₀ strange₀ unsure₀ slots₀ at₀ shaped critical repeated strange unsure slots at =
+μ-loop item extensions shaped₀ marked₀ critical₀ repeated₀ strange₀ unsure₀ slots₀ at₀ shaped marked critical repeated strange unsure slots at =
     extensions .end - at
 
 held-of-requires : tie.Need-held-of-requires Inv-loop μ-loop
@@ -39,6 +39,9 @@ extension-of-requires c κs = search needs
 slot-of-requires : tie.Need-slot-of-requires Inv-loop μ-loop
 slot-of-requires c κs = search needs
 
+is-critical-requires : tie.Need-is-critical-requires Inv-loop μ-loop
+is-critical-requires c κs = search needs
+
 unusual-requires : tie.Need-unusual-requires Inv-loop μ-loop
 unusual-requires c κs = search needs
 
@@ -46,7 +49,7 @@ mul-first : tie.Need-mul-first Inv-loop μ-loop
 mul-first c = search needs
 
 array-copy-out-first : tie.Need-array-copy-out-first Inv-loop μ-loop
-array-copy-out-first c = omega (arith, c .before .before .before .before .before .before .before .before .loop .inv .table .long, c .if1 .taken)
+array-copy-out-first c = omega (arith, c .before .before .before .before .before .before .before .before .before .loop .inv .table .long, c .if1 .taken)
 
 held-of-requires-2 : tie.Need-held-of-requires-2 Inv-loop μ-loop
 held-of-requires-2 c κs = search needs
@@ -55,45 +58,45 @@ mul-slots : tie.Need-mul-slots Inv-loop μ-loop
 mul-slots c = search needs
 
 array-set-from-slots : tie.Need-array-set-from-slots Inv-loop μ-loop
-array-set-from-slots c = omega (arith, c .before .before .before .before .before .before .before .before .before .before .before .loop .inv .table .long, c .before .before .before .if1 .taken)
+array-set-from-slots c = omega (arith, c .before .before .before .before .before .before .before .before .before .before .before .before .loop .inv .table .long, c .before .before .before .if1 .taken)
 
 loop-less : tie.Need-loop-less Inv-loop μ-loop
-loop-less c = omega (arith, found-within _ _ _ (sym (c .before .before .before .before .before .before .before .before .before .sequence-at .ensures) ∙ c .before .before .before .before .before .before .before .e .given .1))
+loop-less c = omega (arith, found-within _ _ _ (sym (c .before .before .before .before .before .before .before .before .before .before .sequence-at .ensures) ∙ c .before .before .before .before .before .before .before .before .e .given .1))
 
 loop-again : tie.Need-loop-again Inv-loop μ-loop
 unfolding heldOf
-loop-again c = far-again (c .before .before .before .before .before .before .before .before .before .before .loop .inv) (sym (c .before .before .before .before .before .before .before .before .before .sequence-at .ensures) ∙ c .before .before .before .before .before .before .before .e .given .1) (rw (← c .before .before .before .before .before .extension-of .ensures) (c .before .before .before .before .slot-of .ensures)) (rw (← c .before .before .before .before .before .extension-of .ensures) (c .before .before .before .unusual .ensures _ (c .before .before .before .before .slot-of .ensures))) (c .before .before .if1 .taken) (c .if2 .taken)
+loop-again c = far-again (c .before .before .before .before .before .before .before .before .before .before .before .loop .inv) (sym (c .before .before .before .before .before .before .before .before .before .before .sequence-at .ensures) ∙ c .before .before .before .before .before .before .before .before .e .given .1) (rw (← c .before .before .before .before .before .before .extension-of .ensures) (c .before .before .before .before .before .slot-of .ensures)) (rw (← c .before .before .before .before .before .before .extension-of .ensures) (c .before .before .before .before .is-critical .ensures _)) (rw (← c .before .before .before .before .before .before .extension-of .ensures) (c .before .before .before .unusual .ensures _ (c .before .before .before .before .before .slot-of .ensures))) (c .before .before .if1 .taken) (c .if2 .taken)
 
 loop-less-2 : tie.Need-loop-less-2 Inv-loop μ-loop
-loop-less-2 c = omega (arith, found-within _ _ _ (sym (c .before .before .before .before .before .before .before .before .before .before .sequence-at .ensures) ∙ c .before .before .before .before .before .before .before .before .e .given .1))
+loop-less-2 c = omega (arith, found-within _ _ _ (sym (c .before .before .before .before .before .before .before .before .before .before .before .sequence-at .ensures) ∙ c .before .before .before .before .before .before .before .before .before .e .given .1))
 
 loop-again-2 : tie.Need-loop-again-2 Inv-loop μ-loop
 unfolding heldOf
-loop-again-2 c = far-new (c .before .before .before .before .before .before .before .before .before .before .before .loop .inv) (sym (c .before .before .before .before .before .before .before .before .before .before .sequence-at .ensures) ∙ c .before .before .before .before .before .before .before .before .e .given .1) (rw (← c .before .before .before .before .before .before .extension-of .ensures) (c .before .before .before .before .before .slot-of .ensures)) (rw (← c .before .before .before .before .before .before .extension-of .ensures) (c .before .before .before .before .unusual .ensures _ (c .before .before .before .before .before .slot-of .ensures))) (rw (← c .before .before .before .before .before .before .extension-of .ensures) (c .held-of2 .ensures)) (c .before .before .before .if1 .taken) (c .before .if2 .left)
+loop-again-2 c = far-new (c .before .before .before .before .before .before .before .before .before .before .before .before .loop .inv) (sym (c .before .before .before .before .before .before .before .before .before .before .before .sequence-at .ensures) ∙ c .before .before .before .before .before .before .before .before .before .e .given .1) (rw (← c .before .before .before .before .before .before .before .extension-of .ensures) (c .before .before .before .before .before .before .slot-of .ensures)) (rw (← c .before .before .before .before .before .before .before .extension-of .ensures) (c .before .before .before .before .before .is-critical .ensures _)) (rw (← c .before .before .before .before .before .before .before .extension-of .ensures) (c .before .before .before .before .unusual .ensures _ (c .before .before .before .before .before .before .slot-of .ensures))) (rw (← c .before .before .before .before .before .before .before .extension-of .ensures) (c .held-of2 .ensures)) (c .before .before .before .if1 .taken) (c .before .if2 .left)
 
 loop-less-3 : tie.Need-loop-less-3 Inv-loop μ-loop
-loop-less-3 c = omega (arith, found-within _ _ _ (sym (c .before .before .before .before .before .before .before .before .sequence-at .ensures) ∙ c .before .before .before .before .before .before .e .given .1))
+loop-less-3 c = omega (arith, found-within _ _ _ (sym (c .before .before .before .before .before .before .before .before .before .sequence-at .ensures) ∙ c .before .before .before .before .before .before .before .e .given .1))
 
 loop-again-3 : tie.Need-loop-again-3 Inv-loop μ-loop
-loop-again-3 c = far-stranger (c .before .before .before .before .before .before .before .before .before .loop .inv) (sym (c .before .before .before .before .before .before .before .before .sequence-at .ensures) ∙ c .before .before .before .before .before .before .e .given .1) (rw (← c .before .before .before .before .extension-of .ensures) (c .before .before .before .slot-of .ensures)) (rw (← c .before .before .before .before .extension-of .ensures) (c .before .before .unusual .ensures _ (c .before .before .before .slot-of .ensures))) (c .before .if1 .left)
+loop-again-3 c = far-stranger (c .before .before .before .before .before .before .before .before .before .before .loop .inv) (sym (c .before .before .before .before .before .before .before .before .before .sequence-at .ensures) ∙ c .before .before .before .before .before .before .before .e .given .1) (rw (← c .before .before .before .before .before .extension-of .ensures) (c .before .before .before .before .slot-of .ensures)) (rw (← c .before .before .before .before .before .extension-of .ensures) (c .before .before .before .is-critical .ensures _)) (rw (← c .before .before .before .before .before .extension-of .ensures) (c .before .before .unusual .ensures _ (c .before .before .before .before .slot-of .ensures))) (c .before .if1 .left)
 
 loop-less-4 : tie.Need-loop-less-4 Inv-loop μ-loop
-loop-less-4 c = omega (arith, found-within _ _ _ (sym (c .before .before .before .before .before .before .before .before .sequence-at .ensures) ∙ c .before .before .before .before .before .before .e .given .1))
+loop-less-4 c = omega (arith, found-within _ _ _ (sym (c .before .before .before .before .before .before .before .before .before .sequence-at .ensures) ∙ c .before .before .before .before .before .before .before .e .given .1))
 
 loop-again-4 : tie.Need-loop-again-4 Inv-loop μ-loop
-loop-again-4 c = far-none (c .before .before .before .before .before .before .before .before .before .loop .inv) (sym (c .before .before .before .before .before .before .before .before .sequence-at .ensures) ∙ c .before .before .before .before .before .before .e .given .1) (rw (← c .before .before .before .before .extension-of .ensures) (c .before .before .before .slot-of .ensures)) (rw (← c .before .before .before .before .extension-of .ensures) (c .before .before .unusual .ensures _ (c .before .before .before .slot-of .ensures))) (c .if3 .left)
+loop-again-4 c = far-none (c .before .before .before .before .before .before .before .before .before .before .loop .inv) (sym (c .before .before .before .before .before .before .before .before .before .sequence-at .ensures) ∙ c .before .before .before .before .before .before .before .e .given .1) (rw (← c .before .before .before .before .before .extension-of .ensures) (c .before .before .before .before .slot-of .ensures)) (rw (← c .before .before .before .before .before .extension-of .ensures) (c .before .before .before .is-critical .ensures _)) (rw (← c .before .before .before .before .before .extension-of .ensures) (c .before .before .unusual .ensures _ (c .before .before .before .before .slot-of .ensures))) (c .if3 .left)
 
 doubled-requires : tie.Need-doubled-requires Inv-loop μ-loop
 doubled-requires c κs = search needs
 
 returns : tie.Need-returns Inv-loop μ-loop
-returns c = record { shaped = end-shape (c .before .before .before .before .before .before .loop .inv) (sym (c .before .before .before .before .before .sequence-at .ensures) ∙ c .before .before .before .enum-told .given .1); critical = end-harsh (c .before .before .before .before .before .before .loop .inv) (sym (c .before .before .before .before .before .sequence-at .ensures) ∙ c .before .before .before .enum-told .given .1); doubled = c .doubled .ensures; placed = end-placed (c .before .before .before .before .before .before .loop .inv) (sym (c .before .before .before .before .before .sequence-at .ensures) ∙ c .before .before .before .enum-told .given .1) }
+returns c = record { shaped = end-shape (c .before .before .before .before .before .before .loop .inv) (sym (c .before .before .before .before .before .sequence-at .ensures) ∙ c .before .before .before .enum-told .given .1); marked = end-marks (c .before .before .before .before .before .before .loop .inv) (sym (c .before .before .before .before .before .sequence-at .ensures) ∙ c .before .before .before .enum-told .given .1); critical = end-harsh (c .before .before .before .before .before .before .loop .inv) (sym (c .before .before .before .before .before .sequence-at .ensures) ∙ c .before .before .before .enum-told .given .1); doubled = c .doubled .ensures; placed = end-placed (c .before .before .before .before .before .before .loop .inv) (sym (c .before .before .before .before .before .sequence-at .ensures) ∙ c .before .before .before .enum-told .given .1) }
 
 returns-2 : tie.Need-returns-2 Inv-loop μ-loop
-returns-2 c = record { shaped = end-shape (c .before .before .before .before .before .loop .inv) (sym (c .before .before .before .before .sequence-at .ensures) ∙ c .before .before .enum-told .given .1); critical = end-harsh (c .before .before .before .before .before .loop .inv) (sym (c .before .before .before .before .sequence-at .ensures) ∙ c .before .before .enum-told .given .1); doubled = end-apart (c .before .before .before .before .before .loop .inv) (sym (c .before .before .before .before .sequence-at .ensures) ∙ c .before .before .enum-told .given .1) (not-true _ (c .before .if4 .taken)) (c .if5 .left); placed = end-placed (c .before .before .before .before .before .loop .inv) (sym (c .before .before .before .before .sequence-at .ensures) ∙ c .before .before .enum-told .given .1) }
+returns-2 c = record { shaped = end-shape (c .before .before .before .before .before .loop .inv) (sym (c .before .before .before .before .sequence-at .ensures) ∙ c .before .before .enum-told .given .1); marked = end-marks (c .before .before .before .before .before .loop .inv) (sym (c .before .before .before .before .sequence-at .ensures) ∙ c .before .before .enum-told .given .1); critical = end-harsh (c .before .before .before .before .before .loop .inv) (sym (c .before .before .before .before .sequence-at .ensures) ∙ c .before .before .enum-told .given .1); doubled = end-apart (c .before .before .before .before .before .loop .inv) (sym (c .before .before .before .before .sequence-at .ensures) ∙ c .before .before .enum-told .given .1) (not-true _ (c .before .if4 .taken)) (c .if5 .left); placed = end-placed (c .before .before .before .before .before .loop .inv) (sym (c .before .before .before .before .sequence-at .ensures) ∙ c .before .before .enum-told .given .1) }
 
 returns-3 : tie.Need-returns-3 Inv-loop μ-loop
-returns-3 c = record { shaped = end-shape (c .before .before .before .before .loop .inv) (sym (c .before .before .before .sequence-at .ensures) ∙ c .before .enum-told .given .1); critical = end-harsh (c .before .before .before .before .loop .inv) (sym (c .before .before .before .sequence-at .ensures) ∙ c .before .enum-told .given .1); doubled = end-twice (c .before .before .before .before .loop .inv) (sym (c .before .before .before .sequence-at .ensures) ∙ c .before .enum-told .given .1) (not-false _ (c .if4 .left)); placed = end-placed (c .before .before .before .before .loop .inv) (sym (c .before .before .before .sequence-at .ensures) ∙ c .before .enum-told .given .1) }
+returns-3 c = record { shaped = end-shape (c .before .before .before .before .loop .inv) (sym (c .before .before .before .sequence-at .ensures) ∙ c .before .enum-told .given .1); marked = end-marks (c .before .before .before .before .loop .inv) (sym (c .before .before .before .sequence-at .ensures) ∙ c .before .enum-told .given .1); critical = end-harsh (c .before .before .before .before .loop .inv) (sym (c .before .before .before .sequence-at .ensures) ∙ c .before .enum-told .given .1); doubled = end-twice (c .before .before .before .before .loop .inv) (sym (c .before .before .before .sequence-at .ensures) ∙ c .before .enum-told .given .1) (not-false _ (c .if4 .left)); placed = end-placed (c .before .before .before .before .loop .inv) (sym (c .before .before .before .sequence-at .ensures) ∙ c .before .enum-told .given .1) }
 
 pub one-pass-spec : {M : Type 1} → statement M
 one-pass-spec =
@@ -108,6 +111,7 @@ one-pass-spec =
     enum-told
     extension-of-requires
     slot-of-requires
+    is-critical-requires
     unusual-requires
     mul-first
     array-copy-out-first

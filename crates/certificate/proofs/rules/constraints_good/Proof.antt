@@ -3,7 +3,7 @@ use mathlib.Core.Bool.{not}
 use mathlib.Core.Path.{ap}
 use borrow.Author.Tests.{eq-eqb, ne-eqb}
 use Rattle.certificate.specs.Rules.{constrained}
-use Rattle.certificate.proofs.Held.{there-present}
+use Rattle.extensions.proofs.Slots.{there-present}
 use borrow.Author.Needs.{needs}
 use Rattle.certificate.proofs.rules.constraints_good.Statement.{statement}
 use Rattle.certificate.proofs.rules.constraints_good.Tie as tie
