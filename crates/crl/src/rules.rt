@@ -3,7 +3,8 @@ use crate::shapes::Layout;
 use elements::contents;
 use elements::same;
 use elements::whole;
-use extensions::Held;
+use extensions::Extension;
+use extensions::lookup;
 use extensions::one_pass;
 use names::Letters;
 use names::letters_of;
@@ -14,7 +15,7 @@ ghost use mathlib.Core.Path.{_≡_};
 ghost use mathlib.Core.Bool.{false};
 ghost use mathlib.Core.List.{List};
 ghost use Prim.Native.Nat.{ℕ};
-ghost use Rattle.extensions.specs.Extensions.{Placed, doubledOf, criticalOf};
+ghost use Rattle.extensions.specs.Extensions.{present, doubledOf, criticalOf};
 ghost use Rattle.refusal.specs.Rules.{firstBroken};
 ghost use Rattle.crl.specs.Rules.{readingsOf, rule2, rule3, rule4, rule5, rule6, rule7, rule8, rules2to8};
 
@@ -62,8 +63,7 @@ pub(crate) fn rules_2_to_8(item: &[u8], l: Layout, r: Readings) -> u64
     }
     let extensions = l.extensions;
     let seen = one_pass(item, extensions);
-    let slots = seen.slots;
-    if !extensions_good(l, seen.doubled, slots) {
+    if !extensions_good(item, l, seen.doubled) {
         return 7;
     }
     if !nothing_critical(l, seen.marked) {
@@ -126,18 +126,31 @@ fn list_filled(l: Layout) -> bool
 }
 
 // 7: no OID twice, authorityKeyIdentifier and cRLNumber there.
-fn extensions_good(l: Layout, doubled: bool, slots: [Held; 23]) -> bool
-    ensures { λ r. ⌜ ((s : List ℕ) → doubled ≡ doubledOf s (l .extensions) → Placed s (l .extensions) slots → r ≡ rule7 s l) ⌝ }
+fn extensions_good(item: &[u8], l: Layout, doubled: bool) -> bool
+    requires { ⌜ doubled ≡ doubledOf (now item) (l .extensions) ⌝ }
+    ensures { λ r. ⌜ r ≡ rule7 (now (item .entry)) l ⌝ }
 {
     if doubled {
         return false;
     }
-    let authority = slots[21];
-    if !authority.there {
+    let extensions = l.extensions;
+    if !there(lookup(item, extensions, b"\x55\x1d\x23")) {
         return false;
     }
-    let number = slots[6];
-    number.there
+    there(lookup(item, extensions, b"\x55\x1d\x14"))
+}
+
+fn there(extension: Extension) -> bool
+    ensures { λ r. ⌜ r ≡ present extension ⌝ }
+{
+    match extension {
+        Extension::Is {
+            oid: _,
+            critical: _,
+            value: _,
+        } => true,
+        Extension::Absent => false,
+    }
 }
 
 // 8: nothing critical, in entries either.

@@ -1,4 +1,5 @@
 pub mod Oids
+pub mod Places
 pub mod Slots
 pub mod Strangers
 pub mod Passing

@@ -56,6 +56,11 @@ firstWith s oid (e ∷ rest) = cond (hasOid s oid (extensionOf s e)) (extensionO
 unfoldable pub lookupOf : List ℕ → Element → List ℕ → Extension
 lookupOf s extensions oid = firstWith s oid (inside s extensions)
 
+-- where the first of them with that OID starts, else `none`
+unfoldable pub placeIn : List ℕ → List ℕ → List Element → ℕ → ℕ
+placeIn s oid [] none = none
+placeIn s oid (e ∷ rest) none = cond (hasOid s oid (extensionOf s e)) (e .at) (placeIn s oid rest none)
+
 -- the OIDs that have a slot: 2.5.29.14 to 2.5.29.35 in slots 0 to 21, the document type list in slot 22
 unfoldable pub oidOf : ℕ → List ℕ
 oidOf k =

@@ -1,4 +1,4 @@
-// What one pass over extensions tells of their shape, of those that are critical, of OIDs, and of what they hold.
+// Extensions: what one pass tells of all of them, and the look-up by OID.
 mod brief;
 
 use brief::brief_extension;
@@ -14,7 +14,8 @@ ghost use mathlib.Core.Bool.{true, false};
 ghost use mathlib.Core.List.{List, [], _∷_};
 ghost use Prim.Native.Nat.{ℕ, _<_};
 ghost use lib.Dec.{eqb};
-ghost use Rattle.extensions.specs.Extensions.{holdingOf, extensionOf, doubledOf, hasOid, sameOids, refusedCritical, oidOf, heldOf, Slotted, Viewed};
+ghost use Rattle.extensions.specs.Extensions.{holdingOf, extensionOf, lookupOf, placeIn, doubledOf, hasOid, sameOids, refusedCritical, oidOf, heldOf, Slotted, Viewed};
+ghost use Rattle.elements.specs.Elements.{membersOf};
 ghost use Rattle.elements.specs.Octets.{alike};
 
 pub enum Extension {
@@ -88,6 +89,18 @@ fn holding(extension: Element, oid: Element, critical: bool, next: Found) -> Ext
         };
     }
     Extension::Absent
+}
+
+// The extension with that OID, the first of them.
+pub fn lookup(item: &[u8], extensions: Element, oid: &[u8]) -> Extension
+    ensures { λ r. ⌜ r ≡ lookupOf (now (item .entry)) extensions (now (oid .entry)) ⌝ }
+{
+    let end = extensions.end;
+    let at = place_of(item, extensions.contents, end, oid);
+    let Found::One(e) = element_at(item, at, end) else {
+        return Extension::Absent;
+    };
+    any_extension(item, e)
 }
 
 // Of an extension: whether it is there, whether it is critical, and where the contents of its value start and end.
@@ -286,6 +299,22 @@ fn doubled(item: &[u8], extensions: Element) -> bool
         at = e.end;
     }
     twice
+}
+
+// The offset of the first extension with that OID, or the end where there is none.
+fn place_of(item: &[u8], from: usize, end: usize, oid: &[u8]) -> usize
+    ensures { λ r. ⌜ r ≡ placeIn (now (item .entry)) (now (oid .entry)) (membersOf (now (item .entry)) from end) end ⌝ }
+{
+    let mut at = from;
+    loop {
+        let Found::One(e) = sequence_at(item, at, end) else {
+            break end;
+        };
+        if has_oid(item, oid, any_extension(item, e)) {
+            break at;
+        }
+        at = e.end;
+    }
 }
 
 fn has_oid(item: &[u8], oid: &[u8], extension: Extension) -> bool

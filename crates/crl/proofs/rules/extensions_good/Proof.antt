@@ -1,32 +1,51 @@
--- The code makes the definition's tests in its order; a slot is filled where its OID is found.
+-- The code makes the definition's tests in its order.
 use mathlib.Core.Path.{sym, _∙_}
-use native.Mathlib.Omega.{arith}
 use borrow.Author.Tests.{not-true, not-false}
 use borrow.Author.Needs.{needs}
-use Rattle.extensions.specs.Extensions.{lookupOf, oidOf, heldOf}
-use Rattle.extensions.proofs.Slots.{there-present}
 use Rattle.crl.specs.Rules.{rule7}
 use Rattle.crl.proofs.rules.extensions_good.Statement.{statement}
 use Rattle.crl.proofs.rules.extensions_good.Tie as tie
 
 returns : tie.Need-returns
 unfolding rule7
-returns c = λ s d p. rw (sym d ∙ c .if1 .taken)
+returns c = rw (sym (c .before .before .pre) ∙ c .if1 .taken)
 
-array-copy-out-authority : tie.Need-array-copy-out-authority
-array-copy-out-authority c = search needs
+slice-aggregate-lookup : tie.Need-slice-aggregate-lookup
+slice-aggregate-lookup c = search needs
+
+lookup-requires : tie.Need-lookup-requires
+lookup-requires c κs = search needs
+
+there-requires : tie.Need-there-requires
+there-requires c κs = search needs
 
 returns-2 : tie.Need-returns-2
-unfolding rule7 oidOf heldOf
-returns-2 c = λ s d p. rw (sym d ∙ c .before .before .before .if1 .left, sym (there-present (lookupOf s _ (oidOf 21)) (p .each 21 (omega arith))) ∙ not-true _ (c .if2 .taken))
+unfolding rule7
+returns-2 c = rw (sym (c .before .before .before .before .before .before .before .pre) ∙ c .before .before .before .before .before .if1 .left, ← c .before .before .lookup .ensures, sym (c .before .there .ensures) ∙ not-true _ (c .if2 .taken))
 
-array-copy-out-number : tie.Need-array-copy-out-number
-array-copy-out-number c = search needs
+slice-aggregate-lookup-2 : tie.Need-slice-aggregate-lookup-2
+slice-aggregate-lookup-2 c = search needs
+
+lookup-requires-2 : tie.Need-lookup-requires-2
+lookup-requires-2 c κs = search needs
+
+there-requires-2 : tie.Need-there-requires-2
+there-requires-2 c κs = search needs
 
 returns-3 : tie.Need-returns-3
-unfolding rule7 oidOf heldOf
-returns-3 c = λ s d p. rw (sym d ∙ c .before .before .before .before .if1 .left, sym (there-present (lookupOf s _ (oidOf 21)) (p .each 21 (omega arith))) ∙ not-false _ (c .before .if2 .left)) (there-present (lookupOf s _ (oidOf 6)) (p .each 6 (omega arith)))
+unfolding rule7
+returns-3 c = rw (sym (c .before .before .before .before .before .before .before .before .before .before .pre) ∙ c .before .before .before .before .before .before .before .before .if1 .left, ← c .before .before .before .before .before .lookup .ensures, sym (c .before .before .before .before .there .ensures) ∙ not-false _ (c .before .before .before .if2 .left), ← c .before .lookup2 .ensures) (c .there2 .ensures)
 
 pub extensions-good-spec : {M : Type 1} → statement M
 extensions-good-spec =
-    tie.close (tie.spec returns array-copy-out-authority returns-2 array-copy-out-number returns-3)
+    tie.close
+    (tie.spec
+    returns
+    slice-aggregate-lookup
+    lookup-requires
+    there-requires
+    returns-2
+    slice-aggregate-lookup-2
+    lookup-requires-2
+    there-requires-2
+    returns-3)

@@ -50,18 +50,18 @@ extensions-good-requires c κs = search needs
 
 returns-6 : tie.Need-returns-6
 unfolding rules2to8
-returns-6 c = broken-later _ _ (sym (c .before .before .before .before .before .before .before .before .before .before .before .before .before .before .version-good .ensures) ∙ not-false _ (c .before .before .before .before .before .before .before .before .before .before .before .before .before .if1 .left)) (broken-later _ _ (sym (c .before .before .before .before .before .before .before .before .before .before .before .before .algorithms-same .ensures) ∙ not-false _ (c .before .before .before .before .before .before .before .before .before .before .before .if2 .left)) (broken-later _ _ (sym (c .before .before .before .before .before .before .before .before .before .before .country-good .ensures) ∙ not-false _ (c .before .before .before .before .before .before .before .before .before .if3 .left)) (broken-later _ _ (sym (c .before .before .before .before .before .before .before .before .times-good .ensures) ∙ not-false _ (c .before .before .before .before .before .before .before .if4 .left)) (broken-later _ _ (sym (c .before .before .before .before .before .before .list-filled .ensures) ∙ not-false _ (c .before .before .before .before .before .if5 .left)) (broken-here _ _ (sym (c .before .extensions-good .ensures _ (c .before .before .before .one-pass .ensures .doubled) (c .before .before .before .one-pass .ensures .placed)) ∙ not-true _ (c .if6 .taken)))))))
+returns-6 c = broken-later _ _ (sym (c .before .before .before .before .before .before .before .before .before .before .before .before .before .version-good .ensures) ∙ not-false _ (c .before .before .before .before .before .before .before .before .before .before .before .before .if1 .left)) (broken-later _ _ (sym (c .before .before .before .before .before .before .before .before .before .before .before .algorithms-same .ensures) ∙ not-false _ (c .before .before .before .before .before .before .before .before .before .before .if2 .left)) (broken-later _ _ (sym (c .before .before .before .before .before .before .before .before .before .country-good .ensures) ∙ not-false _ (c .before .before .before .before .before .before .before .before .if3 .left)) (broken-later _ _ (sym (c .before .before .before .before .before .before .before .times-good .ensures) ∙ not-false _ (c .before .before .before .before .before .before .if4 .left)) (broken-later _ _ (sym (c .before .before .before .before .before .list-filled .ensures) ∙ not-false _ (c .before .before .before .before .if5 .left)) (broken-here _ _ (sym (c .before .extensions-good .ensures) ∙ not-true _ (c .if6 .taken)))))))
 
 nothing-critical-requires : tie.Need-nothing-critical-requires
 nothing-critical-requires c κs = search needs
 
 returns-7 : tie.Need-returns-7
 unfolding rules2to8
-returns-7 c = broken-later _ _ (sym (c .before .before .before .before .before .before .before .before .before .before .before .before .before .before .before .before .version-good .ensures) ∙ not-false _ (c .before .before .before .before .before .before .before .before .before .before .before .before .before .before .before .if1 .left)) (broken-later _ _ (sym (c .before .before .before .before .before .before .before .before .before .before .before .before .before .before .algorithms-same .ensures) ∙ not-false _ (c .before .before .before .before .before .before .before .before .before .before .before .before .before .if2 .left)) (broken-later _ _ (sym (c .before .before .before .before .before .before .before .before .before .before .before .before .country-good .ensures) ∙ not-false _ (c .before .before .before .before .before .before .before .before .before .before .before .if3 .left)) (broken-later _ _ (sym (c .before .before .before .before .before .before .before .before .before .before .times-good .ensures) ∙ not-false _ (c .before .before .before .before .before .before .before .before .before .if4 .left)) (broken-later _ _ (sym (c .before .before .before .before .before .before .before .before .list-filled .ensures) ∙ not-false _ (c .before .before .before .before .before .before .before .if5 .left)) (broken-later _ _ (sym (c .before .before .before .extensions-good .ensures _ (c .before .before .before .before .before .one-pass .ensures .doubled) (c .before .before .before .before .before .one-pass .ensures .placed)) ∙ not-false _ (c .before .before .if6 .left)) (broken-here _ _ (sym (c .before .nothing-critical .ensures _ (c .before .before .before .before .before .one-pass .ensures .marked)) ∙ not-true _ (c .if7 .taken))))))))
+returns-7 c = broken-later _ _ (sym (c .before .before .before .before .before .before .before .before .before .before .before .before .before .before .before .version-good .ensures) ∙ not-false _ (c .before .before .before .before .before .before .before .before .before .before .before .before .before .before .if1 .left)) (broken-later _ _ (sym (c .before .before .before .before .before .before .before .before .before .before .before .before .before .algorithms-same .ensures) ∙ not-false _ (c .before .before .before .before .before .before .before .before .before .before .before .before .if2 .left)) (broken-later _ _ (sym (c .before .before .before .before .before .before .before .before .before .before .before .country-good .ensures) ∙ not-false _ (c .before .before .before .before .before .before .before .before .before .before .if3 .left)) (broken-later _ _ (sym (c .before .before .before .before .before .before .before .before .before .times-good .ensures) ∙ not-false _ (c .before .before .before .before .before .before .before .before .if4 .left)) (broken-later _ _ (sym (c .before .before .before .before .before .before .before .list-filled .ensures) ∙ not-false _ (c .before .before .before .before .before .before .if5 .left)) (broken-later _ _ (sym (c .before .before .before .extensions-good .ensures) ∙ not-false _ (c .before .before .if6 .left)) (broken-here _ _ (sym (c .before .nothing-critical .ensures _ (c .before .before .before .before .one-pass .ensures .marked)) ∙ not-true _ (c .if7 .taken))))))))
 
 returns-8 : tie.Need-returns-8
 unfolding rules2to8
-returns-8 c = broken-later _ _ (sym (c .before .before .before .before .before .before .before .before .before .before .before .before .before .before .before .before .version-good .ensures) ∙ not-false _ (c .before .before .before .before .before .before .before .before .before .before .before .before .before .before .before .if1 .left)) (broken-later _ _ (sym (c .before .before .before .before .before .before .before .before .before .before .before .before .before .before .algorithms-same .ensures) ∙ not-false _ (c .before .before .before .before .before .before .before .before .before .before .before .before .before .if2 .left)) (broken-later _ _ (sym (c .before .before .before .before .before .before .before .before .before .before .before .before .country-good .ensures) ∙ not-false _ (c .before .before .before .before .before .before .before .before .before .before .before .if3 .left)) (broken-later _ _ (sym (c .before .before .before .before .before .before .before .before .before .before .times-good .ensures) ∙ not-false _ (c .before .before .before .before .before .before .before .before .before .if4 .left)) (broken-later _ _ (sym (c .before .before .before .before .before .before .before .before .list-filled .ensures) ∙ not-false _ (c .before .before .before .before .before .before .before .if5 .left)) (broken-later _ _ (sym (c .before .before .before .extensions-good .ensures _ (c .before .before .before .before .before .one-pass .ensures .doubled) (c .before .before .before .before .before .one-pass .ensures .placed)) ∙ not-false _ (c .before .before .if6 .left)) (broken-later _ _ (sym (c .before .nothing-critical .ensures _ (c .before .before .before .before .before .one-pass .ensures .marked)) ∙ not-false _ (c .if7 .left)) (broken-none _)))))))
+returns-8 c = broken-later _ _ (sym (c .before .before .before .before .before .before .before .before .before .before .before .before .before .before .before .version-good .ensures) ∙ not-false _ (c .before .before .before .before .before .before .before .before .before .before .before .before .before .before .if1 .left)) (broken-later _ _ (sym (c .before .before .before .before .before .before .before .before .before .before .before .before .before .algorithms-same .ensures) ∙ not-false _ (c .before .before .before .before .before .before .before .before .before .before .before .before .if2 .left)) (broken-later _ _ (sym (c .before .before .before .before .before .before .before .before .before .before .before .country-good .ensures) ∙ not-false _ (c .before .before .before .before .before .before .before .before .before .before .if3 .left)) (broken-later _ _ (sym (c .before .before .before .before .before .before .before .before .before .times-good .ensures) ∙ not-false _ (c .before .before .before .before .before .before .before .before .if4 .left)) (broken-later _ _ (sym (c .before .before .before .before .before .before .before .list-filled .ensures) ∙ not-false _ (c .before .before .before .before .before .before .if5 .left)) (broken-later _ _ (sym (c .before .before .before .extensions-good .ensures) ∙ not-false _ (c .before .before .if6 .left)) (broken-later _ _ (sym (c .before .nothing-critical .ensures _ (c .before .before .before .before .one-pass .ensures .marked)) ∙ not-false _ (c .if7 .left)) (broken-none _)))))))
 
 pub rules-2-to-8-spec : {M : Type 1} → statement M
 rules-2-to-8-spec =

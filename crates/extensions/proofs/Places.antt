@@ -1,0 +1,59 @@
+-- A member is found again at its own offset, and none at the end: so the offset of the first extension with an OID leads to that
+-- extension.
+use mathlib.Core.Path.{_≡_, refl, sym, subst, _∙_}
+use mathlib.Core.Bool.{Bool, true, false, cond}
+use mathlib.Core.List.{List, [], _∷_}
+use Prim.Native.Nat.{ℕ, zero, suc}
+use native.Mathlib.Omega.{arith}
+use lib.ListN.{length}
+use Rattle.elements.specs.declared.elements.Element.{Element}
+use Rattle.elements.specs.declared.elements.Found.{Found}
+use Rattle.elements.specs.declared.elements.Found.the-variants.{One, Missing}
+use Rattle.extensions.specs.declared.Extension.the-variants.{Absent}
+use Rattle.elements.specs.Elements.{foundAt, onFound, membersIn, membersOf}
+use Rattle.extensions.specs.Extensions.{extensionOf, hasOid, firstWith, placeIn}
+use Rattle.elements.proofs.Members.{on-missing, on-found, found-within}
+
+-- what stands where the first of them with the OID starts
+abbrev Leads : List ℕ → List ℕ → ℕ → List Element → Type 0
+Leads s oid end es = firstWith s oid es ≡ onFound (foundAt s (placeIn s oid es end) end) Absent (extensionOf s)
+
+module _ (s oid : List ℕ) (end : ℕ) where
+  beyond : foundAt s end end ≡ Missing
+  beyond = go (foundAt s end end) refl
+    where
+      go : (f : Found) → foundAt s end end ≡ f → f ≡ Missing
+      go Missing h = refl
+      go (One e) h = absurd (omega (arith, found-within s end end h))
+
+  leads-none : Leads s oid end []
+  unfolding firstWith placeIn
+  leads-none = on-missing _ beyond
+
+  leads-more : (e : Element) (rest : List Element) → foundAt s (e .at) end ≡ One e → Leads s oid end rest → Leads s oid end (e ∷ rest)
+  unfolding firstWith placeIn
+  leads-more e rest h g = go (hasOid s oid (extensionOf s e))
+    where
+      go : (has : Bool) → cond has (extensionOf s e) (firstWith s oid rest) ≡ onFound (foundAt s (cond has (e .at) (placeIn s oid rest end)) end) Absent (extensionOf s)
+      go true = on-found _ _ h refl
+      go false = g
+
+  leads : (fuel from : ℕ) → Leads s oid end (membersIn fuel s from end)
+  unfolding membersIn onFound
+  leads zero from = leads-none
+  leads (suc fuel) from = go (leads fuel) (foundAt s from end) refl
+    where
+      go : ((at : ℕ) → Leads s oid end (membersIn fuel s at end)) → (f : Found) → foundAt s from end ≡ f → Leads s oid end (onFound f [] (λ e. e ∷ membersIn fuel s (e .end) end))
+      go less Missing h = leads-none
+      go less (One e) h = leads-more e (membersIn fuel s (e .end) end) (subst (λ at. foundAt s at end ≡ One e) (sym (found-within s from end h .0)) h) (less (e .end))
+
+  module _ (from : ℕ) {at : ℕ} (p : at ≡ placeIn s oid (membersOf s from end) end) where
+    place-leads : firstWith s oid (membersOf s from end) ≡ onFound (foundAt s at end) Absent (extensionOf s)
+    unfolding membersOf
+    place-leads = rw p (leads (length s) from)
+
+    pub place-none : foundAt s at end ≡ Missing → Absent ≡ firstWith s oid (membersOf s from end)
+    place-none h = on-missing _ h ∙ sym place-leads
+
+    pub place-one : {e : Element} → foundAt s at end ≡ One e → extensionOf s e ≡ firstWith s oid (membersOf s from end)
+    place-one h = on-found _ _ h refl ∙ sym place-leads
