@@ -2,3 +2,4 @@ pub mod Likeness
 pub mod Members
 pub mod Enclosed
 pub mod Shorts
+pub mod Tags

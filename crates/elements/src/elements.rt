@@ -62,19 +62,27 @@ fn usual(tag: u8) -> bool
     match tag {
         0x02 => true,
         0x03 => true,
+        0x04 => true,
         0x06 => true,
         0x17 => true,
         0x30 => true,
+        0x31 => true,
+        0x80 => true,
         0xa0 => true,
         0xa3 => true,
         _ => false,
     }
 }
 
-// The same with a header of any kind.
+// The same with a header of any kind, which is not read where the first octet is another.
 fn any_tagged(item: &[u8], from: usize, end: usize, tag: u8) -> Found
     ensures { λ r. ⌜ r ≡ foundTagged (now (item .entry)) from end tag ⌝ }
 {
+    if from < item.len() {
+        if item[from] != tag {
+            return Found::Missing;
+        }
+    }
     let Found::One(e) = element_at(item, from, end) else {
         return Found::Missing;
     };

@@ -3,9 +3,9 @@ use calendar::month_length;
 use elements::Element;
 use elements::Found;
 use elements::contents;
-use elements::element_at;
+use elements::element_tagged;
 ghost use mathlib.Core.Path.{_≡_};
-ghost use Rattle.times.specs.Times.{figures, realNumber, timeOf, timeTag, momentOf, inOrder, timeAt};
+ghost use Rattle.times.specs.Times.{figures, realNumber, timeOf, momentOf, inOrder, timeAt};
 ghost use Rattle.times.specs.Pairs.{Pair, YearOf};
 ghost use Prim.Native.Nat.{_≤_};
 ghost use lib.ListN.{length};
@@ -13,16 +13,6 @@ ghost use lib.ListN.{length};
 pub enum Time {
     Moment(u64),
     Untimely,
-}
-
-// Whether a tag is that of a UTCTime or a GeneralizedTime.
-fn time_tag(tag: u8) -> bool
-    ensures { λ r. ⌜ r ≡ timeTag tag ⌝ }
-{
-    if tag == 0x17 {
-        return true;
-    }
-    tag == 0x18
 }
 
 // UTCTime YYMMDDHHMMSSZ, or GeneralizedTime YYYYMMDDHHMMSSZ for 2050 on.
@@ -167,15 +157,12 @@ pub fn in_order(start: Time, end: Time) -> bool
     a <= b
 }
 
-// The element at `from`, if it has the tag of a time.
+// The element at `from`, if it has the tag of a UTCTime or a GeneralizedTime.
 pub fn time_at(item: &[u8], from: usize, end: usize) -> Found
     ensures { λ r. ⌜ r ≡ timeAt (now (item .entry)) from end ⌝ }
 {
-    let Found::One(e) = element_at(item, from, end) else {
-        return Found::Missing;
-    };
-    if time_tag(e.tag) {
-        return Found::One(e);
+    match element_tagged(item, from, end, 0x17) {
+        Found::One(e) => Found::One(e),
+        Found::Missing => element_tagged(item, from, end, 0x18),
     }
-    Found::Missing
 }

@@ -1,10 +1,18 @@
--- The element that is found is kept if its tag is the one asked for.
+-- Another first octet is no such element; an element that is found is kept if its tag is the one asked for.
 use mathlib.Core.Path.{sym, _∙_}
 use borrow.Author.Needs.{needs}
 use Rattle.elements.specs.Elements.{foundTagged}
 use Rattle.elements.proofs.Members.{tag-missing, tag-kept, tag-other}
+use Rattle.elements.proofs.Tags.{found-other}
 use Rattle.elements.proofs.elements.any_tagged.Statement.{statement}
 use Rattle.elements.proofs.elements.any_tagged.Tie as tie
+
+shared-slice-read-if2 : tie.Need-shared-slice-read-if2
+shared-slice-read-if2 c = search needs
+
+returns : tie.Need-returns
+unfolding foundTagged
+returns c = sym (found-other _ _ _ _ (c .if2 .taken))
 
 element-at-requires : tie.Need-element-at-requires
 element-at-requires c κs = search needs
@@ -15,18 +23,27 @@ enum-known-e c = search needs
 enum-told : tie.Need-enum-told
 enum-told c = search needs
 
-returns : tie.Need-returns
-unfolding foundTagged
-returns c = sym (tag-missing _ (sym (c .before .before .element-at .ensures) ∙ c .enum-told .given .1))
-
 returns-2 : tie.Need-returns-2
 unfolding foundTagged
-returns-2 c = sym (tag-kept _ (sym (c .before .before .before .before .before .element-at .ensures) ∙ c .before .before .before .e .given .1) (c .if1 .taken))
+returns-2 c = sym (tag-missing _ (sym (c .before .before .element-at .ensures) ∙ c .enum-told .given .1))
 
 returns-3 : tie.Need-returns-3
 unfolding foundTagged
-returns-3 c = sym (tag-other _ (sym (c .before .before .before .before .before .element-at .ensures) ∙ c .before .before .before .e .given .1) (c .if1 .left))
+returns-3 c = sym (tag-kept _ (sym (c .before .before .before .before .before .element-at .ensures) ∙ c .before .before .before .e .given .1) (c .if3 .taken))
+
+returns-4 : tie.Need-returns-4
+unfolding foundTagged
+returns-4 c = sym (tag-other _ (sym (c .before .before .before .before .before .element-at .ensures) ∙ c .before .before .before .e .given .1) (c .if3 .left))
 
 pub any-tagged-spec : {M : Type 1} → statement M
 any-tagged-spec =
-    tie.close (tie.spec element-at-requires enum-known-e enum-told returns returns-2 returns-3)
+    tie.close
+    (tie.spec
+    shared-slice-read-if2
+    returns
+    element-at-requires
+    enum-known-e
+    enum-told
+    returns-2
+    returns-3
+    returns-4)

@@ -34,9 +34,32 @@ unfolding identifierGood
 returns-7 c = λ yes. rw (c .match .keys7) refl
 
 returns-8 : tie.Need-returns-8
-returns-8 c = λ yes. absurd (false≢true yes)
+unfolding identifierGood
+returns-8 c = λ yes. rw (c .match .keys8) refl
+
+returns-9 : tie.Need-returns-9
+unfolding identifierGood
+returns-9 c = λ yes. rw (c .match .keys9) refl
+
+returns-10 : tie.Need-returns-10
+unfolding identifierGood
+returns-10 c = λ yes. rw (c .match .keys10) refl
+
+returns-11 : tie.Need-returns-11
+returns-11 c = λ yes. absurd (false≢true yes)
 
 pub usual-spec : {M : Type 1} → statement M
 usual-spec =
     tie.close
-    (tie.spec returns returns-2 returns-3 returns-4 returns-5 returns-6 returns-7 returns-8)
+    (tie.spec
+    returns
+    returns-2
+    returns-3
+    returns-4
+    returns-5
+    returns-6
+    returns-7
+    returns-8
+    returns-9
+    returns-10
+    returns-11)
