@@ -1,13 +1,10 @@
 -- Elements with a length in the short form: leaves, lists of them, and the element that such a list fills.
-use Prim.Native.Nat.{ℕ, zero, suc, _+_, _-_, _*_, _/_, _%_, _^_, _≤_, _<_}
+use Prim.Native.Nat.{ℕ, _+_, _-_, _*_, _≤_, _<_}
 use mathlib.Core.Path.{_≡_, refl, sym, subst, _∙_}
-use mathlib.Core.Bool.{Bool, true, false, cond, not, _&&_}
+use mathlib.Core.Bool.{true, false}
 use mathlib.Core.List.{List}
-use mathlib.Core.Logic.{⊎-elim}
-use native.Mathlib.Nat.{eq-or-lt-of-le}
 use native.Mathlib.Omega.{arith}
 use borrow.Author.Tests.{eq-eqb}
-use lib.Dec.{eqb}
 use lib.ListN.{length, getD, take, drop}
 use lib.Seq.{getD-take, getD-drop}
 use Rattle.der.specs.declared.heading.Heading.the-variants.{Header}
@@ -15,9 +12,9 @@ use Rattle.der.specs.declared.walking.Walked.the-variants.{Passed}
 use Rattle.der.specs.Forms.{paper}
 use Rattle.der.specs.Heading.{identifierGood, headingOf, constructed}
 use Rattle.der.specs.Contents.{booleanGood, integerGood, oidGood, contentsGood}
-use Rattle.der.specs.Looks.{Reads, Fills, Double}
+use Rattle.der.specs.Looks.{Reads, Fills, Double, Plain}
 use Rattle.der.specs.Walk.{filled}
-use Rattle.der.proofs.Laws.{and-left, and-right, short-header}
+use Rattle.der.proofs.Laws.{short-header}
 use Rattle.der.proofs.Bounds.{element-within}
 use Rattle.der.proofs.Enough.{ListIs, leaf-is, node-is}
 use Rattle.der.proofs.Stacks.{part, part-length, part-drop, part-inner, passes-none, passes-more}
@@ -41,68 +38,12 @@ module _ {tag : ℕ} {c : List ℕ} where
   unfolding identifierGood constructed contentsGood
   leaf-null e g = rw e (record { known = refl; primitive = refl; good = eq-eqb _ _ g })
 
+  pub leaf-plain : Plain tag → Leaf tag c
+  leaf-plain p = record { known = p .known; primitive = p .primitive; good = p .unjudged c }
+
   pub leaf-oid : tag ≡ 6 → oidGood c ≡ true → Leaf tag c
   unfolding identifierGood constructed contentsGood
   leaf-oid e g = rw e (record { known = refl; primitive = refl; good = g })
-
--- the identifiers whose contents are judged
-unfoldable quiet : ℕ → Bool
-quiet n = cond (eqb n 1) false (cond (eqb n 2) false (cond (eqb n 3) false (cond (eqb n 5) false (cond (eqb n 6) false true))))
-
-passed : (b x y z : Bool) → cond b false y ≡ true → (y ≡ true → z ≡ true) → cond b x z ≡ true
-passed true x y z e f = let w : _≡_ {A = ℕ} 0 1 = cc in absurd (omega arith)
-passed false x y z e f = f e
-
-quiet-good : (n : ℕ) (c : List ℕ) → quiet n ≡ true → contentsGood n c ≡ true
-unfolding quiet contentsGood
-quiet-good n c e =
-    passed (eqb n 1) _ _ _ e λ e. passed (eqb n 2) _ _ _ e λ e. passed (eqb n 3) _ _ _ e λ e. passed (eqb n 5) _ _ _ e λ e. passed (eqb n 6) _ _ _ e λ e. e
-
--- the bits of the code's constant
-abbrev bit : ℕ → Bool
-bit n = eqb (2147286928 / 2 ^ n % 2) 1
-
-unfoldable fine : ℕ → Bool
-fine n = identifierGood n && (not (constructed n) && quiet n)
-
-abbrev implied : Bool → Bool → Bool
-implied true b = b
-implied false b = true
-
-abbrev covered : ℕ → Bool
-covered zero = true
-covered (suc k) = implied (bit k) (fine k) && covered k
-
-implied-is : (a b : Bool) → implied a b ≡ true → a ≡ true → b ≡ true
-implied-is true b e h = e
-implied-is false b e h = let w : _≡_ {A = ℕ} 0 1 = cc in absurd (omega arith)
-
-below : (k : ℕ) → covered k ≡ true → (n : ℕ) → n < k → bit n ≡ true → fine n ≡ true
-below zero e n h g = absurd (omega arith)
-below (suc k) e n h g =
-    let most : n ≤ k = omega arith in
-    ⊎-elim (λ last. rw last (implied-is (bit k) (fine k) (and-left _ (covered k) e) (rw last at g))) (λ before. below k (and-right (implied (bit k) (fine k)) (covered k) e) n before g) (eq-or-lt-of-le most)
-
-all : covered 64 ≡ true
-unfolding fine quiet identifierGood constructed
-all = refl
-
-turned : (b : Bool) → not b ≡ true → b ≡ false
-turned true e = let w : _≡_ {A = ℕ} 0 1 = cc in absurd (omega arith)
-turned false e = refl
-
-pub leaf-plain : (tag : ℕ) (c : List ℕ) → tag ≤ 63 → 2147286928 / 2 ^ tag % 2 ≡ 1 → Leaf tag c
-unfolding fine
-leaf-plain tag c h g = go (below 64 all tag (omega arith) (eq-eqb _ _ g))
-  where
-    go : fine tag ≡ true → Leaf tag c
-    go e =
-        let rest : (not (constructed tag) && quiet tag) ≡ true = and-right (identifierGood tag) _ e in
-        record {
-          known = and-left (identifierGood tag) _ e;
-          primitive = turned (constructed tag) (and-left (not (constructed tag)) (quiet tag) rest);
-          good = quiet-good tag c (and-right (not (constructed tag)) (quiet tag) rest);
-        }
 
 getD-part : (s : List ℕ) (i e k : ℕ) → i + k < e → getD (part s i e) k 0 ≡ getD s (i + k) 0
 getD-part s i e k h = getD-take (e - i) (drop i s) k 0 (omega arith) ∙ getD-drop i s k 0

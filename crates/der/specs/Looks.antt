@@ -1,11 +1,14 @@
 -- What the quick looks of the walk promise, of a stretch of the item that they read without telling a fault.
 use Prim.Native.Nat.{ℕ, _+_, _-_, _*_, _≤_}
+use mathlib.Core.Bool.{true, false}
 use mathlib.Core.List.{List}
 use mathlib.Core.Path.{_≡_}
 use lib.ListN.{length, getD, take, drop}
 use Rattle.der.specs.declared.walking.Read.the-variants.{Past}
 use Rattle.der.specs.declared.walking.Walked.the-variants.{Passed}
 use Rattle.der.specs.Forms.{paper}
+use Rattle.der.specs.Heading.{identifierGood, constructed}
+use Rattle.der.specs.Contents.{contentsGood}
 use Rattle.der.specs.Walk.{elementAt, listAt}
 
 -- the octets from one offset to another
@@ -25,3 +28,9 @@ pub record Double (s : List ℕ) (i : ℕ) : Type 0 where
   pub outer : getD s i 0 ≡ 49
   pub inner : getD s (i + 2) 0 ≡ 48
   pub fills : getD s (i + 3) 0 + 2 ≡ getD s (i + 1) 0
+
+-- an identifier of a primitive whose contents are not judged
+pub record Plain (tag : ℕ) : Type 0 where
+  pub known : identifierGood tag ≡ true
+  pub primitive : constructed tag ≡ false
+  pub unjudged : (c : List ℕ) → contentsGood tag c ≡ true

@@ -13,7 +13,7 @@ ghost use lib.ListN.{length, getD};
 ghost use Rattle.der.specs.Forms.{paper};
 ghost use Rattle.der.specs.Heading.{headingOf, constructed};
 ghost use Rattle.der.specs.Walk.{elementAt, listAt, walkOf, counted};
-ghost use Rattle.der.specs.Looks.{stretch, Reads, Fills, Double};
+ghost use Rattle.der.specs.Looks.{stretch, Reads, Fills, Double, Plain};
 ghost use Rattle.der.specs.declared.heading.Heading.the-variants.{Header};
 ghost use Rattle.der.specs.declared.walking.Read.the-variants.{Past};
 ghost use Rattle.der.specs.declared.walking.Walked.the-variants.{Passed};
@@ -239,9 +239,6 @@ fn leaves(s: &[u8], from: usize, end: usize, count: usize) -> usize
     0
 }
 
-// Bit n tells whether n is a good identifier of a primitive whose contents are not judged.
-const PLAIN: u64 = 0x000000007ffcff90;
-
 // The end of the element at `i` if it is a primitive of the universal class and nothing is wrong with it, but that it may
 // end beyond `end`; else 0.
 fn leaf(s: &[u8], i: usize, end: usize) -> usize
@@ -270,10 +267,7 @@ fn leaf(s: &[u8], i: usize, end: usize) -> usize
         }
         return 0;
     }
-    if 63 < tag {
-        return 0;
-    }
-    if (PLAIN >> tag) % 2 == 1 {
+    if plain(tag) {
         return after;
     }
     if end < after {
@@ -289,7 +283,19 @@ fn leaf(s: &[u8], i: usize, end: usize) -> usize
         if size == 0 {
             return after;
         }
-        return 0;
     }
     0
+}
+
+// Bit n tells whether n is a good identifier of a primitive whose contents are not judged.
+const PLAIN: u64 = 0x000000007ffcff90;
+
+// Whether `tag` is such an identifier, of the universal class.
+fn plain(tag: u8) -> bool
+    ensures { λ r. ⌜ (r ≡ true → Plain tag) ⌝ }
+{
+    if 63 < tag {
+        return false;
+    }
+    (PLAIN >> tag) % 2 == 1
 }

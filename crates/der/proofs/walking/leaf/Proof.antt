@@ -15,6 +15,7 @@ use Rattle.der.proofs.walking.leaf.Lts as lts
 use Rattle.der.proofs.contents.boolean_good.Reads as boolean-good-reads
 use Rattle.der.proofs.contents.integer_good.Reads as integer-good-reads
 use Rattle.der.proofs.contents.oid_good.Reads as oid-good-reads
+use Rattle.der.proofs.walking.plain.Reads as plain-reads
 
 -- a leaf that ends where it may
 read : (s : List ℕ) (i e : ℕ) → i + 2 ≤ e → e ≤ i + 127 → e ≤ length s → i + 2 + getD s (i + 1) 0 ≤ e
@@ -57,9 +58,14 @@ oid-good-requires : tie.Need-oid-good-requires
 oid-good-requires c κs = search needs
 
 returns-2 : tie.Need-returns-2
-returns-2 c =
-    (omega (arith, c .before .before .before .before .before .before .shared-slice-known2 .given (c .before .before .before .before .before .before .before .before .args .i + 1)), λ some. (omega arith, λ within depth count deep few.
-    read (c .before .before .before .before .before .before .before .before .args .s .now) (c .before .before .before .before .before .before .before .before .args .i) (c .before .before .before .before .before .before .before .before .args .end) (c .before .before .before .before .before .before .before .before .pre .0) (c .before .before .before .before .before .before .before .before .pre .1) (c .before .before .before .before .before .before .before .before .pre .2) within depth count deep few (leaf-oid (c .before .before .before .before .if1 .taken) (sym (c .before .oid-good .ensures) ∙ c .if3 .taken))))
+returns-2 c = (
+  omega (arith, c .before .before .before .before .before .before .shared-slice-known2 .given (c .before .before .before .before .before .before .before .before .args .i + 1)),
+  λ some. (
+    omega arith,
+    λ within depth count deep few.
+        read (c .before .before .before .before .before .before .before .before .args .s .now) (c .before .before .before .before .before .before .before .before .args .i) (c .before .before .before .before .before .before .before .before .args .end) (c .before .before .before .before .before .before .before .before .pre .0) (c .before .before .before .before .before .before .before .before .pre .1) (c .before .before .before .before .before .before .before .before .pre .2) within depth count deep few (leaf-oid (c .before .before .before .before .if1 .taken) (sym (c .before .oid-good .ensures) ∙ c .if3 .taken)),
+  ),
+)
 
 returns-3 : tie.Need-returns-3
 returns-3 c = (omega arith, λ some. absurd (omega arith))
@@ -80,29 +86,33 @@ integer-good-requires : tie.Need-integer-good-requires
 integer-good-requires c κs = search needs
 
 returns-5 : tie.Need-returns-5
-returns-5 c =
-    (omega (arith, c .before .before .before .before .before .before .before .shared-slice-known2 .given (c .before .before .before .before .before .before .before .before .before .args .i + 1)), λ some. (omega arith, λ within depth count deep few.
-    read (c .before .before .before .before .before .before .before .before .before .args .s .now) (c .before .before .before .before .before .before .before .before .before .args .i) (c .before .before .before .before .before .before .before .before .before .args .end) (c .before .before .before .before .before .before .before .before .before .pre .0) (c .before .before .before .before .before .before .before .before .before .pre .1) (c .before .before .before .before .before .before .before .before .before .pre .2) within depth count deep few (leaf-integer (c .before .before .before .before .if4 .taken) (sym (c .before .integer-good .ensures) ∙ c .if6 .taken))))
+returns-5 c = (
+  omega (arith, c .before .before .before .before .before .before .before .shared-slice-known2 .given (c .before .before .before .before .before .before .before .before .before .args .i + 1)),
+  λ some. (
+    omega arith,
+    λ within depth count deep few.
+        read (c .before .before .before .before .before .before .before .before .before .args .s .now) (c .before .before .before .before .before .before .before .before .before .args .i) (c .before .before .before .before .before .before .before .before .before .args .end) (c .before .before .before .before .before .before .before .before .before .pre .0) (c .before .before .before .before .before .before .before .before .before .pre .1) (c .before .before .before .before .before .before .before .before .before .pre .2) within depth count deep few (leaf-integer (c .before .before .before .before .if4 .taken) (sym (c .before .integer-good .ensures) ∙ c .if6 .taken)),
+  ),
+)
 
 returns-6 : tie.Need-returns-6
 returns-6 c = (omega arith, λ some. absurd (omega arith))
 
+plain-requires : tie.Need-plain-requires
+plain-requires c κs = search needs
+
 returns-7 : tie.Need-returns-7
-returns-7 c = (omega arith, λ some. absurd (omega arith))
-
-cast-if8 : tie.Need-cast-if8
-cast-if8 c = search needs
-
-shr-if8 : tie.Need-shr-if8
-shr-if8 c = search needs
+returns-7 c = (
+  omega (arith, c .before .before .before .before .before .shared-slice-known2 .given (c .before .before .before .before .before .before .before .args .i + 1)),
+  λ some. (
+    omega arith,
+    λ within depth count deep few.
+        read (c .before .before .before .before .before .before .before .args .s .now) (c .before .before .before .before .before .before .before .args .i) (c .before .before .before .before .before .before .before .args .end) (c .before .before .before .before .before .before .before .pre .0) (c .before .before .before .before .before .before .before .pre .1) (c .before .before .before .before .before .before .before .pre .2) within depth count deep few (leaf-plain (c .before .plain .ensures (c .if7 .taken))),
+  ),
+)
 
 returns-8 : tie.Need-returns-8
-returns-8 c =
-    (omega (arith, c .before .before .before .before .before .shared-slice-known2 .given (c .before .before .before .before .before .before .before .args .i + 1)), λ some. (omega arith, λ within depth count deep few.
-    read (c .before .before .before .before .before .before .before .args .s .now) (c .before .before .before .before .before .before .before .args .i) (c .before .before .before .before .before .before .before .args .end) (c .before .before .before .before .before .before .before .pre .0) (c .before .before .before .before .before .before .before .pre .1) (c .before .before .before .before .before .before .before .pre .2) within depth count deep few (leaf-plain _ _ (c .before .if7 .left) (c .if8 .taken))))
-
-returns-9 : tie.Need-returns-9
-returns-9 c = (omega arith, λ some. absurd (omega arith))
+returns-8 c = (omega arith, λ some. absurd (omega arith))
 
 sub-boolean-good : tie.Need-sub-boolean-good
 sub-boolean-good c = search needs
@@ -116,24 +126,34 @@ part-boolean-good-end c = search needs
 boolean-good-requires : tie.Need-boolean-good-requires
 boolean-good-requires c κs = search needs
 
+returns-9 : tie.Need-returns-9
+returns-9 c = (
+  omega (arith, c .before .before .before .before .before .before .before .before .before .before .shared-slice-known2 .given (c .before .before .before .before .before .before .before .before .before .before .before .before .args .i + 1)),
+  λ some. (
+    omega arith,
+    λ within depth count deep few.
+        read (c .before .before .before .before .before .before .before .before .before .before .before .before .args .s .now) (c .before .before .before .before .before .before .before .before .before .before .before .before .args .i) (c .before .before .before .before .before .before .before .before .before .before .before .before .args .end) (c .before .before .before .before .before .before .before .before .before .before .before .before .pre .0) (c .before .before .before .before .before .before .before .before .before .before .before .before .pre .1) (c .before .before .before .before .before .before .before .before .before .before .before .before .pre .2) within depth count deep few (leaf-boolean (c .before .before .before .if9 .taken) (sym (c .before .boolean-good .ensures) ∙ c .if10 .taken)),
+  ),
+)
+
 returns-10 : tie.Need-returns-10
-returns-10 c =
-    (omega (arith, c .before .before .before .before .before .before .before .before .before .before .shared-slice-known2 .given (c .before .before .before .before .before .before .before .before .before .before .before .before .args .i + 1)), λ some. (omega arith, λ within depth count deep few.
-    read (c .before .before .before .before .before .before .before .before .before .before .before .before .args .s .now) (c .before .before .before .before .before .before .before .before .before .before .before .before .args .i) (c .before .before .before .before .before .before .before .before .before .before .before .before .args .end) (c .before .before .before .before .before .before .before .before .before .before .before .before .pre .0) (c .before .before .before .before .before .before .before .before .before .before .before .before .pre .1) (c .before .before .before .before .before .before .before .before .before .before .before .before .pre .2) within depth count deep few (leaf-boolean (c .before .before .before .if10 .taken) (sym (c .before .boolean-good .ensures) ∙ c .if11 .taken))))
+returns-10 c = (omega arith, λ some. absurd (omega arith))
 
 returns-11 : tie.Need-returns-11
-returns-11 c = (omega arith, λ some. absurd (omega arith))
+returns-11 c = (
+  omega (arith, c .before .before .before .before .before .before .before .before .before .shared-slice-known2 .given (c .before .before .before .before .before .before .before .before .before .before .before .args .i + 1)),
+  λ some. (
+    omega arith,
+    λ within depth count deep few.
+        read (c .before .before .before .before .before .before .before .before .before .before .before .args .s .now) (c .before .before .before .before .before .before .before .before .before .before .before .args .i) (c .before .before .before .before .before .before .before .before .before .before .before .args .end) (c .before .before .before .before .before .before .before .before .before .before .before .pre .0) (c .before .before .before .before .before .before .before .before .before .before .before .pre .1) (c .before .before .before .before .before .before .before .before .before .before .before .pre .2) within depth count deep few (leaf-null (c .before .if11 .taken) (omega (arith, part-length (c .before .before .before .before .before .before .before .before .before .before .before .args .s .now) (c .before .before .before .before .before .before .before .before .before .before .before .args .i + 2) (c .before .before .before .before .before .before .before .before .before .before .before .args .i + 2 + getD (c .before .before .before .before .before .before .before .before .before .before .before .args .s .now) (c .before .before .before .before .before .before .before .before .before .before .before .args .i + 1) 0) (omega arith)))),
+  ),
+)
 
 returns-12 : tie.Need-returns-12
-returns-12 c =
-    (omega (arith, c .before .before .before .before .before .before .before .before .before .shared-slice-known2 .given (c .before .before .before .before .before .before .before .before .before .before .before .args .i + 1)), λ some. (omega arith, λ within depth count deep few.
-    read (c .before .before .before .before .before .before .before .before .before .before .before .args .s .now) (c .before .before .before .before .before .before .before .before .before .before .before .args .i) (c .before .before .before .before .before .before .before .before .before .before .before .args .end) (c .before .before .before .before .before .before .before .before .before .before .before .pre .0) (c .before .before .before .before .before .before .before .before .before .before .before .pre .1) (c .before .before .before .before .before .before .before .before .before .before .before .pre .2) within depth count deep few (leaf-null (c .before .if12 .taken) (omega (arith, part-length (c .before .before .before .before .before .before .before .before .before .before .before .args .s .now) (c .before .before .before .before .before .before .before .before .before .before .before .args .i + 2) (c .before .before .before .before .before .before .before .before .before .before .before .args .i + 2 + getD (c .before .before .before .before .before .before .before .before .before .before .before .args .s .now) (c .before .before .before .before .before .before .before .before .before .before .before .args .i + 1) 0) (omega arith))))))
+returns-12 c = (omega arith, λ some. absurd (omega arith))
 
 returns-13 : tie.Need-returns-13
 returns-13 c = (omega arith, λ some. absurd (omega arith))
-
-returns-14 : tie.Need-returns-14
-returns-14 c = (omega arith, λ some. absurd (omega arith))
 
 pub leaf-spec : {M : Type 1} → statement M
 leaf-spec =
@@ -159,17 +179,15 @@ leaf-spec =
     integer-good-requires
     returns-5
     returns-6
+    plain-requires
     returns-7
-    cast-if8
-    shr-if8
     returns-8
-    returns-9
     sub-boolean-good
     part-boolean-good-start
     part-boolean-good-end
     boolean-good-requires
+    returns-9
     returns-10
     returns-11
     returns-12
-    returns-13
-    returns-14)
+    returns-13)

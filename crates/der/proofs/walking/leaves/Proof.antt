@@ -55,11 +55,14 @@ loop-less c = omega (arith, c .before .before .leaf .ensures .1 (omega arith) .0
 
 loop-again : tie.Need-loop-again Inv-loop μ-loop
 loop-again c =
-    let few : c .before .before .before .before .loop .read < 4096 = omega (arith, c .before .before .before .before .loop .inv .2 (omega arith) .0) in
-    (omega arith, omega (arith, c .before .before .leaf .ensures .1 (omega arith) .0), λ h. (
-      omega (arith, c .before .before .leaf .ensures .1 (omega arith) .0, c .before .before .before .before .loop .inv .2 (omega arith) .0),
-      step _ (c .before .before .before .before .before .before .args .from) (c .before .before .before .before .before .before .args .end) _ (c .before .before .before .before .loop .i) _ (c .before .before .leaf .result) (c .before .before .before .before .before .before .pre .2) (c .before .before .before .loop-test .taken) few (c .before .before .leaf .ensures .1 (omega arith) .1 h) (c .before .before .before .before .loop .inv .2 (omega arith) .1),
-    ))
+    let few : c .before .before .before .before .loop .read < 4096 = omega (arith, c .before .before .before .before .loop .inv .2 (omega arith) .0) in (
+      omega arith,
+      omega (arith, c .before .before .leaf .ensures .1 (omega arith) .0),
+      λ h. (
+        omega (arith, c .before .before .leaf .ensures .1 (omega arith) .0, c .before .before .before .before .loop .inv .2 (omega arith) .0),
+        step _ (c .before .before .before .before .before .before .args .from) (c .before .before .before .before .before .before .args .end) _ (c .before .before .before .before .loop .i) _ (c .before .before .leaf .result) (c .before .before .before .before .before .before .pre .2) (c .before .before .before .loop-test .taken) few (c .before .before .leaf .ensures .1 (omega arith) .1 h) (c .before .before .before .before .loop .inv .2 (omega arith) .1),
+      ),
+    )
 
 returns-3 : tie.Need-returns-3 Inv-loop μ-loop
 returns-3 c = λ some depth deep base fuel enough. absurd (omega arith)
