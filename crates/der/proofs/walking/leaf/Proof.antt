@@ -17,12 +17,28 @@ use Rattle.der.proofs.contents.integer_good.Reads as integer-good-reads
 use Rattle.der.proofs.contents.oid_good.Reads as oid-good-reads
 use Rattle.der.proofs.walking.plain.Reads as plain-reads
 
+none : {A : Type 0} → 0 < 0 → A
+none h = absurd (omega arith)
+
+least : (n : ℕ) → 0 ≤ n
+least n = omega arith
+
+empty : (s : List ℕ) (i e : ℕ) → e ≤ length s → i + 2 + getD s (i + 1) 0 ≤ e → getD s (i + 1) 0 ≡ 0
+    → length (part s (i + 2) (i + 2 + getD s (i + 1) 0)) ≡ 0
+empty s i e inside fits none = omega (arith, part-length s (i + 2) (i + 2 + getD s (i + 1) 0) (omega arith))
+
 -- a leaf that ends where it may
-read : (s : List ℕ) (i e : ℕ) → i + 2 ≤ e → e ≤ i + 127 → e ≤ length s → i + 2 + getD s (i + 1) 0 ≤ e
-    → (depth count : ℕ) → depth ≤ 16 → count < 4096 → Leaf (getD s i 0) (part s (i + 2) (i + 2 + getD s (i + 1) 0))
-    → Reads (part s i e) depth count (i + 2 + getD s (i + 1) 0 - i) (count + 1)
-read s i e two near inside fits depth count deep few leaf =
-    leaf-reads s i e two inside refl fits (omega arith) (leaf .known) depth count deep few (leaf .primitive) (leaf .good)
+answer : (s : List ℕ) (i e : ℕ) → i + 2 ≤ e → e ≤ i + 127 → e ≤ length s → getD s (i + 1) 0 < 256
+    → Leaf (getD s i 0) (part s (i + 2) (i + 2 + getD s (i + 1) 0))
+    → (i + 2 + getD s (i + 1) 0 ≤ i + 257) × (0 < i + 2 + getD s (i + 1) 0 → (i + 2 ≤ i + 2 + getD s (i + 1) 0) × (i + 2 + getD s (i + 1) 0 ≤ e
+    → (depth count : ℕ) → depth ≤ 16 → count < 4096 → Reads (part s i e) depth count (i + 2 + getD s (i + 1) 0 - i) (count + 1)))
+answer s i e two near inside octet leaf = (
+  omega arith,
+  λ some. (
+    omega arith,
+    λ fits depth count deep few. leaf-reads s i e two inside refl fits (omega arith) (leaf .known) depth count deep few (leaf .primitive) (leaf .good),
+  ),
+)
 
 add-size : tie.Need-add-size
 add-size c = search needs
@@ -43,7 +59,7 @@ shared-slice-read-tag : tie.Need-shared-slice-read-tag
 shared-slice-read-tag c = search needs
 
 returns : tie.Need-returns
-returns c = (omega arith, λ some. absurd (omega arith))
+returns c = (least _, λ some. none some)
 
 sub-oid-good : tie.Need-sub-oid-good
 sub-oid-good c = search needs
@@ -58,20 +74,15 @@ oid-good-requires : tie.Need-oid-good-requires
 oid-good-requires c κs = search needs
 
 returns-2 : tie.Need-returns-2
-returns-2 c = (
-  omega (arith, c .before .before .before .before .before .before .shared-slice-known2 .given (c .before .before .before .before .before .before .before .before .args .i + 1)),
-  λ some. (
-    omega arith,
-    λ within depth count deep few.
-        read (c .before .before .before .before .before .before .before .before .args .s .now) (c .before .before .before .before .before .before .before .before .args .i) (c .before .before .before .before .before .before .before .before .args .end) (c .before .before .before .before .before .before .before .before .pre .0) (c .before .before .before .before .before .before .before .before .pre .1) (c .before .before .before .before .before .before .before .before .pre .2) within depth count deep few (leaf-oid (c .before .before .before .before .if1 .taken) (sym (c .before .oid-good .ensures) ∙ c .if3 .taken)),
-  ),
-)
+returns-2 c =
+    answer (c .before .before .before .before .before .before .before .before .args .s .now) (c .before .before .before .before .before .before .before .before .args .i) (c .before .before .before .before .before .before .before .before .args .end) (c .before .before .before .before .before .before .before .before .pre .0) (c .before .before .before .before .before .before .before .before .pre .1) (c .before .before .before .before .before .before .before .before .pre .2) (c .before .before .before .before .before .before .shared-slice-known2 .given (c .before .before .before .before .before .before .before .before .args .i + 1) .fits)
+    (leaf-oid (c .before .before .before .before .if1 .taken) (sym (c .before .oid-good .ensures) ∙ c .if3 .taken))
 
 returns-3 : tie.Need-returns-3
-returns-3 c = (omega arith, λ some. absurd (omega arith))
+returns-3 c = (least _, λ some. none some)
 
 returns-4 : tie.Need-returns-4
-returns-4 c = (omega arith, λ some. absurd (omega arith))
+returns-4 c = (least _, λ some. none some)
 
 sub-integer-good : tie.Need-sub-integer-good
 sub-integer-good c = search needs
@@ -86,33 +97,23 @@ integer-good-requires : tie.Need-integer-good-requires
 integer-good-requires c κs = search needs
 
 returns-5 : tie.Need-returns-5
-returns-5 c = (
-  omega (arith, c .before .before .before .before .before .before .before .shared-slice-known2 .given (c .before .before .before .before .before .before .before .before .before .args .i + 1)),
-  λ some. (
-    omega arith,
-    λ within depth count deep few.
-        read (c .before .before .before .before .before .before .before .before .before .args .s .now) (c .before .before .before .before .before .before .before .before .before .args .i) (c .before .before .before .before .before .before .before .before .before .args .end) (c .before .before .before .before .before .before .before .before .before .pre .0) (c .before .before .before .before .before .before .before .before .before .pre .1) (c .before .before .before .before .before .before .before .before .before .pre .2) within depth count deep few (leaf-integer (c .before .before .before .before .if4 .taken) (sym (c .before .integer-good .ensures) ∙ c .if6 .taken)),
-  ),
-)
+returns-5 c =
+    answer (c .before .before .before .before .before .before .before .before .before .args .s .now) (c .before .before .before .before .before .before .before .before .before .args .i) (c .before .before .before .before .before .before .before .before .before .args .end) (c .before .before .before .before .before .before .before .before .before .pre .0) (c .before .before .before .before .before .before .before .before .before .pre .1) (c .before .before .before .before .before .before .before .before .before .pre .2) (c .before .before .before .before .before .before .before .shared-slice-known2 .given (c .before .before .before .before .before .before .before .before .before .args .i + 1) .fits)
+    (leaf-integer (c .before .before .before .before .if4 .taken) (sym (c .before .integer-good .ensures) ∙ c .if6 .taken))
 
 returns-6 : tie.Need-returns-6
-returns-6 c = (omega arith, λ some. absurd (omega arith))
+returns-6 c = (least _, λ some. none some)
 
 plain-requires : tie.Need-plain-requires
 plain-requires c κs = search needs
 
 returns-7 : tie.Need-returns-7
-returns-7 c = (
-  omega (arith, c .before .before .before .before .before .shared-slice-known2 .given (c .before .before .before .before .before .before .before .args .i + 1)),
-  λ some. (
-    omega arith,
-    λ within depth count deep few.
-        read (c .before .before .before .before .before .before .before .args .s .now) (c .before .before .before .before .before .before .before .args .i) (c .before .before .before .before .before .before .before .args .end) (c .before .before .before .before .before .before .before .pre .0) (c .before .before .before .before .before .before .before .pre .1) (c .before .before .before .before .before .before .before .pre .2) within depth count deep few (leaf-plain (c .before .plain .ensures (c .if7 .taken))),
-  ),
-)
+returns-7 c =
+    answer (c .before .before .before .before .before .before .before .args .s .now) (c .before .before .before .before .before .before .before .args .i) (c .before .before .before .before .before .before .before .args .end) (c .before .before .before .before .before .before .before .pre .0) (c .before .before .before .before .before .before .before .pre .1) (c .before .before .before .before .before .before .before .pre .2) (c .before .before .before .before .before .shared-slice-known2 .given (c .before .before .before .before .before .before .before .args .i + 1) .fits)
+    (leaf-plain (c .before .plain .ensures (c .if7 .taken)))
 
 returns-8 : tie.Need-returns-8
-returns-8 c = (omega arith, λ some. absurd (omega arith))
+returns-8 c = (least _, λ some. none some)
 
 sub-boolean-good : tie.Need-sub-boolean-good
 sub-boolean-good c = search needs
@@ -127,33 +128,23 @@ boolean-good-requires : tie.Need-boolean-good-requires
 boolean-good-requires c κs = search needs
 
 returns-9 : tie.Need-returns-9
-returns-9 c = (
-  omega (arith, c .before .before .before .before .before .before .before .before .before .before .shared-slice-known2 .given (c .before .before .before .before .before .before .before .before .before .before .before .before .args .i + 1)),
-  λ some. (
-    omega arith,
-    λ within depth count deep few.
-        read (c .before .before .before .before .before .before .before .before .before .before .before .before .args .s .now) (c .before .before .before .before .before .before .before .before .before .before .before .before .args .i) (c .before .before .before .before .before .before .before .before .before .before .before .before .args .end) (c .before .before .before .before .before .before .before .before .before .before .before .before .pre .0) (c .before .before .before .before .before .before .before .before .before .before .before .before .pre .1) (c .before .before .before .before .before .before .before .before .before .before .before .before .pre .2) within depth count deep few (leaf-boolean (c .before .before .before .if9 .taken) (sym (c .before .boolean-good .ensures) ∙ c .if10 .taken)),
-  ),
-)
+returns-9 c =
+    answer (c .before .before .before .before .before .before .before .before .before .before .before .before .args .s .now) (c .before .before .before .before .before .before .before .before .before .before .before .before .args .i) (c .before .before .before .before .before .before .before .before .before .before .before .before .args .end) (c .before .before .before .before .before .before .before .before .before .before .before .before .pre .0) (c .before .before .before .before .before .before .before .before .before .before .before .before .pre .1) (c .before .before .before .before .before .before .before .before .before .before .before .before .pre .2) (c .before .before .before .before .before .before .before .before .before .before .shared-slice-known2 .given (c .before .before .before .before .before .before .before .before .before .before .before .before .args .i + 1) .fits)
+    (leaf-boolean (c .before .before .before .if9 .taken) (sym (c .before .boolean-good .ensures) ∙ c .if10 .taken))
 
 returns-10 : tie.Need-returns-10
-returns-10 c = (omega arith, λ some. absurd (omega arith))
+returns-10 c = (least _, λ some. none some)
 
 returns-11 : tie.Need-returns-11
-returns-11 c = (
-  omega (arith, c .before .before .before .before .before .before .before .before .before .shared-slice-known2 .given (c .before .before .before .before .before .before .before .before .before .before .before .args .i + 1)),
-  λ some. (
-    omega arith,
-    λ within depth count deep few.
-        read (c .before .before .before .before .before .before .before .before .before .before .before .args .s .now) (c .before .before .before .before .before .before .before .before .before .before .before .args .i) (c .before .before .before .before .before .before .before .before .before .before .before .args .end) (c .before .before .before .before .before .before .before .before .before .before .before .pre .0) (c .before .before .before .before .before .before .before .before .before .before .before .pre .1) (c .before .before .before .before .before .before .before .before .before .before .before .pre .2) within depth count deep few (leaf-null (c .before .if11 .taken) (omega (arith, part-length (c .before .before .before .before .before .before .before .before .before .before .before .args .s .now) (c .before .before .before .before .before .before .before .before .before .before .before .args .i + 2) (c .before .before .before .before .before .before .before .before .before .before .before .args .i + 2 + getD (c .before .before .before .before .before .before .before .before .before .before .before .args .s .now) (c .before .before .before .before .before .before .before .before .before .before .before .args .i + 1) 0) (omega arith)))),
-  ),
-)
+returns-11 c =
+    answer (c .before .before .before .before .before .before .before .before .before .before .before .args .s .now) (c .before .before .before .before .before .before .before .before .before .before .before .args .i) (c .before .before .before .before .before .before .before .before .before .before .before .args .end) (c .before .before .before .before .before .before .before .before .before .before .before .pre .0) (c .before .before .before .before .before .before .before .before .before .before .before .pre .1) (c .before .before .before .before .before .before .before .before .before .before .before .pre .2) (c .before .before .before .before .before .before .before .before .before .shared-slice-known2 .given (c .before .before .before .before .before .before .before .before .before .before .before .args .i + 1) .fits)
+    (leaf-null (c .before .if11 .taken) (empty (c .before .before .before .before .before .before .before .before .before .before .before .args .s .now) (c .before .before .before .before .before .before .before .before .before .before .before .args .i) (c .before .before .before .before .before .before .before .before .before .before .before .args .end) (c .before .before .before .before .before .before .before .before .before .before .before .pre .2) (c .before .before .before .if8 .left) (c .if12 .taken)))
 
 returns-12 : tie.Need-returns-12
-returns-12 c = (omega arith, λ some. absurd (omega arith))
+returns-12 c = (least _, λ some. none some)
 
 returns-13 : tie.Need-returns-13
-returns-13 c = (omega arith, λ some. absurd (omega arith))
+returns-13 c = (least _, λ some. none some)
 
 pub leaf-spec : {M : Type 1} → statement M
 leaf-spec =

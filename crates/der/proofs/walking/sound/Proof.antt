@@ -1,6 +1,6 @@
 -- Each turn keeps what is left of the open elements: one is closed, one is read, or one is opened.
-use Prim.Native.Nat.{_+_, _-_, _*_, _≤_}
-use mathlib.Core.Path.{refl, sym, _∙_}
+use Prim.Native.Nat.{ℕ, _+_, _-_, _*_, _≤_, _<_}
+use mathlib.Core.Path.{_≡_, refl, sym, _∙_}
 use native.Mathlib.Omega.{arith}
 use borrow.Author.Tests.{eq-eqb, ne-eqb, not-false}
 use borrow.Author.Needs.{needs}
@@ -24,6 +24,22 @@ abbrev μ-loop : tie.MeasureT-loop
 array-write-ends : tie.Need-array-write-ends Inv-loop μ-loop
 array-write-ends c = search needs
 
+none : {A : Type 0} → 0 < 0 → A
+none h = absurd (omega arith)
+
+wide : (i e : ℕ) → i + 2 ≤ e → i < e
+wide i e h = omega arith
+
+shallow : (top : ℕ) → top ≤ 12 → (top + 2 ≤ 14) × (top < 15)
+shallow top h = omega arith
+
+few : (read : ℕ) → read < 4032 → read < 4096
+few read h = omega arith
+
+-- the end of a flat element
+passed : (i size : ℕ) → i + 2 + size ≡ i + (2 + size)
+passed i size = omega arith
+
 loop-holds : tie.Need-loop-holds Inv-loop μ-loop
 loop-holds c = (open-start _, omega arith)
 
@@ -37,7 +53,7 @@ add-if1 : tie.Need-add-if1 Inv-loop μ-loop
 add-if1 c = omega (arith, open-end (c .loop .inv .0), c .before .before .pre)
 
 returns : tie.Need-returns Inv-loop μ-loop
-returns c = λ some base fuel enough. absurd (omega arith)
+returns c = λ some. none some
 
 returns-2 : tie.Need-returns-2 Inv-loop μ-loop
 returns-2 c = λ some. open-done (c .before .before .before .loop .inv .0) (c .if3 .taken) (c .before .if2 .left)
@@ -52,7 +68,7 @@ loop-again : tie.Need-loop-again Inv-loop μ-loop
 loop-again c = (open-pop _ _ _ _ _ (c .before .before .before .loop .inv .0) (c .if3 .left) (c .before .if2 .left), omega arith)
 
 returns-3 : tie.Need-returns-3 Inv-loop μ-loop
-returns-3 c = λ some base fuel enough. absurd (omega arith)
+returns-3 c = λ some. none some
 
 flat-requires : tie.Need-flat-requires Inv-loop μ-loop
 flat-requires c κs = omega (arith, open-end (c .before .before .loop .inv .0))
@@ -76,7 +92,7 @@ loop-less-2 : tie.Need-loop-less-2 Inv-loop μ-loop
 loop-less-2 c = omega (arith, open-end (c .before .before .before .before .before .loop .inv .0))
 
 loop-again-2 : tie.Need-loop-again-2 Inv-loop μ-loop
-loop-again-2 c = (open-past _ _ _ _ (c .before .before .before .before .before .loop .inv .0) (omega arith) (c .before .before .flat .ensures (c .before .if5 .taken) (c .before .before .before .before .before .loop .top + 2) (omega arith)) (omega arith), c .before .before .before .before .before .loop .inv .1)
+loop-again-2 c = (open-past _ _ _ _ (c .before .before .before .before .before .loop .inv .0) (wide _ _ (c .before .before .before .before .if1 .left)) (c .before .before .flat .ensures (c .before .if5 .taken) (c .before .before .before .before .before .loop .top + 2) (shallow _ (c .before .before .before .before .before .loop .inv .1) .0)) (passed _ _), c .before .before .before .before .before .loop .inv .1)
 
 sub-header : tie.Need-sub-header Inv-loop μ-loop
 sub-header c = omega (arith, open-end (c .before .before .before .before .loop .inv .0))
@@ -97,19 +113,19 @@ enum-told : tie.Need-enum-told Inv-loop μ-loop
 enum-told c = search needs
 
 returns-4 : tie.Need-returns-4 Inv-loop μ-loop
-returns-4 c = λ some base fuel enough. absurd (omega arith)
+returns-4 c = λ some. none some
 
 add-from : tie.Need-add-from Inv-loop μ-loop
-add-from c = omega (arith, c .before .before .before .before .before .before .before .before .before .before .before .pre, open-end (c .before .before .before .before .before .before .before .before .before .loop .inv .0), open-head _ _ _ _ (c .before .before .before .before .before .before .before .before .before .loop .inv .0) (omega arith) (sym (c .before .before .before .header .ensures) ∙ c .before .tag .given .1))
+add-from c = omega (arith, c .before .before .before .before .before .before .before .before .before .before .before .pre, open-end (c .before .before .before .before .before .before .before .before .before .loop .inv .0), open-head _ _ _ _ (c .before .before .before .before .before .before .before .before .before .loop .inv .0) (wide _ _ (c .before .before .before .before .before .before .before .before .if1 .left)) (sym (c .before .before .before .header .ensures) ∙ c .before .tag .given .1))
 
 add-after : tie.Need-add-after Inv-loop μ-loop
-add-after c = omega (arith, c .before .before .before .before .before .before .before .before .before .before .before .pre, open-end (c .before .before .before .before .before .before .before .before .before .loop .inv .0), open-head _ _ _ _ (c .before .before .before .before .before .before .before .before .before .loop .inv .0) (omega arith) (sym (c .before .before .before .header .ensures) ∙ c .before .tag .given .1))
+add-after c = omega (arith, c .before .before .before .before .before .before .before .before .before .before .before .pre, open-end (c .before .before .before .before .before .before .before .before .before .loop .inv .0), open-head _ _ _ _ (c .before .before .before .before .before .before .before .before .before .loop .inv .0) (wide _ _ (c .before .before .before .before .before .before .before .before .if1 .left)) (sym (c .before .before .before .header .ensures) ∙ c .before .tag .given .1))
 
 add-read : tie.Need-add-read Inv-loop μ-loop
 add-read c = search needs
 
 returns-5 : tie.Need-returns-5 Inv-loop μ-loop
-returns-5 c = λ some base fuel enough. absurd (omega arith)
+returns-5 c = λ some. none some
 
 add-top : tie.Need-add-top Inv-loop μ-loop
 add-top c = search needs
@@ -121,11 +137,11 @@ array-write-ends-2 : tie.Need-array-write-ends-2 Inv-loop μ-loop
 array-write-ends-2 c = search needs
 
 loop-less-3 : tie.Need-loop-less-3 Inv-loop μ-loop
-loop-less-3 c = omega (arith, open-end (c .before .before .before .before .before .before .before .before .before .before .before .loop .inv .0), open-head _ _ _ _ (c .before .before .before .before .before .before .before .before .before .before .before .loop .inv .0) (omega arith) (sym (c .before .before .before .before .before .header .ensures) ∙ c .before .before .before .tag .given .1))
+loop-less-3 c = omega (arith, open-end (c .before .before .before .before .before .before .before .before .before .before .before .loop .inv .0), open-head _ _ _ _ (c .before .before .before .before .before .before .before .before .before .before .before .loop .inv .0) (wide _ _ (c .before .before .before .before .before .before .before .before .before .before .if1 .left)) (sym (c .before .before .before .before .before .header .ensures) ∙ c .before .before .before .tag .given .1))
 
 loop-again-3 : tie.Need-loop-again-3 Inv-loop μ-loop
 unfolding constructed
-loop-again-3 c = (open-push _ _ _ _ (c .before .before .before .before .before .before .before .before .before .before .before .loop .inv .0) (omega arith) refl (sym (c .before .before .before .before .before .header .ensures) ∙ c .before .before .before .tag .given .1) refl refl (eq-eqb _ _ (c .before .if6 .taken)) (omega arith) (omega arith), omega arith)
+loop-again-3 c = (open-push _ _ _ _ (c .before .before .before .before .before .before .before .before .before .before .before .loop .inv .0) (wide _ _ (c .before .before .before .before .before .before .before .before .before .before .if1 .left)) refl (sym (c .before .before .before .before .before .header .ensures) ∙ c .before .before .before .tag .given .1) refl refl (eq-eqb _ _ (c .before .if6 .taken)) (shallow _ (c .before .before .before .before .before .before .before .before .before .before .before .loop .inv .1) .1) (few _ (c .before .before .before .before .before .before .before .before .before .if4 .left)), omega arith)
 
 sub-contents-good : tie.Need-sub-contents-good Inv-loop μ-loop
 sub-contents-good c = search needs
@@ -134,20 +150,20 @@ part-contents-good-start : tie.Need-part-contents-good-start Inv-loop μ-loop
 part-contents-good-start c = search needs
 
 part-contents-good-end : tie.Need-part-contents-good-end Inv-loop μ-loop
-part-contents-good-end c = omega (arith, open-end (c .before .before .before .before .before .before .before .before .before .before .loop .inv .0), open-head _ _ _ _ (c .before .before .before .before .before .before .before .before .before .before .loop .inv .0) (omega arith) (sym (c .before .before .before .before .header .ensures) ∙ c .before .before .tag .given .1))
+part-contents-good-end c = omega (arith, open-end (c .before .before .before .before .before .before .before .before .before .before .loop .inv .0), open-head _ _ _ _ (c .before .before .before .before .before .before .before .before .before .before .loop .inv .0) (wide _ _ (c .before .before .before .before .before .before .before .before .before .if1 .left)) (sym (c .before .before .before .before .header .ensures) ∙ c .before .before .tag .given .1))
 
 contents-good-requires : tie.Need-contents-good-requires Inv-loop μ-loop
 contents-good-requires c κs = search needs
 
 returns-6 : tie.Need-returns-6 Inv-loop μ-loop
-returns-6 c = λ some base fuel enough. absurd (omega arith)
+returns-6 c = λ some. none some
 
 loop-less-4 : tie.Need-loop-less-4 Inv-loop μ-loop
-loop-less-4 c = omega (arith, open-end (c .before .before .before .before .before .before .before .before .before .before .before .before .before .loop .inv .0), open-head _ _ _ _ (c .before .before .before .before .before .before .before .before .before .before .before .before .before .loop .inv .0) (omega arith) (sym (c .before .before .before .before .before .before .before .header .ensures) ∙ c .before .before .before .before .before .tag .given .1))
+loop-less-4 c = omega (arith, open-end (c .before .before .before .before .before .before .before .before .before .before .before .before .before .loop .inv .0), open-head _ _ _ _ (c .before .before .before .before .before .before .before .before .before .before .before .before .before .loop .inv .0) (wide _ _ (c .before .before .before .before .before .before .before .before .before .before .before .before .if1 .left)) (sym (c .before .before .before .before .before .before .before .header .ensures) ∙ c .before .before .before .before .before .tag .given .1))
 
 loop-again-4 : tie.Need-loop-again-4 Inv-loop μ-loop
 unfolding constructed
-loop-again-4 c = (open-leaf _ _ _ _ (c .before .before .before .before .before .before .before .before .before .before .before .before .before .loop .inv .0) (omega arith) (sym (c .before .before .before .before .before .before .before .header .ensures) ∙ c .before .before .before .before .before .tag .given .1) refl refl (ne-eqb _ _ (c .before .before .before .if6 .left)) (sym (c .before .contents-good .ensures) ∙ not-false _ (c .if8 .left)) (omega arith) (omega arith), c .before .before .before .before .before .before .before .before .before .before .before .before .before .loop .inv .1)
+loop-again-4 c = (open-leaf _ _ _ _ (c .before .before .before .before .before .before .before .before .before .before .before .before .before .loop .inv .0) (wide _ _ (c .before .before .before .before .before .before .before .before .before .before .before .before .if1 .left)) (sym (c .before .before .before .before .before .before .before .header .ensures) ∙ c .before .before .before .before .before .tag .given .1) refl refl (ne-eqb _ _ (c .before .before .before .if6 .left)) (sym (c .before .contents-good .ensures) ∙ not-false _ (c .if8 .left)) (shallow _ (c .before .before .before .before .before .before .before .before .before .before .before .before .before .loop .inv .1) .1) (few _ (c .before .before .before .before .before .before .before .before .before .before .before .if4 .left)), c .before .before .before .before .before .before .before .before .before .before .before .before .before .loop .inv .1)
 
 pub sound-spec : {M : Type 1} → statement M
 sound-spec =
