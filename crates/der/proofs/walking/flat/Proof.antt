@@ -14,7 +14,7 @@ use Rattle.der.proofs.walking.double.Reads as double-reads
 use Rattle.der.proofs.walking.leaves.Reads as leaves-reads
 
 add-from : tie.Need-add-from
-add-from c = search needs
+add-from c = omega arith
 
 add-read : tie.Need-add-read
 add-read c = search needs

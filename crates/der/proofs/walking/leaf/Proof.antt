@@ -41,7 +41,7 @@ answer s i e two near inside octet leaf = (
 )
 
 add-size : tie.Need-add-size
-add-size c = search needs
+add-size c = omega arith
 
 shared-slice-read-size : tie.Need-shared-slice-read-size
 shared-slice-read-size c = search needs

@@ -25,7 +25,7 @@ array-write-ends : tie.Need-array-write-ends Inv-loop μ-loop
 array-write-ends c = search needs
 
 none : {A : Type 0} → 0 < 0 → A
-none h = absurd (omega arith)
+none h = absurd ((omega arith))
 
 wide : (i e : ℕ) → i + 2 ≤ e → i < e
 wide i e h = omega arith
@@ -59,7 +59,7 @@ returns-2 : tie.Need-returns-2 Inv-loop μ-loop
 returns-2 c = λ some. open-done (c .before .before .before .loop .inv .0) (c .if3 .taken) (c .before .if2 .left)
 
 sub-top : tie.Need-sub-top Inv-loop μ-loop
-sub-top c = search needs
+sub-top c = omega arith
 
 loop-less : tie.Need-loop-less Inv-loop μ-loop
 loop-less c = omega (arith, open-end (c .before .before .before .loop .inv .0))
@@ -128,7 +128,7 @@ returns-5 : tie.Need-returns-5 Inv-loop μ-loop
 returns-5 c = λ some. none some
 
 add-top : tie.Need-add-top Inv-loop μ-loop
-add-top c = search needs
+add-top c = omega arith
 
 mul-ends : tie.Need-mul-ends Inv-loop μ-loop
 mul-ends c = search needs
