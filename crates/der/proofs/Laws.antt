@@ -1,6 +1,6 @@
 -- One law for each answer of the walk's definition: what the element and the list come to under the tests that lead there.
 use mathlib.Core.Path.{_≡_, refl}
-use mathlib.Core.Bool.{Bool, true, false, cond}
+use mathlib.Core.Bool.{Bool, true, false, cond, _&&_}
 use mathlib.Core.List.{List, []}
 use Prim.Native.Nat.{ℕ, suc, _+_, _*_, _≤_, _<_}
 use native.Mathlib.Omega.{arith}
@@ -17,6 +17,14 @@ use Rattle.der.specs.Forms.{Forms}
 use Rattle.der.specs.Heading.{identifierGood, within, headingOf, constructed}
 use Rattle.der.specs.Contents.{contentsGood}
 use Rattle.der.specs.Walk.{opened, filled, after, elementAt, listAt, whole, walkOf}
+
+pub and-left : (a b : Bool) → (a && b) ≡ true → a ≡ true
+and-left true b e = refl
+and-left false b e = e
+
+pub and-right : (a b : Bool) → (a && b) ≡ true → b ≡ true
+and-right true b e = e
+and-right false b e = let z : _≡_ {A = ℕ} 0 1 = cc in absurd (omega arith)
 
 -- a length in the short form
 pub short-header :

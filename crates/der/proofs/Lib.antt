@@ -4,3 +4,4 @@ pub mod Enough
 pub mod Weights
 pub mod Faults
 pub mod Stacks
+pub mod Flat

@@ -8,7 +8,7 @@ use borrow.Author.Tests.{eqb-true, eqb-false}
 use lib.Dec.{eqb}
 use mathlib.Core.List.{List, [], _∷_}
 use native.Mathlib.Omega.{arith}
-use lib.ListN.{length, getD, set, replicate, take, drop, length-take, length-drop, length-set, getD-replicate}
+use lib.ListN.{length, getD, set, replicate, take, drop, length-take, length-drop, length-set}
 use lib.Seq.{take-all, take-take, drop-drop, getD-set-same, getD-set-other}
 use Rattle.der.specs.declared.heading.Heading.the-variants.{Header}
 use Rattle.der.specs.declared.walking.Read.the-variants.{Past}
@@ -29,11 +29,11 @@ part s i e = take (e - i) (drop i s)
 abbrev pub Passes : List ℕ → ℕ → ℕ → ℕ → Type 0
 Passes s depth count n = (base : ℕ) → ListIs paper s base depth count (Passed n)
 
-passes-none : (s : List ℕ) (depth count : ℕ) → length s ≡ 0 → Passes s depth count count
+pub passes-none : (s : List ℕ) (depth count : ℕ) → length s ≡ 0 → Passes s depth count count
 passes-none s depth count h base zero enough = absurd (omega arith)
 passes-none s depth count h base (suc fuel) enough = sym (list-done paper fuel s base depth count h)
 
-passes-more :
+pub passes-more :
     (s : List ℕ) (depth count : ℕ) {used m n : ℕ} → ((base : ℕ) → ElementIs paper s base depth count (Past used m)) → 0 < length s → 2 ≤ used
     → used ≤ length s → Passes (drop used s) depth m n → Passes s depth count n
 passes-more s depth count f some wide within g base zero enough = absurd (omega arith)
@@ -52,20 +52,20 @@ drop-taken (suc k) (suc n) [] = nothing (suc n - suc k)
     nothing (suc m) = refl
 drop-taken (suc k) (suc n) (x ∷ xs) = let z : suc n - suc k ≡ n - k = omega arith in drop-taken k n xs ∙ rw z refl
 
-part-drop : (s : List ℕ) (i k e : ℕ) → drop k (part s i e) ≡ part s (i + k) e
+pub part-drop : (s : List ℕ) (i k e : ℕ) → drop k (part s i e) ≡ part s (i + k) e
 part-drop s i k e =
     let n : e - i - k ≡ e - (i + k) = omega arith in
     drop-taken k (e - i) (drop i s) ∙ rw (drop-drop k i s, n) refl
 
 -- the contents of an element, as a part of the item and as a part of the stretch that it stands in
-part-inner :
+pub part-inner :
     (s : List ℕ) (i skip size e : ℕ) {from stop : ℕ} → from ≡ i + skip → stop ≡ from + size → stop ≤ e
     → part s from stop ≡ take (skip + size - skip) (drop skip (part s i e))
 part-inner s i skip size e {from} {stop} starts ends h =
     let wide : stop - from ≡ skip + size - skip = omega arith in
     rw (part-drop s i skip e, ← starts, wide) (sym (take-take (skip + size - skip) (e - from) (drop from s) (omega arith)))
 
-part-length : (s : List ℕ) (i e : ℕ) → e ≤ length s → length (part s i e) ≡ e - i
+pub part-length : (s : List ℕ) (i e : ℕ) → e ≤ length s → length (part s i e) ≡ e - i
 part-length s i e h = omega (arith, length-take (e - i) (drop i s), length-drop i s)
 
 -- what is left when the innermost has been read and `m` elements counted, until `n`
@@ -92,20 +92,20 @@ pub record Open (s ends : List ℕ) (top i read : ℕ) : Type 0 where
   pub nested : (j : ℕ) → j < top → getD ends (suc j) 0 ≤ getD ends j 0
   pub comes : (m n : ℕ) → Passes (part s i (getD ends top 0)) (top + 2) read m → Rest s ends top m n → Passes s 2 1 n
 
-pub open-start : (s : List ℕ) → Open s (replicate 16 (length s)) 0 0 1
+pub open-start : (s : List ℕ) → Open s (set (replicate 16 0) 0 (length s)) 0 0 1
 unfolding Rest
 open-start s =
     record {
       room = refl;
       low = omega arith;
       here = omega arith;
-      inside = λ j h. omega (arith, getD-replicate 16 j (length s) 0 (omega arith));
+      inside = λ j h. let z : j ≡ 0 = omega arith in rw z (omega arith);
       nested = λ j h. absurd (omega arith);
       comes = λ m n p e. subst (Passes s 2 1) e (subst (λ (l : List ℕ). Passes l 2 1 m) all p);
     }
   where
-    all : part s 0 (getD (replicate 16 (length s)) 0 0) ≡ s
-    all = rw (getD-replicate 16 0 (length s) 0 (omega arith)) (take-all (length s - 0) s (omega arith))
+    all : part s 0 (length s) ≡ s
+    all = take-all (length s - 0) s (omega arith)
 
 pub open-done : {s ends : List ℕ} {top i read : ℕ} → Open s ends top i read → top ≡ 0 → getD ends top 0 ≤ i → Passes s 2 1 read
 unfolding Rest

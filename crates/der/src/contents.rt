@@ -1,4 +1,5 @@
 // The contents octets of the primitive universal types that are judged.
+ghost use mathlib.Core.Bool.{true};
 ghost use mathlib.Core.Path.{_≡_};
 ghost use Rattle.der.specs.Contents.{booleanGood, integerGood, bitStringGood, oidGood, contentsGood};
 
@@ -15,7 +16,7 @@ pub(crate) fn contents_good(tag: u8, c: &[u8]) -> bool
     }
 }
 
-fn boolean_good(c: &[u8]) -> bool
+pub(crate) fn boolean_good(c: &[u8]) -> bool
     ensures { λ r. ⌜ r ≡ booleanGood (now (c .entry)) ⌝ }
 {
     if c.len() != 1 {
@@ -27,22 +28,22 @@ fn boolean_good(c: &[u8]) -> bool
     c[0] == 0xff
 }
 
-fn integer_good(c: &[u8]) -> bool
+pub(crate) fn integer_good(c: &[u8]) -> bool
     ensures { λ r. ⌜ r ≡ integerGood (now (c .entry)) ⌝ }
 {
-    if c.len() == 0 {
-        return false;
+    if c.len() < 2 {
+        return c.len() == 1;
     }
-    if c.len() == 1 {
-        return true;
+    let first = c[0];
+    if 0 < first {
+        if first < 0xff {
+            return true;
+        }
     }
-    if c[0] == 0 {
+    if first < 0x80 {
         return 0x80 <= c[1];
     }
-    if c[0] == 0xff {
-        return c[1] < 0x80;
-    }
-    true
+    c[1] < 0x80
 }
 
 fn bit_string_good(c: &[u8]) -> bool
@@ -61,11 +62,14 @@ fn bit_string_good(c: &[u8]) -> bool
     c[c.len() - 1] % (1 << unused) == 0
 }
 
-fn oid_good(c: &[u8]) -> bool
+pub(crate) fn oid_good(c: &[u8]) -> bool
     ensures { λ r. ⌜ r ≡ oidGood (now (c .entry)) ⌝ }
 {
     if c.len() == 0 {
         return false;
+    }
+    if three_low(c) {
+        return true;
     }
     if c[0] == 0x80 {
         return false;
@@ -80,4 +84,20 @@ fn oid_good(c: &[u8]) -> bool
         i += 1;
     }
     c[c.len() - 1] < 0x80
+}
+
+// Whether the contents are three octets below 80, an OID as most attributes and extensions have it.
+fn three_low(c: &[u8]) -> bool
+    ensures { λ r. ⌜ (r ≡ true → oidGood (now (c .entry)) ≡ true) ⌝ }
+{
+    if c.len() != 3 {
+        return false;
+    }
+    if 0x80 <= c[0] {
+        return false;
+    }
+    if 0x80 <= c[1] {
+        return false;
+    }
+    c[2] < 0x80
 }

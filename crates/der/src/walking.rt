@@ -1,8 +1,10 @@
 // The walk: an element before its members, left to right, and the first fault met.
+use crate::contents::boolean_good;
 use crate::contents::contents_good;
+use crate::contents::integer_good;
+use crate::contents::oid_good;
 use crate::heading::Heading;
 use crate::heading::header;
-use crate::heading::identifier;
 use refusal::Refusal;
 ghost use mathlib.Core.Path.{_≡_};
 ghost use Prim.Native.Nat.{ℕ, _+_, _-_, _*_, _≤_, _<_};
@@ -11,6 +13,7 @@ ghost use lib.ListN.{length, getD};
 ghost use Rattle.der.specs.Forms.{paper};
 ghost use Rattle.der.specs.Heading.{headingOf, constructed};
 ghost use Rattle.der.specs.Walk.{elementAt, listAt, walkOf, counted};
+ghost use Rattle.der.specs.Looks.{stretch, Reads, Fills, Double, Plain};
 ghost use Rattle.der.specs.declared.heading.Heading.the-variants.{Header};
 ghost use Rattle.der.specs.declared.walking.Read.the-variants.{Past};
 ghost use Rattle.der.specs.declared.walking.Walked.the-variants.{Passed};
@@ -124,29 +127,30 @@ fn sound(s: &[u8]) -> usize
     requires { ⌜ length (now s) ≤ 16384 ⌝ }
     ensures { λ r. ⌜ (0 < r → (base fuel : ℕ) → 2 * length (now (s .entry)) + 2 ≤ fuel → Passed r ≡ listAt fuel paper (now (s .entry)) base 2 1) ⌝ }
 {
-    let mut ends = [s.len(); 16];
+    let mut ends = [0; 16];
+    ends[0] = s.len();
     let mut top = 0;
     let mut i = 0;
     let mut read = 1;
     loop {
         let end = ends[top];
-        if end <= i {
+        if end < i + 2 {
+            if i < end {
+                return 0;
+            }
             if top == 0 {
                 return read;
             }
             top -= 1;
             continue;
         }
-        if 15 <= top {
+        if 4032 <= read {
             return 0;
         }
-        if 4096 <= read {
-            return 0;
-        }
-        let taken = leaf(&s[i..end], top + 2, read);
-        if 0 < taken {
-            i += taken;
-            read += 1;
+        let count = flat(s, i, end, read);
+        if 0 < count {
+            i = i + 2 + s[i + 1] as usize;
+            read = count;
             continue;
         }
         let Heading::Header { tag, skip, size } = header(&s[i..end]) else {
@@ -156,6 +160,9 @@ fn sound(s: &[u8]) -> usize
         let after = from + size;
         read += 1;
         if tag / 32 % 2 == 1 {
+            if 12 <= top {
+                return 0;
+            }
             top += 1;
             ends[top] = after;
             i = from;
@@ -168,35 +175,127 @@ fn sound(s: &[u8]) -> usize
     }
 }
 
-// The octets of the element at the front of `s` if it is primitive, its length in the short form, and nothing is wrong
-// with it; else 0.
-fn leaf(s: &[u8], depth: usize, count: usize) -> usize
-    requires { ⌜ (depth ≤ 16) × (count < 4096) ⌝ }
-    ensures { λ r. ⌜ (0 < r → (base fuel : ℕ) → 2 * length (now (s .entry)) + 1 ≤ fuel → Past r (count + 1) ≡ elementAt fuel paper (now (s .entry)) base depth count) ⌝ }
+// The count of elements when the one at `i` has been read, if it is a SEQUENCE whose members are leaves, or a SET that one
+// such SEQUENCE fills; else 0.
+fn flat(s: &[u8], i: usize, end: usize, count: usize) -> usize
+    requires { ⌜ (i + 2 ≤ end) × (end ≤ length (now s)) × (length (now s) ≤ 16384) × (count < 4032) ⌝ }
+    ensures { λ r. ⌜ (0 < r → (depth : ℕ) → depth ≤ 14 → Reads (stretch (now (s .entry)) i end) depth count (2 + getD (now (s .entry)) (i + 1) 0) r) ⌝ }
 {
-    if s.len() < 2 {
-        return 0;
+    let mut from = i + 2;
+    let mut read = count + 1;
+    if s[i] != 0x30 {
+        if !double(s, i, end) {
+            return 0;
+        }
+        from = i + 4;
+        read = count + 2;
     }
-    let tag = s[0];
-    if tag / 32 % 2 == 1 {
-        return 0;
-    }
-    if !identifier(tag) {
-        return 0;
-    }
-    let size = s[1] as usize;
+    let size = s[i + 1] as usize;
     if 128 <= size {
         return 0;
     }
-    if s.len() - 2 < size {
+    let after = i + 2 + size;
+    if end < after {
         return 0;
     }
-    let end = 2 + size;
-    if 6 < tag {
-        return end;
+    leaves(s, from, after, read)
+}
+
+// Whether a SET starts at `i` that a SEQUENCE fills, by the first four octets.
+fn double(s: &[u8], i: usize, end: usize) -> bool
+    requires { ⌜ (i + 2 ≤ end) × (end ≤ length (now s)) × (length (now s) ≤ 16384) ⌝ }
+    ensures { λ r. ⌜ (r ≡ true → Double (now (s .entry)) i) ⌝ }
+{
+    if s[i] != 0x31 {
+        return false;
     }
-    if contents_good(tag, &s[2..end]) {
-        return end;
+    if end < i + 4 {
+        return false;
+    }
+    if s[i + 2] != 0x30 {
+        return false;
+    }
+    s[i + 3] as usize + 2 == s[i + 1] as usize
+}
+
+// The count of elements when those from `from` to `end` have been read, if each is a leaf; else 0.
+fn leaves(s: &[u8], from: usize, end: usize, count: usize) -> usize
+    requires { ⌜ (from ≤ end) × (end ≤ from + 127) × (end ≤ length (now s)) × (length (now s) ≤ 16384) × (count ≤ 4033) ⌝ }
+    ensures { λ r. ⌜ (0 < r → (depth : ℕ) → depth ≤ 16 → Fills (stretch (now (s .entry)) from end) depth count r) ⌝ }
+{
+    let mut i = from;
+    let mut read = count;
+    while i + 2 <= end {
+        let after = leaf(s, i, end);
+        if after == 0 {
+            return 0;
+        }
+        read += 1;
+        if after == end {
+            return read;
+        }
+        i = after;
     }
     0
+}
+
+// The end of the element at `i` if it is a primitive of the universal class and nothing is wrong with it, but that it may
+// end beyond `end`; else 0.
+fn leaf(s: &[u8], i: usize, end: usize) -> usize
+    requires { ⌜ (i + 2 ≤ end) × (end ≤ i + 127) × (end ≤ length (now s)) × (length (now s) ≤ 16384) ⌝ }
+    ensures { λ r. ⌜ (r ≤ i + 257) × (0 < r → (i + 2 ≤ r) × (r ≤ end → (depth count : ℕ) → depth ≤ 16 → count < 4096 → Reads (stretch (now (s .entry)) i end) depth count (r - i) (count + 1))) ⌝ }
+{
+    let size = s[i + 1] as usize;
+    let from = i + 2;
+    let after = from + size;
+    let tag = s[i];
+    if tag == 6 {
+        if end < after {
+            return 0;
+        }
+        if oid_good(&s[from..after]) {
+            return after;
+        }
+        return 0;
+    }
+    if tag == 2 {
+        if end < after {
+            return 0;
+        }
+        if integer_good(&s[from..after]) {
+            return after;
+        }
+        return 0;
+    }
+    if plain(tag) {
+        return after;
+    }
+    if end < after {
+        return 0;
+    }
+    if tag == 1 {
+        if boolean_good(&s[from..after]) {
+            return after;
+        }
+        return 0;
+    }
+    if tag == 5 {
+        if size == 0 {
+            return after;
+        }
+    }
+    0
+}
+
+// Bit n tells whether n is a good identifier of a primitive whose contents are not judged.
+const PLAIN: u64 = 0x000000007ffcff90;
+
+// Whether `tag` is such an identifier, of the universal class.
+fn plain(tag: u8) -> bool
+    ensures { λ r. ⌜ (r ≡ true → Plain tag) ⌝ }
+{
+    if 63 < tag {
+        return false;
+    }
+    (PLAIN >> tag) % 2 == 1
 }

@@ -1,69 +1,82 @@
--- The code makes the definition's tests in its order.
+-- A first octet that is neither 00 nor FF tells all; those two ask for the second octet.
+use Prim.Native.Nat.{ℕ, _<_, _≤_}
+use mathlib.Core.Bool.{true}
+use mathlib.Core.List.{List, [], _∷_}
+use mathlib.Core.Logic.{⊎-elim}
+use mathlib.Core.Path.{_≡_, refl}
+use native.Mathlib.Omega.{arith}
 use borrow.Author.Needs.{needs}
 use borrow.Author.Tests.{eq-eqb, ne-eqb}
+use lib.Dec.{eqb, leb, ltb}
+use lib.ListN.{length, getD}
 use Rattle.der.specs.Contents.{integerGood}
 use Rattle.der.proofs.contents.integer_good.Statement.{statement}
 use Rattle.der.proofs.contents.integer_good.Tie as tie
 
-returns : tie.Need-returns
+short : (c : List ℕ) → length c < 2 → eqb (length c) 1 ≡ integerGood c
 unfolding integerGood
-returns c = simp (eq-eqb _ _ (c .if1 .taken))
+short [] h = refl
+short (x ∷ []) h = refl
+short (x ∷ (y ∷ rest)) h = absurd (omega arith)
+
+module _ (c : List ℕ) (two : 2 ≤ length c) where
+  middle : 0 < getD c 0 0 → getD c 0 0 < 255 → true ≡ integerGood c
+  unfolding integerGood
+  middle h g =
+      simp (
+        ne-eqb (length c) 0 (λ e. omega arith),
+        ne-eqb (length c) 1 (λ e. omega arith),
+        ne-eqb (getD c 0 0) 0 (λ e. omega arith),
+        ne-eqb (getD c 0 0) 255 (λ e. omega arith),
+      )
+
+  zeros : getD c 0 0 ≡ 0 → leb 128 (getD c 1 0) ≡ integerGood c
+  unfolding integerGood
+  zeros h = simp (ne-eqb (length c) 0 (λ e. omega arith), ne-eqb (length c) 1 (λ e. omega arith), eq-eqb (getD c 0 0) 0 h)
+
+  ones : getD c 0 0 ≡ 255 → ltb (getD c 1 0) 128 ≡ integerGood c
+  unfolding integerGood
+  ones h =
+      simp (
+        ne-eqb (length c) 0 (λ e. omega arith),
+        ne-eqb (length c) 1 (λ e. omega arith),
+        ne-eqb (getD c 0 0) 0 (λ e. omega arith),
+        eq-eqb (getD c 0 0) 255 h,
+      )
+
+returns : tie.Need-returns
+returns c = short (c .before .args .c .now) (c .if1 .taken)
+
+shared-slice-read-first : tie.Need-shared-slice-read-first
+shared-slice-read-first c = search needs
 
 returns-2 : tie.Need-returns-2
-unfolding integerGood
-returns-2 c = simp (ne-eqb _ _ (c .before .if1 .left), eq-eqb _ _ (c .if2 .taken))
-
-shared-slice-read-if3 : tie.Need-shared-slice-read-if3
-shared-slice-read-if3 c = search needs
+returns-2 c = middle (c .before .before .before .before .args .c .now) (c .before .before .before .if1 .left) (c .before .if2 .taken) (c .if3 .taken)
 
 shared-slice-read-result : tie.Need-shared-slice-read-result
 shared-slice-read-result c = search needs
 
 returns-3 : tie.Need-returns-3
-unfolding integerGood
 returns-3 c =
-    simp (
-      ne-eqb _ _ (c .before .before .before .before .if1 .left),
-      ne-eqb _ _ (c .before .before .before .if2 .left),
-      eq-eqb _ _ (c .before .if3 .taken),
-    )
-
-shared-slice-read-if4 : tie.Need-shared-slice-read-if4
-shared-slice-read-if4 c = search needs
+    zeros (c .before .before .before .before .before .args .c .now) (c .before .before .before .before .if1 .left)
+    (⊎-elim (λ w. absurd (omega (arith, w .1 .left, c .before .if4 .taken))) (λ w. omega (arith, w .left)) (c .before .before .if2 .came))
 
 shared-slice-read-result-2 : tie.Need-shared-slice-read-result-2
 shared-slice-read-result-2 c = search needs
 
 returns-4 : tie.Need-returns-4
-unfolding integerGood
 returns-4 c =
-    simp (
-      ne-eqb _ _ (c .before .before .before .before .before .before .if1 .left),
-      ne-eqb _ _ (c .before .before .before .before .before .if2 .left),
-      ne-eqb _ _ (c .before .before .before .if3 .left),
-      eq-eqb _ _ (c .before .if4 .taken),
-    )
-
-returns-5 : tie.Need-returns-5
-unfolding integerGood
-returns-5 c =
-    simp (
-      ne-eqb _ _ (c .before .before .before .before .before .if1 .left),
-      ne-eqb _ _ (c .before .before .before .before .if2 .left),
-      ne-eqb _ _ (c .before .before .if3 .left),
-      ne-eqb _ _ (c .if4 .left),
-    )
+    ones (c .before .before .before .before .before .args .c .now) (c .before .before .before .before .if1 .left)
+    (⊎-elim (λ w. omega (arith, w .1 .left, c .before .before .before .shared-slice-known .given 0)) (λ w. absurd (omega (arith, w .left, c .before .if4 .left))) (c .before .before .if2 .came))
 
 pub integer-good-spec : {M : Type 1} → statement M
 integer-good-spec =
     tie.close
     (tie.spec
     returns
+    shared-slice-read-first
     returns-2
-    shared-slice-read-if3
     shared-slice-read-result
     returns-3
-    shared-slice-read-if4
     shared-slice-read-result-2
-    returns-4
-    returns-5)
+    returns-4)

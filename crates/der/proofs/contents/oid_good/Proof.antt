@@ -10,6 +10,7 @@ use borrow.Author.Tests.{eq-eqb, ne-eqb, lt-ltb, le-ltb}
 use lib.Dec.{ltb, eqb}
 use lib.ListN.{length, getD, drop, drop-of-length-le}
 use lib.Seq.{drop-cons}
+use borrow.Author.Needs.{needs}
 use Rattle.der.specs.Contents.{subIdentifiers, oidGood}
 use Rattle.der.proofs.contents.oid_good.Statement.{statement}
 use Rattle.der.proofs.contents.oid_good.Tie as tie
@@ -35,35 +36,41 @@ returns : tie.Need-returns Inv-loop μ-loop
 unfolding oidGood
 returns c = simp (eq-eqb _ _ (c .if1 .taken))
 
-shared-slice-read-if2 : tie.Need-shared-slice-read-if2 Inv-loop μ-loop
-shared-slice-read-if2 c = omega arith
+three-low-requires : tie.Need-three-low-requires Inv-loop μ-loop
+three-low-requires c κs = search needs
 
 returns-2 : tie.Need-returns-2 Inv-loop μ-loop
-unfolding oidGood
-returns-2 c =
-    simp (ne-eqb _ _ (c .before .before .if1 .left)) (sym (stopped (c .before .before .before .args .c .now) 0 true (omega arith) (eq-eqb _ _ (c .if2 .taken))))
-
-loop-holds : tie.Need-loop-holds Inv-loop μ-loop
-loop-holds c =
-    (omega arith, omega arith, further (c .before .before .before .args .c .now) 0 true (omega arith) (ne-eqb _ _ (c .if2 .left)))
+returns-2 c = sym (c .before .three-low .ensures (c .if2 .taken))
 
 shared-slice-read-if3 : tie.Need-shared-slice-read-if3 Inv-loop μ-loop
 shared-slice-read-if3 c = omega arith
 
-sub-if4 : tie.Need-sub-if4 Inv-loop μ-loop
-sub-if4 c = omega arith
+returns-3 : tie.Need-returns-3 Inv-loop μ-loop
+unfolding oidGood
+returns-3 c =
+    simp (ne-eqb _ _ (c .before .before .before .before .if1 .left)) (sym (stopped (c .before .before .before .before .before .before .args .c .now) 0 true (omega arith) (eq-eqb _ _ (c .if3 .taken))))
+
+loop-holds : tie.Need-loop-holds Inv-loop μ-loop
+loop-holds c =
+    (omega arith, omega arith, further (c .before .before .before .before .before .before .args .c .now) 0 true (omega arith) (ne-eqb _ _ (c .if3 .left)))
 
 shared-slice-read-if4 : tie.Need-shared-slice-read-if4 Inv-loop μ-loop
 shared-slice-read-if4 c = omega arith
 
-returns-3 : tie.Need-returns-3 Inv-loop μ-loop
+sub-if5 : tie.Need-sub-if5 Inv-loop μ-loop
+sub-if5 c = omega arith
+
+shared-slice-read-if5 : tie.Need-shared-slice-read-if5 Inv-loop μ-loop
+shared-slice-read-if5 c = omega arith
+
+returns-4 : tie.Need-returns-4 Inv-loop μ-loop
 unfolding oidGood
-returns-3 c =
-    let l = c .before .before .before .before .before .before .before .before .before .args .c .now in
+returns-4 c =
+    let l = c .before .before .before .before .before .before .before .before .before .before .before .before .args .c .now in
     let i = c .before .before .before .before .before .loop .i in
     let both : (ltb (getD l (i - 1) 0) 128 && eqb (getD l i 0) 128) ≡ true =
-    simp (lt-ltb _ _ (c .if4 .taken), eq-eqb _ _ (c .before .before .if3 .taken)) in
-    simp (ne-eqb _ _ (c .before .before .before .before .before .before .before .before .if1 .left)) (sym (stopped l i (ltb (getD l (i - 1) 0) 128) (c .before .before .before .before .loop-test .taken) both) ∙ c .before .before .before .before .before .loop .inv .2)
+    simp (lt-ltb _ _ (c .if5 .taken), eq-eqb _ _ (c .before .before .if4 .taken)) in
+    simp (ne-eqb _ _ (c .before .before .before .before .before .before .before .before .before .before .if1 .left)) (sym (stopped l i (ltb (getD l (i - 1) 0) 128) (c .before .before .before .before .loop-test .taken) both) ∙ c .before .before .before .before .before .loop .inv .2)
 
 add-i : tie.Need-add-i Inv-loop μ-loop
 add-i c = omega arith
@@ -77,10 +84,10 @@ either false b e = refl
 
 loop-again : tie.Need-loop-again Inv-loop μ-loop
 loop-again c =
-    let l = c .before .before .before .before .before .before .before .args .c .now in
+    let l = c .before .before .before .before .before .before .before .before .before .before .args .c .now in
     let i = c .before .before .before .loop .i in
     let plain : (ltb (getD l (i - 1) 0) 128 && eqb (getD l i 0) 128) ≡ false =
-    ⊎-elim (λ w. simp (le-ltb _ _ (w .2 .left))) (λ w. either (ltb (getD l (i - 1) 0) 128) (eqb (getD l i 0) 128) (ne-eqb _ _ (w .left))) (c .if3 .came) in
+    ⊎-elim (λ w. simp (le-ltb _ _ (w .2 .left))) (λ w. either (ltb (getD l (i - 1) 0) 128) (eqb (getD l i 0) 128) (ne-eqb _ _ (w .left))) (c .if4 .came) in
     let back : i + 1 - 1 ≡ i = omega arith in
     (omega arith, omega arith, rw back (further l i (ltb (getD l (i - 1) 0) 128) (c .before .before .loop-test .taken) plain ∙ c .before .before .before .loop .inv .2))
 
@@ -90,13 +97,13 @@ sub-result c = omega arith
 shared-slice-read-result : tie.Need-shared-slice-read-result Inv-loop μ-loop
 shared-slice-read-result c = omega arith
 
-returns-4 : tie.Need-returns-4 Inv-loop μ-loop
+returns-5 : tie.Need-returns-5 Inv-loop μ-loop
 unfolding oidGood subIdentifiers
-returns-4 c =
-    let l = c .before .before .before .before .before .before .args .c .now in
+returns-5 c =
+    let l = c .before .before .before .before .before .before .before .before .before .args .c .now in
     let last : length l ≡ c .before .before .loop .i = omega arith in
     let ended : drop (c .before .before .loop .i) l ≡ [] = drop-of-length-le l (c .before .loop-test .left) in
-    simp (ne-eqb _ _ (c .before .before .before .before .before .if1 .left)) (rw last (rw ended at (c .before .before .loop .inv .2)))
+    simp (ne-eqb _ _ (c .before .before .before .before .before .before .before .if1 .left)) (rw last (rw ended at (c .before .before .loop .inv .2)))
 
 pub oid-good-spec : {M : Type 1} → statement M
 oid-good-spec =
@@ -105,16 +112,18 @@ oid-good-spec =
     Inv-loop
     μ-loop
     returns
-    shared-slice-read-if2
+    three-low-requires
     returns-2
-    loop-holds
     shared-slice-read-if3
-    sub-if4
-    shared-slice-read-if4
     returns-3
+    loop-holds
+    shared-slice-read-if4
+    sub-if5
+    shared-slice-read-if5
+    returns-4
     add-i
     loop-less
     loop-again
     sub-result
     shared-slice-read-result
-    returns-4)
+    returns-5)

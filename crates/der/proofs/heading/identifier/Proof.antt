@@ -9,6 +9,7 @@ use borrow.Author.Needs.{needs}
 use borrow.Author.Tests.{le-leb}
 use lib.Dec.{eqb}
 use Rattle.der.specs.Heading.{identifierGood}
+use Rattle.der.proofs.Laws.{and-left, and-right}
 use Rattle.der.proofs.heading.identifier.Statement.{statement}
 use Rattle.der.proofs.heading.identifier.Tie as tie
 
@@ -28,14 +29,6 @@ same-is : (a b : Bool) → same a b ≡ true → a ≡ b
 same-is true b e = sym e
 same-is false true e = e
 same-is false false e = refl
-
-and-left : (a b : Bool) → (a && b) ≡ true → a ≡ true
-and-left true b e = refl
-and-left false b e = e
-
-and-right : (a b : Bool) → (a && b) ≡ true → b ≡ true
-and-right true b e = e
-and-right false b e = let z : _≡_ {A = ℕ} 0 1 = cc in absurd (omega arith)
 
 below : (k : ℕ) → agree k ≡ true → (n : ℕ) → n < k → bit n ≡ identifierGood n
 below zero e n h = absurd (omega arith)

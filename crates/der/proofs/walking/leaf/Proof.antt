@@ -1,100 +1,184 @@
 -- Each test that passes leaves one way through the definition of an element: the leaf.
-use mathlib.Core.Path.{sym, _∙_}
+use Prim.Native.Nat.{ℕ, _+_, _-_, _≤_, _<_}
+use mathlib.Core.List.{List}
+use mathlib.Core.Path.{_≡_, refl, sym, _∙_}
 use native.Mathlib.Omega.{arith}
-use borrow.Author.Tests.{ne-eqb, not-false}
-use Rattle.der.specs.Forms.{paper}
-use Rattle.der.specs.Heading.{constructed}
-use Rattle.der.proofs.Laws.{short-header, unjudged}
-use Rattle.der.proofs.Enough.{leaf-is}
 use borrow.Author.Needs.{needs}
+use lib.ListN.{length, getD}
+use Rattle.der.specs.Looks.{Reads}
+use Rattle.der.proofs.Stacks.{part, part-length}
+use Rattle.der.proofs.Flat.{Leaf, leaf-boolean, leaf-integer, leaf-null, leaf-oid, leaf-plain, leaf-reads}
 use Rattle.der.proofs.walking.leaf.Statement.{statement}
 use Rattle.der.proofs.walking.leaf.Tie as tie
 use Rattle.der.proofs.walking.leaf.Reads as reads
 use Rattle.der.proofs.walking.leaf.Lts as lts
-use Rattle.der.proofs.contents.contents_good.Reads as contents-good-reads
-use Rattle.der.proofs.heading.identifier.Reads as identifier-reads
+use Rattle.der.proofs.contents.boolean_good.Reads as boolean-good-reads
+use Rattle.der.proofs.contents.integer_good.Reads as integer-good-reads
+use Rattle.der.proofs.contents.oid_good.Reads as oid-good-reads
+use Rattle.der.proofs.walking.plain.Reads as plain-reads
 
-returns : tie.Need-returns
-returns c = λ some base fuel enough. absurd (omega arith)
+none : {A : Type 0} → 0 < 0 → A
+none h = absurd (omega arith)
 
-shared-slice-read-tag : tie.Need-shared-slice-read-tag
-shared-slice-read-tag c = search needs
+least : (n : ℕ) → 0 ≤ n
+least n = omega arith
 
-returns-2 : tie.Need-returns-2
-returns-2 c = λ some base fuel enough. absurd (omega arith)
+empty : (s : List ℕ) (i e : ℕ) → e ≤ length s → i + 2 + getD s (i + 1) 0 ≤ e → getD s (i + 1) 0 ≡ 0
+    → length (part s (i + 2) (i + 2 + getD s (i + 1) 0)) ≡ 0
+empty s i e inside fits none = omega (arith, part-length s (i + 2) (i + 2 + getD s (i + 1) 0) (omega arith))
 
-identifier-requires : tie.Need-identifier-requires
-identifier-requires c κs = search needs
+-- a leaf that ends where it may
+answer : (s : List ℕ) (i e : ℕ) → i + 2 ≤ e → e ≤ i + 127 → e ≤ length s → getD s (i + 1) 0 < 256
+    → Leaf (getD s i 0) (part s (i + 2) (i + 2 + getD s (i + 1) 0))
+    → (i + 2 + getD s (i + 1) 0 ≤ i + 257) × (0 < i + 2 + getD s (i + 1) 0 → (i + 2 ≤ i + 2 + getD s (i + 1) 0) × (i + 2 + getD s (i + 1) 0 ≤ e
+    → (depth count : ℕ) → depth ≤ 16 → count < 4096 → Reads (part s i e) depth count (i + 2 + getD s (i + 1) 0 - i) (count + 1)))
+answer s i e two near inside octet leaf = (
+  omega arith,
+  λ some. (
+    omega arith,
+    λ fits depth count deep few. leaf-reads s i e two inside refl fits (omega arith) (leaf .known) depth count deep few (leaf .primitive) (leaf .good),
+  ),
+)
 
-returns-3 : tie.Need-returns-3
-returns-3 c = λ some base fuel enough. absurd (omega arith)
+add-size : tie.Need-add-size
+add-size c = omega arith
 
 shared-slice-read-size : tie.Need-shared-slice-read-size
 shared-slice-read-size c = search needs
 
 cast-size : tie.Need-cast-size
-cast-size c = omega (arith, c .shared-slice-known3 .given 1)
+cast-size c = omega (arith, c .shared-slice-known2 .given (c .before .before .args .i + 1))
+
+add-from : tie.Need-add-from
+add-from c = search needs
+
+add-after : tie.Need-add-after
+add-after c = omega (arith, c .shared-slice-known2 .given (c .before .before .args .i + 1))
+
+shared-slice-read-tag : tie.Need-shared-slice-read-tag
+shared-slice-read-tag c = search needs
+
+returns : tie.Need-returns
+returns c = (least _, λ some. none some)
+
+sub-oid-good : tie.Need-sub-oid-good
+sub-oid-good c = search needs
+
+part-oid-good-start : tie.Need-part-oid-good-start
+part-oid-good-start c = search needs
+
+part-oid-good-end : tie.Need-part-oid-good-end
+part-oid-good-end c = search needs
+
+oid-good-requires : tie.Need-oid-good-requires
+oid-good-requires c κs = search needs
+
+returns-2 : tie.Need-returns-2
+returns-2 c =
+    answer (c .before .before .before .before .before .before .before .before .args .s .now) (c .before .before .before .before .before .before .before .before .args .i) (c .before .before .before .before .before .before .before .before .args .end) (c .before .before .before .before .before .before .before .before .pre .0) (c .before .before .before .before .before .before .before .before .pre .1) (c .before .before .before .before .before .before .before .before .pre .2) (c .before .before .before .before .before .before .shared-slice-known2 .given (c .before .before .before .before .before .before .before .before .args .i + 1) .fits)
+    (leaf-oid (c .before .before .before .before .if1 .taken) (sym (c .before .oid-good .ensures) ∙ c .if3 .taken))
+
+returns-3 : tie.Need-returns-3
+returns-3 c = (least _, λ some. none some)
 
 returns-4 : tie.Need-returns-4
-returns-4 c = λ some base fuel enough. absurd (omega arith)
+returns-4 c = (least _, λ some. none some)
 
-sub-if5 : tie.Need-sub-if5
-sub-if5 c = search needs
+sub-integer-good : tie.Need-sub-integer-good
+sub-integer-good c = search needs
+
+part-integer-good-start : tie.Need-part-integer-good-start
+part-integer-good-start c = search needs
+
+part-integer-good-end : tie.Need-part-integer-good-end
+part-integer-good-end c = search needs
+
+integer-good-requires : tie.Need-integer-good-requires
+integer-good-requires c κs = search needs
 
 returns-5 : tie.Need-returns-5
-returns-5 c = λ some base fuel enough. absurd (omega arith)
-
-add-end : tie.Need-add-end
-add-end c = search needs
+returns-5 c =
+    answer (c .before .before .before .before .before .before .before .before .before .args .s .now) (c .before .before .before .before .before .before .before .before .before .args .i) (c .before .before .before .before .before .before .before .before .before .args .end) (c .before .before .before .before .before .before .before .before .before .pre .0) (c .before .before .before .before .before .before .before .before .before .pre .1) (c .before .before .before .before .before .before .before .before .before .pre .2) (c .before .before .before .before .before .before .before .shared-slice-known2 .given (c .before .before .before .before .before .before .before .before .before .args .i + 1) .fits)
+    (leaf-integer (c .before .before .before .before .if4 .taken) (sym (c .before .integer-good .ensures) ∙ c .if6 .taken))
 
 returns-6 : tie.Need-returns-6
-unfolding constructed
-returns-6 c = λ some base.
-    leaf-is paper (c .before .before .before .before .before .before .before .before .before .before .args .s .now) base (c .before .before .before .before .before .before .before .before .before .before .args .depth) (c .before .before .before .before .before .before .before .before .before .before .args .count)
-    (short-header paper (c .before .before .before .before .before .before .before .before .before .before .args .s .now) (c .before .before .before .before .before .before .before .before .if1 .left) (sym (c .before .before .before .before .before .identifier .ensures) ∙ not-false _ (c .before .before .before .before .if3 .left)) (c .before .before .if4 .left) (omega arith))
-    (c .before .before .before .before .before .before .before .before .before .before .pre .0) (c .before .before .before .before .before .before .before .before .before .before .pre .1) (ne-eqb _ _ (c .before .before .before .before .before .before .if2 .left)) (unjudged _ _ (c .if6 .taken))
+returns-6 c = (least _, λ some. none some)
 
-sub-contents-good : tie.Need-sub-contents-good
-sub-contents-good c = search needs
-
-part-contents-good-start : tie.Need-part-contents-good-start
-part-contents-good-start c = search needs
-
-part-contents-good-end : tie.Need-part-contents-good-end
-part-contents-good-end c = search needs
-
-contents-good-requires : tie.Need-contents-good-requires
-contents-good-requires c κs = search needs
+plain-requires : tie.Need-plain-requires
+plain-requires c κs = search needs
 
 returns-7 : tie.Need-returns-7
-unfolding constructed
-returns-7 c = λ some base.
-    leaf-is paper (c .before .before .before .before .before .before .before .before .before .before .before .before .before .args .s .now) base (c .before .before .before .before .before .before .before .before .before .before .before .before .before .args .depth) (c .before .before .before .before .before .before .before .before .before .before .before .before .before .args .count)
-    (short-header paper (c .before .before .before .before .before .before .before .before .before .before .before .before .before .args .s .now) (c .before .before .before .before .before .before .before .before .before .before .before .if1 .left) (sym (c .before .before .before .before .before .before .before .before .identifier .ensures) ∙ not-false _ (c .before .before .before .before .before .before .before .if3 .left)) (c .before .before .before .before .before .if4 .left) (omega arith))
-    (c .before .before .before .before .before .before .before .before .before .before .before .before .before .pre .0) (c .before .before .before .before .before .before .before .before .before .before .before .before .before .pre .1) (ne-eqb _ _ (c .before .before .before .before .before .before .before .before .before .if2 .left)) (sym (c .before .contents-good .ensures) ∙ c .if7 .taken)
+returns-7 c =
+    answer (c .before .before .before .before .before .before .before .args .s .now) (c .before .before .before .before .before .before .before .args .i) (c .before .before .before .before .before .before .before .args .end) (c .before .before .before .before .before .before .before .pre .0) (c .before .before .before .before .before .before .before .pre .1) (c .before .before .before .before .before .before .before .pre .2) (c .before .before .before .before .before .shared-slice-known2 .given (c .before .before .before .before .before .before .before .args .i + 1) .fits)
+    (leaf-plain (c .before .plain .ensures (c .if7 .taken)))
 
 returns-8 : tie.Need-returns-8
-returns-8 c = λ some base fuel enough. absurd (omega arith)
+returns-8 c = (least _, λ some. none some)
+
+sub-boolean-good : tie.Need-sub-boolean-good
+sub-boolean-good c = search needs
+
+part-boolean-good-start : tie.Need-part-boolean-good-start
+part-boolean-good-start c = search needs
+
+part-boolean-good-end : tie.Need-part-boolean-good-end
+part-boolean-good-end c = search needs
+
+boolean-good-requires : tie.Need-boolean-good-requires
+boolean-good-requires c κs = search needs
+
+returns-9 : tie.Need-returns-9
+returns-9 c =
+    answer (c .before .before .before .before .before .before .before .before .before .before .before .before .args .s .now) (c .before .before .before .before .before .before .before .before .before .before .before .before .args .i) (c .before .before .before .before .before .before .before .before .before .before .before .before .args .end) (c .before .before .before .before .before .before .before .before .before .before .before .before .pre .0) (c .before .before .before .before .before .before .before .before .before .before .before .before .pre .1) (c .before .before .before .before .before .before .before .before .before .before .before .before .pre .2) (c .before .before .before .before .before .before .before .before .before .before .shared-slice-known2 .given (c .before .before .before .before .before .before .before .before .before .before .before .before .args .i + 1) .fits)
+    (leaf-boolean (c .before .before .before .if9 .taken) (sym (c .before .boolean-good .ensures) ∙ c .if10 .taken))
+
+returns-10 : tie.Need-returns-10
+returns-10 c = (least _, λ some. none some)
+
+returns-11 : tie.Need-returns-11
+returns-11 c =
+    answer (c .before .before .before .before .before .before .before .before .before .before .before .args .s .now) (c .before .before .before .before .before .before .before .before .before .before .before .args .i) (c .before .before .before .before .before .before .before .before .before .before .before .args .end) (c .before .before .before .before .before .before .before .before .before .before .before .pre .0) (c .before .before .before .before .before .before .before .before .before .before .before .pre .1) (c .before .before .before .before .before .before .before .before .before .before .before .pre .2) (c .before .before .before .before .before .before .before .before .before .shared-slice-known2 .given (c .before .before .before .before .before .before .before .before .before .before .before .args .i + 1) .fits)
+    (leaf-null (c .before .if11 .taken) (empty (c .before .before .before .before .before .before .before .before .before .before .before .args .s .now) (c .before .before .before .before .before .before .before .before .before .before .before .args .i) (c .before .before .before .before .before .before .before .before .before .before .before .args .end) (c .before .before .before .before .before .before .before .before .before .before .before .pre .2) (c .before .before .before .if8 .left) (c .if12 .taken)))
+
+returns-12 : tie.Need-returns-12
+returns-12 c = (least _, λ some. none some)
+
+returns-13 : tie.Need-returns-13
+returns-13 c = (least _, λ some. none some)
 
 pub leaf-spec : {M : Type 1} → statement M
 leaf-spec =
     tie.close
     (tie.spec
-    returns
-    shared-slice-read-tag
-    returns-2
-    identifier-requires
-    returns-3
+    add-size
     shared-slice-read-size
     cast-size
+    add-from
+    add-after
+    shared-slice-read-tag
+    returns
+    sub-oid-good
+    part-oid-good-start
+    part-oid-good-end
+    oid-good-requires
+    returns-2
+    returns-3
     returns-4
-    sub-if5
+    sub-integer-good
+    part-integer-good-start
+    part-integer-good-end
+    integer-good-requires
     returns-5
-    add-end
     returns-6
-    sub-contents-good
-    part-contents-good-start
-    part-contents-good-end
-    contents-good-requires
+    plain-requires
     returns-7
-    returns-8)
+    returns-8
+    sub-boolean-good
+    part-boolean-good-start
+    part-boolean-good-end
+    boolean-good-requires
+    returns-9
+    returns-10
+    returns-11
+    returns-12
+    returns-13)

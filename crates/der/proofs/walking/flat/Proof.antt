@@ -1,0 +1,88 @@
+-- The members are leaves, so the element around them is read, and the one around that.
+use Prim.Native.Nat.{_+_}
+use mathlib.Core.Logic.{⊎-elim}
+use mathlib.Core.Path.{refl}
+use native.Mathlib.Omega.{arith}
+use borrow.Author.Needs.{needs}
+use borrow.Author.Tests.{not-false}
+use Rattle.der.proofs.Flat.{sequence-reads, set-reads}
+use Rattle.der.proofs.walking.flat.Statement.{statement}
+use Rattle.der.proofs.walking.flat.Tie as tie
+use Rattle.der.proofs.walking.flat.Reads as reads
+use Rattle.der.proofs.walking.flat.Lts as lts
+use Rattle.der.proofs.walking.double.Reads as double-reads
+use Rattle.der.proofs.walking.leaves.Reads as leaves-reads
+
+add-from : tie.Need-add-from
+add-from c = omega arith
+
+add-read : tie.Need-add-read
+add-read c = search needs
+
+shared-slice-read-if1 : tie.Need-shared-slice-read-if1
+shared-slice-read-if1 c = search needs
+
+double-requires : tie.Need-double-requires
+double-requires c κs = search needs
+
+returns : tie.Need-returns
+returns c = λ some depth shallow base fuel enough. absurd (omega arith)
+
+add-from-2 : tie.Need-add-from-2
+add-from-2 c = search needs
+
+add-read-2 : tie.Need-add-read-2
+add-read-2 c = search needs
+
+add-size : tie.Need-add-size
+add-size c = search needs
+
+shared-slice-read-size : tie.Need-shared-slice-read-size
+shared-slice-read-size c = search needs
+
+cast-size : tie.Need-cast-size
+cast-size c = omega (arith, c .shared-slice-known3 .given (c .before .before .before .before .args .i + 1))
+
+returns-2 : tie.Need-returns-2
+returns-2 c = λ some depth shallow base fuel enough. absurd (omega arith)
+
+add-after : tie.Need-add-after
+add-after c = search needs
+
+add-after-2 : tie.Need-add-after-2
+add-after-2 c = search needs
+
+returns-3 : tie.Need-returns-3
+returns-3 c = λ some depth shallow base fuel enough. absurd (omega arith)
+
+leaves-requires : tie.Need-leaves-requires
+leaves-requires c κs =
+    ⊎-elim (λ w. omega (arith, w .1 .ensures (not-false _ (w .2 .left)) .fills, w .3, w .4)) (λ w. omega (arith, w .1, w .2)) (c .before .before .before .if1 .came)
+
+returns-4 : tie.Need-returns-4
+returns-4 c = λ some depth shallow.
+    ⊎-elim
+    (λ w. set-reads (c .before .before .before .before .before .before .before .args .s .now) (c .before .before .before .before .before .before .before .args .i) (c .before .before .before .before .before .before .before .args .end) _ (c .before .before .before .before .before .before .before .pre .0) (c .before .before .before .before .before .before .before .pre .1) refl (c .before .if4 .left) (c .before .before .if3 .left) depth (c .before .before .before .before .before .before .before .args .count) (c .before .before .before .before .if1 .from) (c .before .before .before .before .if1 .read) _ shallow (c .before .before .before .before .before .before .before .pre .3) (c .leaves .ensures some) (w .1 .ensures (not-false _ (w .2 .left))) (w .3) (w .4))
+    (λ w. sequence-reads (c .before .before .before .before .before .before .before .args .s .now) (c .before .before .before .before .before .before .before .args .i) (c .before .before .before .before .before .before .before .args .end) _ (c .before .before .before .before .before .before .before .pre .0) (c .before .before .before .before .before .before .before .pre .1) refl (c .before .if4 .left) (c .before .before .if3 .left) depth (c .before .before .before .before .before .before .before .args .count) (c .before .before .before .before .if1 .from) (c .before .before .before .before .if1 .read) _ shallow (c .before .before .before .before .before .before .before .pre .3) (c .leaves .ensures some) (w .0 .left) (w .1) (w .2))
+    (c .before .before .before .before .if1 .came)
+
+pub flat-spec : {M : Type 1} → statement M
+flat-spec =
+    tie.close
+    (tie.spec
+    add-from
+    add-read
+    shared-slice-read-if1
+    double-requires
+    returns
+    add-from-2
+    add-read-2
+    add-size
+    shared-slice-read-size
+    cast-size
+    returns-2
+    add-after
+    add-after-2
+    returns-3
+    leaves-requires
+    returns-4)
