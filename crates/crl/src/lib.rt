@@ -1,6 +1,7 @@
 // Whether an item is a CRL of the profile, its fields, whether it lists a serial, and its age.
 mod entries;
 mod listing;
+mod plain;
 mod rules;
 mod shapes;
 
