@@ -130,7 +130,14 @@ module _
       let fifth-is = ap (λ (k : ℕ). k / 0x100000000 % 256) word-is ∙ fifth _ _ _ _ _ _ _ _ few in
       let (a1, (b1, (c1, (d1, (e1, (f1, (g1, (h1, end)))))))) = ds in
       record {
-        year-tens = a1; year-ones = b1; month-tens = c1; month-ones = d1; day-tens = e1; day-ones = f1; hour-tens = g1; hour-ones = h1;
+        year-tens = a1;
+        year-ones = b1;
+        month-tens = c1;
+        month-ones = d1;
+        day-tens = e1;
+        day-ones = f1;
+        hour-tens = g1;
+        hour-ones = h1;
         month-low = pos _ (λ z. month (third-is ∙ z));
         month-high = mo;
         day-low = pos _ (λ z. day (fifth-is ∙ z));
