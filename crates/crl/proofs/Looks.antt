@@ -106,7 +106,7 @@ module _ {s : List ℕ} {at end time : ℕ} (tag : getD s time 0 ≡ 0x17) (size
   usual long entry first = usual-at (rw long at entry) (rw long at first)
 
 -- tag and length in one number
-pub header-told : {a b r : ℕ} → a < 256 → r ≡ b * 256 + a → r ≡ 0x0d17 → (a ≡ 0x17) × (b ≡ 13)
+pub header-told : {a b r : ℕ} → a < 256 → r ≡ ((0 * 256 + 0) * 256 + b) * 256 + a → r ≡ 0x0d17 → (a ≡ 0x17) × (b ≡ 13)
 header-told h e f = (omega arith, omega arith)
 
 pub left-told : (size at end : ℕ) → 19 ≤ end → at ≤ end - 19 → leb size (end - at - 2) ≡ true → at + 2 + size ≤ end

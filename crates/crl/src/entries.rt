@@ -1,4 +1,5 @@
 // Entries of a CRL, and what the rules ask of all of them, found in one pass.
+use crate::plain::four;
 use crate::plain::plain_utc;
 use elements::Element;
 use elements::Found;
@@ -11,7 +12,7 @@ use times::time_at;
 use times::time_of;
 ghost use mathlib.Core.Path.{_≡_};
 ghost use mathlib.Core.Bool.{true};
-ghost use Prim.Native.Nat.{_+_, _*_, _≤_, _<_};
+ghost use Prim.Native.Nat.{_+_, _≤_, _<_};
 ghost use lib.ListN.{length};
 ghost use Rattle.crl.specs.Entries.{isTime, entryOf, surveyOf};
 ghost use Rattle.crl.specs.Looks.{utcAt, Usual, Opening};
@@ -99,7 +100,7 @@ fn usual_time(item: &[u8], at: usize, end: usize) -> usize
         return 0;
     }
     let time = at + 4 + item[at + 3] as usize;
-    if two(item[time], item[time + 1]) != 0x0d17 {
+    if four(item[time], item[time + 1], 0, 0) != 0x0d17 {
         return 0;
     }
     time
@@ -132,13 +133,6 @@ fn opens(item: &[u8], at: usize, end: usize) -> bool
         return false;
     }
     size <= end - at - 2
-}
-
-// Two octets as one number, the first lowest.
-fn two(a: u8, b: u8) -> u64
-    ensures { λ r. ⌜ r ≡ b * 256 + a ⌝ }
-{
-    a as u64 + b as u64 * 256
 }
 
 // SEQUENCE {INTEGER, time, optional SEQUENCE of extensions}.

@@ -58,7 +58,7 @@ fn plain_clock(c: &[u8]) -> bool
 }
 
 // Four octets as one number, the first lowest.
-fn four(a: u8, b: u8, c: u8, d: u8) -> u64
+pub(crate) fn four(a: u8, b: u8, c: u8, d: u8) -> u64
     ensures { λ r. ⌜ r ≡ ((d * 256 + c) * 256 + b) * 256 + a ⌝ }
 {
     a as u64 + b as u64 * 256 + c as u64 * 0x1_0000 + d as u64 * 0x100_0000

@@ -28,17 +28,17 @@ cast-time c = omega (arith, c .shared-slice-known2 .given (c .before .before .be
 add-time-3 : tie.Need-add-time-3
 add-time-3 c = let o = c .before .before .opens .ensures (not-false _ (c .before .if1 .left)) in omega (arith, o .fits, o .inside, o .size)
 
-shared-slice-read-two : tie.Need-shared-slice-read-two
-shared-slice-read-two c = let o = c .before .before .before .opens .ensures (not-false _ (c .before .before .if1 .left)) in omega (arith, o .fits, o .inside, o .size)
+shared-slice-read-four : tie.Need-shared-slice-read-four
+shared-slice-read-four c = let o = c .before .before .before .opens .ensures (not-false _ (c .before .before .if1 .left)) in omega (arith, o .fits, o .inside, o .size)
 
-add-two : tie.Need-add-two
-add-two c = let o = c .before .before .before .opens .ensures (not-false _ (c .before .before .if1 .left)) in omega (arith, o .fits, o .inside, o .size)
+add-four : tie.Need-add-four
+add-four c = let o = c .before .before .before .opens .ensures (not-false _ (c .before .before .if1 .left)) in omega (arith, o .fits, o .inside, o .size)
 
-shared-slice-read-two-2 : tie.Need-shared-slice-read-two-2
-shared-slice-read-two-2 c = let o = c .before .before .before .before .opens .ensures (not-false _ (c .before .before .before .if1 .left)) in omega (arith, o .fits, o .inside, o .size)
+shared-slice-read-four-2 : tie.Need-shared-slice-read-four-2
+shared-slice-read-four-2 c = let o = c .before .before .before .before .opens .ensures (not-false _ (c .before .before .before .if1 .left)) in omega (arith, o .fits, o .inside, o .size)
 
-two-requires : tie.Need-two-requires
-two-requires c κs = search needs
+four-requires : tie.Need-four-requires
+four-requires c κs = search needs
 
 returns-2 : tie.Need-returns-2
 returns-2 c = λ some. absurd (omega arith)
@@ -46,7 +46,7 @@ returns-2 c = λ some. absurd (omega arith)
 returns-3 : tie.Need-returns-3
 returns-3 c = λ some.
     let o = c .before .before .before .before .before .before .opens .ensures (not-false _ (c .before .before .before .before .before .if1 .left)) in
-    let told = header-told (c .before .before .before .shared-slice-known3 .given _ .fits) (c .before .two .ensures) (c .if2 .left) in
+    let told = header-told (c .before .before .before .shared-slice-known3 .given _ .fits) (c .before .four .ensures) (c .if2 .left) in
     opened-usual o (told .0) (told .1)
 
 pub usual-time-spec : {M : Type 1} → statement M
@@ -60,9 +60,9 @@ usual-time-spec =
     shared-slice-read-time
     cast-time
     add-time-3
-    shared-slice-read-two
-    add-two
-    shared-slice-read-two-2
-    two-requires
+    shared-slice-read-four
+    add-four
+    shared-slice-read-four-2
+    four-requires
     returns-2
     returns-3)
