@@ -3,4 +3,6 @@ pub mod Surveys
 pub mod Firsts
 pub mod Serials
 pub mod Looks
+pub mod Words
+pub mod Digits
 pub mod Theorems

@@ -1,11 +1,12 @@
 -- What short headers tell of an entry: a serial of another length or with another last octet is another, and a serial and a
 -- UTCTime can be the whole of it.
-use Prim.Native.Nat.{ℕ, _+_, _-_, _<_, _≤_}
+use Prim.Native.Nat.{ℕ, _+_, _*_, _-_, _<_, _≤_}
 use mathlib.Core.Bool.{true, false}
 use mathlib.Core.List.{List}
 use mathlib.Core.Path.{_≡_, refl, ap, sym, _∙_}
 use native.Mathlib.Omega.{arith}
-use borrow.Author.Tests.{eq-eqb}
+use borrow.Author.Tests.{eq-eqb, leb-true}
+use lib.Dec.{leb}
 use lib.ListN.{length, getD, take, drop, length-drop}
 use lib.Seq.{length-take-le, getD-take, getD-drop}
 use Rattle.der.specs.Heading.{identifierGood}
@@ -20,7 +21,7 @@ use Rattle.elements.proofs.Shorts.{brief, short-there, short-told, short-found,
 use Rattle.times.specs.Times.{timeAt, timeTag}
 use Rattle.crl.specs.Entries.{entryOf}
 use Rattle.crl.specs.Listed.{lists, someLists}
-use Rattle.crl.specs.Looks.{utcAt, Usual, Another}
+use Rattle.crl.specs.Looks.{utcAt, Opening, Usual, Another}
 
 -- an element with a header of two octets that stands at `at` and ends at r
 pub record Short (s : List ℕ) (at end tag r : ℕ) : Type 0 where
@@ -103,3 +104,33 @@ module _ {s : List ℕ} {at end time : ℕ} (tag : getD s time 0 ≡ 0x17) (size
 
   pub usual : {next : ℕ} → next ≡ time + 15 → Short s at end 0x30 next → Short s (at + 2) next 0x02 time → Usual s at end time
   usual long entry first = usual-at (rw long at entry) (rw long at first)
+
+-- tag and length in one number
+pub header-told : {a b r : ℕ} → a < 256 → r ≡ ((0 * 256 + 0) * 256 + b) * 256 + a → r ≡ 0x0d17 → (a ≡ 0x17) × (b ≡ 13)
+header-told h e f = (omega arith, omega arith)
+
+pub left-told : (size at end : ℕ) → 19 ≤ end → at ≤ end - 19 → leb size (end - at - 2) ≡ true → at + 2 + size ≤ end
+left-told size at end h g e = omega (arith, h, g, leb-true size (end - at - 2) e)
+
+-- an entry that opens so, with the UTCTime after its serial
+module _ {s : List ℕ} {at end : ℕ} (o : Opening s at end) where
+  -- its time ends with it
+  pub opened-ends : at + 2 + getD s (at + 1) 0 ≡ at + 4 + getD s (at + 3) 0 + 15
+  opened-ends = omega (arith, o .size)
+
+  opened : Short s at end 0x30 (at + 2 + getD s (at + 1) 0)
+  unfolding identifierGood
+  opened = short 0x30 refl (short-there s at end 0x30 (o .inside) (omega (arith, o .fits)) (o .tag) (o .brief) (o .fits)) (omega arith)
+
+  serial-first : Short s (at + 2) (at + 2 + getD s (at + 1) 0) 0x02 (at + 4 + getD s (at + 3) 0)
+  unfolding identifierGood
+  serial-first =
+      let three : getD s (at + 2 + 1) 0 ≡ getD s (at + 3) 0 = ap (λ (i : ℕ). getD s i 0) (omega arith) in
+      let ends : at + 4 + getD s (at + 3) 0 ≡ at + 2 + 2 + getD s (at + 2 + 1) 0 = omega (arith, three) in
+      short 0x02 refl
+      (ends ∙ short-there s (at + 2) (at + 2 + getD s (at + 1) 0) 0x02 (omega (arith, o .fits, o .inside)) (omega (arith, o .size)) (o .first)
+      (omega (arith, three, o .size, o .brief)) (omega (arith, three, o .size)))
+      (omega arith)
+
+  pub opened-usual : getD s (at + 4 + getD s (at + 3) 0) 0 ≡ 0x17 → getD s (at + 4 + getD s (at + 3) 0 + 1) 0 ≡ 13 → Usual s at end (at + 4 + getD s (at + 3) 0)
+  opened-usual tag size = usual tag size opened-ends opened serial-first

@@ -4,5 +4,6 @@ pub mod Rules
 pub mod Answer
 pub mod Listed
 pub mod Looks
+pub mod Plain
 pub mod Age
 pub mod Meets

@@ -1,9 +1,9 @@
 -- What a quick look at an entry can tell.
-use Prim.Native.Nat.{ℕ, _+_, _-_, _≤_}
+use Prim.Native.Nat.{ℕ, _+_, _-_, _<_, _≤_}
 use mathlib.Core.Bool.{false}
 use mathlib.Core.List.{List}
 use mathlib.Core.Path.{_≡_}
-use lib.ListN.{length}
+use lib.ListN.{length, getD}
 use Rattle.elements.specs.declared.elements.Element.{Element}
 use Rattle.elements.specs.declared.elements.Found.the-variants.{One}
 use Rattle.elements.specs.Elements.{foundAt, membersOf}
@@ -14,6 +14,15 @@ use Rattle.crl.specs.Listed.{lists, someLists}
 -- the UTCTime of 13 octets at an offset
 abbrev pub utcAt : ℕ → Element
 utcAt at = record { tag = 0x17; at = at; contents = at + 2; end = at + 15 }
+
+-- an entry opens at `at` with a serial that leaves 15 octets of it, each length in the short form
+pub record Opening (s : List ℕ) (at end : ℕ) : Type 0 where
+  pub inside : end ≤ length s
+  pub tag : getD s at 0 ≡ 0x30
+  pub first : getD s (at + 2) 0 ≡ 0x02
+  pub brief : getD s (at + 1) 0 < 128
+  pub size : getD s (at + 1) 0 ≡ getD s (at + 3) 0 + 17
+  pub fits : at + 2 + getD s (at + 1) 0 ≤ end
 
 -- the entry that stands at `at` is a serial and such a UTCTime, at r
 pub record Usual (s : List ℕ) (at end r : ℕ) : Type 0 where

@@ -1,19 +1,21 @@
 // Entries of a CRL, and what the rules ask of all of them, found in one pass.
 use crate::passes::extensions_shaped;
 use crate::passes::some_critical;
+use crate::plain::four;
+use crate::plain::plain_utc;
 use elements::Element;
 use elements::Found;
 use elements::element_at;
 use elements::element_tagged;
-use elements::short_end;
 use times::Time;
 use times::time_at;
 use times::time_of;
 ghost use mathlib.Core.Path.{_≡_};
+ghost use mathlib.Core.Bool.{true};
 ghost use Prim.Native.Nat.{_+_, _≤_, _<_};
 ghost use lib.ListN.{length};
 ghost use Rattle.crl.specs.Entries.{isTime, entryOf, surveyOf};
-ghost use Rattle.crl.specs.Looks.{utcAt, Usual};
+ghost use Rattle.crl.specs.Looks.{utcAt, Usual, Opening};
 ghost use Rattle.times.specs.Times.{timeOf};
 
 // An entry's serial, time and extensions.
@@ -94,24 +96,43 @@ pub(crate) fn survey_of(item: &[u8], from: usize, end: usize) -> Survey
 fn usual_time(item: &[u8], at: usize, end: usize) -> usize
     ensures { λ r. ⌜ (0 < r → Usual (now (item .entry)) at end r) ⌝ }
 {
-    let next = short_end(item, at, end, 0x30);
-    if next == 0 {
+    if !opens(item, at, end) {
         return 0;
     }
-    let time = short_end(item, at + 2, next, 0x02);
-    if time == 0 {
-        return 0;
-    }
-    if next - time != 15 {
-        return 0;
-    }
-    if item[time] != 0x17 {
-        return 0;
-    }
-    if item[time + 1] != 13 {
+    let time = at + 4 + item[at + 3] as usize;
+    if four(item[time], item[time + 1], 0, 0) != 0x0d17 {
         return 0;
     }
     time
+}
+
+// Whether an entry of 19 octets or more opens at `at` with a serial that leaves 15 of them, each length in the short form.
+fn opens(item: &[u8], at: usize, end: usize) -> bool
+    ensures { λ r. ⌜ (r ≡ true → Opening (now (item .entry)) at end) ⌝ }
+{
+    if item.len() < end {
+        return false;
+    }
+    if end < 19 {
+        return false;
+    }
+    if end - 19 < at {
+        return false;
+    }
+    if item[at] != 0x30 {
+        return false;
+    }
+    if item[at + 2] != 0x02 {
+        return false;
+    }
+    let size = item[at + 1] as usize;
+    if 128 <= size {
+        return false;
+    }
+    if size != item[at + 3] as usize + 17 {
+        return false;
+    }
+    size <= end - at - 2
 }
 
 // SEQUENCE {INTEGER, time, optional SEQUENCE of extensions}.
@@ -151,11 +172,16 @@ fn is_utc(item: &[u8], at: usize) -> bool
     requires { ⌜ at + 15 ≤ length (now item) ⌝ }
     ensures { λ r. ⌜ r ≡ isTime (timeOf (now (item .entry)) (utcAt at)) ⌝ }
 {
+    let contents = at + 2;
+    let end = at + 15;
+    if plain_utc(&item[contents..end]) {
+        return true;
+    }
     let e = Element {
         tag: 0x17,
         at,
-        contents: at + 2,
-        end: at + 15,
+        contents,
+        end,
     };
     is_time(item, e)
 }

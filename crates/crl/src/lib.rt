@@ -2,6 +2,7 @@
 mod entries;
 mod listing;
 mod passes;
+mod plain;
 mod rules;
 mod shapes;
 

@@ -43,6 +43,11 @@ module _
   second-on : momentOn year month day hour minute second % 100 ≡ second
   second-on = omega arith
 
+-- the same parts after another year
+moment-again : (k year month day hour minute second : ℕ) → month ≤ 99 → day ≤ 99 → hour ≤ 99 → minute ≤ 99 → second ≤ 99
+    → momentOn k month day hour minute second ≡ k * 10000000000 + momentOn year month day hour minute second % 10000000000
+moment-again k year month day hour minute second mo d h mi s = omega arith
+
 -- a real moment, part by part
 pub record RealAt (m : ℕ) : Type 0 where
   pub date : Real 0 9999 (m / 1000000)
@@ -79,42 +84,65 @@ module _ (year : ℕ) (c : List ℕ) (ten : length c ≡ 10) where
   unfolding figures
   figures-end n = let all : length c ≤ 10 = omega arith in rw (drop-of-length-le c all)
 
-  -- the pairs from i on, of a number that is written so
-  begins : (i n m : ℕ) → i + 2 ≤ length c → figures n (drop i c) ≡ Number m
-      → (r : ℕ) × (r ≤ 99) × ((p : ℕ) → Pair (getD c i 0) (getD c (i + 1) 0) p → r ≡ p)
-      × ((k : ℕ) → figures k (drop i c) ≡ figures (k * 100 + r) (drop (i + 2) c))
+  -- the octets from i on begin with a pair that writes r
+  record Starts (i r : ℕ) : Type 0 where
+    pub few : r ≤ 99
+    pub told : (p : ℕ) → Pair (getD c i 0) (getD c (i + 1) 0) p → r ≡ p
+    pub goes : (k : ℕ) → figures k (drop i c) ≡ figures (k * 100 + r) (drop (i + 2) c)
+
+  begins : (i n m : ℕ) → i + 2 ≤ length c → figures n (drop i c) ≡ Number m → (r : ℕ) × Starts i r × (figures (n * 100 + r) (drop (i + 2) c) ≡ Number m)
   begins i n m h e =
       let w = pair-was _ _ _ n m (ap (figures n) (sym (drop-two c i h)) ∙ e) in
-      (w .read, w .few, λ p told. w .told told, λ k. ap (figures k) (drop-two c i h) ∙ w .goes-on k)
+      let goes : (k : ℕ) → figures k (drop i c) ≡ figures (k * 100 + w .read) (drop (i + 2) c) = λ k. ap (figures k) (drop-two c i h) ∙ w .goes-on k in
+      (w .read, record { few = w .few; told = λ p told. w .told told; goes = goes }, sym (goes n) ∙ e)
 
   figures-ended : (n m : ℕ) → figures n (drop 10 c) ≡ Number m → m ≡ n
   figures-ended n m e = let end : figures n (drop 10 c) ≡ Number n = figures-end n in cc
 
+  -- five pairs are the whole of it
+  module _ {r1 r2 r3 r4 r5 : ℕ} (p1 : Starts 0 r1) (p2 : Starts 2 r2) (p3 : Starts 4 r3) (p4 : Starts 6 r4) (p5 : Starts 8 r5) where
+    goes-all : (k : ℕ) → figures k c ≡ Number (momentOn k r1 r2 r3 r4 r5)
+    goes-all k = p1 .goes k ∙ p2 .goes _ ∙ p3 .goes _ ∙ p4 .goes _ ∙ p5 .goes _ ∙ figures-end _
+
+    again : (k : ℕ) → momentOn k r1 r2 r3 r4 r5 ≡ k * 10000000000 + momentOn year r1 r2 r3 r4 r5 % 10000000000
+    again k = moment-again k year r1 r2 r3 r4 r5 (p1 .few) (p2 .few) (p3 .few) (p4 .few) (p5 .few)
+
+    parts-written : Written (momentOn year r1 r2 r3 r4 r5)
+    parts-written =
+        record {
+          year-is = year-on year _ _ _ _ _ (p1 .few) (p2 .few) (p3 .few) (p4 .few) (p5 .few);
+          month-is = λ p. month-on year _ _ _ _ _ (p1 .few) (p2 .few) (p3 .few) (p4 .few) (p5 .few) ∙ p1 .told _ p;
+          day-is = λ p. day-on year _ _ _ _ _ (p1 .few) (p2 .few) (p3 .few) (p4 .few) (p5 .few) ∙ p2 .told _ p;
+          hour-is = λ p. hour-on year _ _ _ _ _ (p1 .few) (p2 .few) (p3 .few) (p4 .few) (p5 .few) ∙ p3 .told _ p;
+          minute-is = λ p. minute-on year _ _ _ _ _ (p1 .few) (p2 .few) (p3 .few) (p4 .few) (p5 .few) ∙ p4 .told _ p;
+          second-is = λ p. second-on year _ _ _ _ _ (p1 .few) (p2 .few) (p3 .few) (p4 .few) (p5 .few) ∙ p5 .told _ p;
+          anew = λ k. goes-all k ∙ ap Number (again k);
+        }
+
+    all-written : (m : ℕ) → figures (momentOn year r1 r2 r3 r4 r5) (drop 10 c) ≡ Number m → Written m
+    all-written m e = rw (figures-ended _ m e) parts-written
+
   pub written : (m : ℕ) → figures year c ≡ Number m → Written m
-  written m e =
-      let (r1, f1, t1, g1) = begins 0 year m (omega arith) e in
-      let n1 = year * 100 + r1 in
-      let e1 = sym (g1 year) ∙ e in
-      let (r2, f2, t2, g2) = begins 2 n1 m (omega arith) e1 in
-      let n2 = n1 * 100 + r2 in
-      let e2 = sym (g2 n1) ∙ e1 in
-      let (r3, f3, t3, g3) = begins 4 n2 m (omega arith) e2 in
-      let n3 = n2 * 100 + r3 in
-      let e3 = sym (g3 n2) ∙ e2 in
-      let (r4, f4, t4, g4) = begins 6 n3 m (omega arith) e3 in
-      let n4 = n3 * 100 + r4 in
-      let e4 = sym (g4 n3) ∙ e3 in
-      let (r5, f5, t5, g5) = begins 8 n4 m (omega arith) e4 in
-      rw (figures-ended (n4 * 100 + r5) m (sym (g5 n4) ∙ e4))
-      (record {
-        year-is = year-on year _ _ _ _ _ f1 f2 f3 f4 f5;
-        month-is = λ p. month-on year _ _ _ _ _ f1 f2 f3 f4 f5 ∙ t1 _ p;
-        day-is = λ p. day-on year _ _ _ _ _ f1 f2 f3 f4 f5 ∙ t2 _ p;
-        hour-is = λ p. hour-on year _ _ _ _ _ f1 f2 f3 f4 f5 ∙ t3 _ p;
-        minute-is = λ p. minute-on year _ _ _ _ _ f1 f2 f3 f4 f5 ∙ t4 _ p;
-        second-is = λ p. second-on year _ _ _ _ _ f1 f2 f3 f4 f5 ∙ t5 _ p;
-        anew = λ k. g1 k ∙ g2 _ ∙ g3 _ ∙ g4 _ ∙ g5 _ ∙ figures-end _ ∙ ap Number (omega arith);
-      })
+  written m e = first (begins 0 year m (omega arith) e)
+    where
+      fifth : {r1 r2 r3 r4 n : ℕ} → Starts 0 r1 → Starts 2 r2 → Starts 4 r3 → Starts 6 r4 → n ≡ (((year * 100 + r1) * 100 + r2) * 100 + r3) * 100 + r4
+          → (r : ℕ) × Starts 8 r × (figures (n * 100 + r) (drop 10 c) ≡ Number m) → Written m
+      fifth p1 p2 p3 p4 is (r5, p5, e5) = all-written p1 p2 p3 p4 p5 m (rw is at e5)
+
+      fourth : {r1 r2 r3 n : ℕ} → Starts 0 r1 → Starts 2 r2 → Starts 4 r3 → n ≡ ((year * 100 + r1) * 100 + r2) * 100 + r3
+          → (r : ℕ) × Starts 6 r × (figures (n * 100 + r) (drop 8 c) ≡ Number m) → Written m
+      fourth p1 p2 p3 is (r4, p4, e4) = fifth p1 p2 p3 p4 (ap (λ (k : ℕ). k * 100 + r4) is) (begins 8 _ m (omega arith) e4)
+
+      third : {r1 r2 n : ℕ} → Starts 0 r1 → Starts 2 r2 → n ≡ (year * 100 + r1) * 100 + r2
+          → (r : ℕ) × Starts 4 r × (figures (n * 100 + r) (drop 6 c) ≡ Number m) → Written m
+      third p1 p2 is (r3, p3, e3) = fourth p1 p2 p3 (ap (λ (k : ℕ). k * 100 + r3) is) (begins 6 _ m (omega arith) e3)
+
+      second : {r1 n : ℕ} → Starts 0 r1 → n ≡ year * 100 + r1
+          → (r : ℕ) × Starts 2 r × (figures (n * 100 + r) (drop 4 c) ≡ Number m) → Written m
+      second p1 is (r2, p2, e2) = third p1 p2 (ap (λ (k : ℕ). k * 100 + r2) is) (begins 4 _ m (omega arith) e2)
+
+      first : (r : ℕ) × Starts 0 r × (figures (year * 100 + r) (drop 2 c) ≡ Number m) → Written m
+      first (r1, p1, e1) = second p1 refl (begins 2 _ m (omega arith) e1)
 
   -- what no real moment can be is no time
   pub none-real : ((m : ℕ) → Written m → RealAt m → ⊥) → Untimely ≡ realNumber (figures year c)

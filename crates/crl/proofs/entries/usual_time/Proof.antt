@@ -1,73 +1,68 @@
--- The three headers are short, and the time ends with the entry.
-use mathlib.Core.Path.{refl}
+-- The entry opens as it should, and the UTCTime after its serial ends with it.
 use native.Mathlib.Omega.{arith}
-use Rattle.der.specs.Heading.{identifierGood}
-use Rattle.crl.proofs.Looks.{short, usual}
+use Prim.Native.Nat.{_+_}
+use borrow.Author.Tests.{not-false}
+use Rattle.crl.proofs.Looks.{header-told, opened-usual}
 use borrow.Author.Needs.{needs}
 use Rattle.crl.proofs.entries.usual_time.Statement.{statement}
 use Rattle.crl.proofs.entries.usual_time.Tie as tie
 
-short-end-requires : tie.Need-short-end-requires
-short-end-requires c κs = search needs
+opens-requires : tie.Need-opens-requires
+opens-requires c κs = search needs
 
 returns : tie.Need-returns
 returns c = λ some. absurd (omega arith)
 
-add-short-end : tie.Need-add-short-end
-unfolding identifierGood
-add-short-end c = let entry = short 0x30 refl (c .before .short-end .ensures) (omega arith) in omega (arith, entry .low)
+add-time : tie.Need-add-time
+add-time c = let o = c .before .opens .ensures (not-false _ (c .if1 .left)) in omega (arith, o .fits, o .inside, o .size)
 
-short-end-requires-2 : tie.Need-short-end-requires-2
-short-end-requires-2 c κs = search needs
+add-time-2 : tie.Need-add-time-2
+add-time-2 c = let o = c .before .opens .ensures (not-false _ (c .if1 .left)) in omega (arith, o .fits, o .inside, o .size)
+
+shared-slice-read-time : tie.Need-shared-slice-read-time
+shared-slice-read-time c = let o = c .before .before .opens .ensures (not-false _ (c .before .if1 .left)) in omega (arith, o .fits, o .inside, o .size)
+
+cast-time : tie.Need-cast-time
+cast-time c = omega (arith, c .shared-slice-known2 .given (c .before .before .before .before .args .at + 3))
+
+add-time-3 : tie.Need-add-time-3
+add-time-3 c = let o = c .before .before .opens .ensures (not-false _ (c .before .if1 .left)) in omega (arith, o .fits, o .inside, o .size)
+
+shared-slice-read-four : tie.Need-shared-slice-read-four
+shared-slice-read-four c = let o = c .before .before .before .opens .ensures (not-false _ (c .before .before .if1 .left)) in omega (arith, o .fits, o .inside, o .size)
+
+add-four : tie.Need-add-four
+add-four c = let o = c .before .before .before .opens .ensures (not-false _ (c .before .before .if1 .left)) in omega (arith, o .fits, o .inside, o .size)
+
+shared-slice-read-four-2 : tie.Need-shared-slice-read-four-2
+shared-slice-read-four-2 c = let o = c .before .before .before .before .opens .ensures (not-false _ (c .before .before .before .if1 .left)) in omega (arith, o .fits, o .inside, o .size)
+
+four-requires : tie.Need-four-requires
+four-requires c κs = search needs
 
 returns-2 : tie.Need-returns-2
 returns-2 c = λ some. absurd (omega arith)
 
-sub-if3 : tie.Need-sub-if3
-unfolding identifierGood
-sub-if3 c = let first = short 0x02 refl (c .before .short-end2 .ensures) (omega arith) in first .high
-
 returns-3 : tie.Need-returns-3
-returns-3 c = λ some. absurd (omega arith)
-
-shared-slice-read-if4 : tie.Need-shared-slice-read-if4
-unfolding identifierGood
-shared-slice-read-if4 c = let entry = short 0x30 refl (c .before .before .before .before .before .short-end .ensures) (omega arith) in let first = short 0x02 refl (c .before .before .before .short-end2 .ensures) (omega arith) in omega (arith, entry .inside, entry .high, first .high, c .before .if3 .left)
-
-returns-4 : tie.Need-returns-4
-returns-4 c = λ some. absurd (omega arith)
-
-add-if5 : tie.Need-add-if5
-add-if5 c = search needs
-
-shared-slice-read-if5 : tie.Need-shared-slice-read-if5
-unfolding identifierGood
-shared-slice-read-if5 c = let entry = short 0x30 refl (c .before .before .before .before .before .before .before .short-end .ensures) (omega arith) in let first = short 0x02 refl (c .before .before .before .before .before .short-end2 .ensures) (omega arith) in omega (arith, entry .inside, entry .high, first .high, c .before .before .before .if3 .left)
-
-returns-5 : tie.Need-returns-5
-returns-5 c = λ some. absurd (omega arith)
-
-returns-6 : tie.Need-returns-6
-unfolding identifierGood
-returns-6 c = λ some.
-    let entry = short 0x30 refl (c .before .before .before .before .before .before .before .before .short-end .ensures) (omega arith) in
-    let first = short 0x02 refl (c .before .before .before .before .before .before .short-end2 .ensures) (omega arith) in
-    usual (c .before .before .if4 .left) (c .if5 .left) (omega (arith, first .high, c .before .before .before .before .if3 .left)) entry first
+returns-3 c = λ some.
+    let o = c .before .before .before .before .before .before .opens .ensures (not-false _ (c .before .before .before .before .before .if1 .left)) in
+    let told = header-told (c .before .before .before .shared-slice-known3 .given _ .fits) (c .before .four .ensures) (c .if2 .left) in
+    opened-usual o (told .0) (told .1)
 
 pub usual-time-spec : {M : Type 1} → statement M
 usual-time-spec =
     tie.close
     (tie.spec
-    short-end-requires
+    opens-requires
     returns
-    add-short-end
-    short-end-requires-2
+    add-time
+    add-time-2
+    shared-slice-read-time
+    cast-time
+    add-time-3
+    shared-slice-read-four
+    add-four
+    shared-slice-read-four-2
+    four-requires
     returns-2
-    sub-if3
-    returns-3
-    shared-slice-read-if4
-    returns-4
-    add-if5
-    shared-slice-read-if5
-    returns-5
-    returns-6)
+    returns-3)

@@ -1,0 +1,101 @@
+-- Each test that passes is a part of what is told.
+use Prim.Native.Nat.{_+_}
+use native.Mathlib.Omega.{arith}
+use Rattle.crl.proofs.Digits.{never}
+use Rattle.crl.proofs.Looks.{left-told}
+use borrow.Author.Needs.{needs}
+use Rattle.crl.proofs.entries.opens.Statement.{statement}
+use Rattle.crl.proofs.entries.opens.Tie as tie
+
+returns : tie.Need-returns
+returns c = λ no. never no
+
+returns-2 : tie.Need-returns-2
+returns-2 c = λ no. never no
+
+returns-3 : tie.Need-returns-3
+returns-3 c = λ no. never no
+
+shared-slice-read-if4 : tie.Need-shared-slice-read-if4
+shared-slice-read-if4 c = search needs
+
+returns-4 : tie.Need-returns-4
+returns-4 c = λ no. never no
+
+add-if5 : tie.Need-add-if5
+add-if5 c = search needs
+
+shared-slice-read-if5 : tie.Need-shared-slice-read-if5
+shared-slice-read-if5 c = search needs
+
+returns-5 : tie.Need-returns-5
+returns-5 c = λ no. never no
+
+add-size : tie.Need-add-size
+add-size c = search needs
+
+shared-slice-read-size : tie.Need-shared-slice-read-size
+shared-slice-read-size c = search needs
+
+cast-size : tie.Need-cast-size
+cast-size c = omega (arith, c .shared-slice-known3 .given (c .before .before .before .before .before .before .before .before .args .at + 1))
+
+returns-6 : tie.Need-returns-6
+returns-6 c = λ no. never no
+
+add-if7 : tie.Need-add-if7
+add-if7 c = search needs
+
+shared-slice-read-if7 : tie.Need-shared-slice-read-if7
+shared-slice-read-if7 c = search needs
+
+cast-if7 : tie.Need-cast-if7
+cast-if7 c = omega (arith, c .shared-slice-known4 .given (c .before .before .before .before .before .before .before .before .before .before .args .at + 3))
+
+add-if7-2 : tie.Need-add-if7-2
+add-if7-2 c = omega (arith, c .shared-slice-known4 .given (c .before .before .before .before .before .before .before .before .before .before .args .at + 3))
+
+returns-7 : tie.Need-returns-7
+returns-7 c = λ no. never no
+
+sub-result : tie.Need-sub-result
+sub-result c = search needs
+
+sub-result-2 : tie.Need-sub-result-2
+sub-result-2 c = search needs
+
+returns-8 : tie.Need-returns-8
+returns-8 c = λ some.
+    record {
+      inside = c .before .before .before .before .before .before .before .before .before .before .if1 .left;
+      tag = c .before .before .before .before .before .before .if4 .left;
+      first = c .before .before .before .before .if5 .left;
+      brief = c .before .before .if6 .left;
+      size = c .if7 .left;
+      fits = left-told _ _ _ (c .before .before .before .before .before .before .before .before .before .if2 .left) (c .before .before .before .before .before .before .before .before .if3 .left) some;
+    }
+
+pub opens-spec : {M : Type 1} → statement M
+opens-spec =
+    tie.close
+    (tie.spec
+    returns
+    returns-2
+    returns-3
+    shared-slice-read-if4
+    returns-4
+    add-if5
+    shared-slice-read-if5
+    returns-5
+    add-size
+    shared-slice-read-size
+    cast-size
+    returns-6
+    add-if7
+    shared-slice-read-if7
+    cast-if7
+    add-if7-2
+    returns-7
+    sub-result
+    sub-result-2
+    returns-8)
