@@ -33,5 +33,5 @@ tables-part s table moment near rows roles steps few told based known matched =
       link = λ u h. known u (rw here at h) .link;
       signer = λ u h. known u (rw here at h) .signer;
       step = λ u v hu hv.
-          step-means s table moment near rows told based roles steps known matched u v (rw here at hu) (rw here at hv);
+          step-means s table moment near rows told based roles known steps matched u v (rw here at hu) (rw here at hv);
     }

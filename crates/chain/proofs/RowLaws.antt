@@ -1,10 +1,12 @@
 -- One law for each answer of the definitions over rows: what they come to under the tests that lead there.
-use Prim.Native.Nat.{ℕ, _+_, _*_}
+use Prim.Native.Nat.{ℕ, _+_, _*_, _<_}
 use mathlib.Core.Path.{_≡_, refl, sym, ap, _∙_}
 use mathlib.Core.Bool.{Bool, true, false, cond, _||_}
 use mathlib.Core.List.{List}
 use native.Mathlib.Numerals.{add-one}
+use native.Mathlib.Omega.{arith}
 use borrow.Author.Tests.{eq-eqb, ne-eqb}
+use borrow.Author.Count.{below-more}
 use lib.Dec.{eqb}
 use lib.ListN.{getD, take, drop, replicate}
 use Rattle.crl.specs.Listed.{listedOf}
@@ -24,6 +26,20 @@ row-read rows p = refl
 
 pub blank-slots : {r : Row} → r ≡ blank → (n p : ℕ) → getD (replicate n r) p blank ≡ blank
 blank-slots e n p = rw e (empty-slots n p)
+
+pub flag-true : {value : ℕ} (b : Bool) → value ≡ flag b → value ≡ 1 → b ≡ true
+unfolding flag
+flag-true true e f = refl
+flag-true false e f = absurd (omega arith)
+
+pub flag-false : {value : ℕ} (b : Bool) → value ≡ flag b → (value ≡ 1 → ⊥) → b ≡ false
+unfolding flag
+flag-false true e f = absurd (f e)
+flag-false false e f = refl
+
+pub leads-anchor : {role : ℕ} → role ≡ 1 → leadsOf role ≡ true
+unfolding leadsOf
+leads-anchor e = rw e
 
 module _ (a l : Row) where
   pub vouches-unfit : eqb (a .standing) 1 ≡ false → vouchesOf a l ≡ false
@@ -258,3 +274,11 @@ module _ (s : List ℕ) (n : ℕ) (table : List ℕ) (rows : List Row) (roles : 
   step-unled h lead =
       let not-leading : leadsOf (getD roles u 0) ≡ false = ap leadsOf (sym h) ∙ lead in
       rw not-leading
+
+-- one anchor more that has no good step to the target
+pub none-more :
+    (s : List ℕ) (n : ℕ) (table : List ℕ) (rows : List Row) (roles : List ℕ) (target u : ℕ)
+    → ((w : ℕ) → w < u → getD roles w 0 ≡ 1 → stepOf s n table rows roles w target ≡ false)
+    → (getD roles u 0 ≡ 1 → stepOf s n table rows roles u target ≡ false)
+    → (w : ℕ) → w < u + 1 → getD roles w 0 ≡ 1 → stepOf s n table rows roles w target ≡ false
+none-more s n table rows roles target u = below-more (λ (w : ℕ). getD roles w 0 ≡ 1 → stepOf s n table rows roles w target ≡ false) u

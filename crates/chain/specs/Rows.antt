@@ -3,9 +3,9 @@
 use Prim.Native.Nat.{ℕ, zero, suc, _+_, _*_, _<_}
 use mathlib.Core.Path.{_≡_}
 use mathlib.Core.Bool.{Bool, true, false, cond}
-use mathlib.Core.List.{List}
-use lib.Dec.{eqb}
-use lib.ListN.{getD, take, drop}
+use mathlib.Core.List.{List, [], _∷_, _++_}
+use lib.Dec.{eqb, leb}
+use lib.ListN.{getD, take, drop, replicate}
 use Rattle.certificate.specs.declared.Judged.{Judged}
 use Rattle.certificate.specs.declared.Judged.the-variants.{Passed, Refused}
 use Rattle.certificate.specs.Answer.{judgedOf}
@@ -216,3 +216,17 @@ pub record Searched (s : List ℕ) (n : ℕ) (table : List ℕ) (rows : List Row
   pub steps : List ℕ
   pub matched : Matched s n table rows roles steps
   pub answer : Answered (graphOf n roles steps) target r
+
+-- the chain of the first anchor that has a good step to the target
+pub record Direct (s : List ℕ) (n : ℕ) (table : List ℕ) (rows : List Row) (roles : List ℕ) (target : ℕ) (r : Found) : Type 0 where
+  pub from : ℕ
+  pub inside : from < n
+  pub anchor : getD roles from 0 ≡ 1
+  pub good : stepOf s n table rows roles from target ≡ true
+  pub first : (u : ℕ) → u < from → getD roles u 0 ≡ 1 → stepOf s n table rows roles u target ≡ false
+  pub count : r .length ≡ 2
+  pub slots : r .places ≡ (from ∷ target ∷ []) ++ replicate 94 255
+
+-- whether a chain of so many places settles a round
+unfoldable pub enoughOf : ℕ → ℕ → Bool
+enoughOf round length = cond (eqb round 4) true (cond (eqb length 0) false (leb length (round + 2)))

@@ -38,7 +38,7 @@ pub(crate) fn matching_steps(
 }
 
 // 1 where the second place can be led to and the two fit.
-fn matched(image: &[u8], u: Row, v: Row, role: u8) -> u8
+pub(crate) fn matched(image: &[u8], u: Row, v: Row, role: u8) -> u8
     ensures { λ r. ⌜ r ≡ flag (matchedOf (now (image .entry)) u v role) ⌝ }
 {
     if !led(role) {

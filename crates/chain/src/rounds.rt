@@ -1,4 +1,6 @@
 // The search over the places near the target, round by round.
+use crate::anchors::begins;
+use crate::anchors::direct_chain;
 use crate::certificates::blank_row;
 use crate::counting::counting_lists;
 use crate::matching::matching_steps;
@@ -12,15 +14,17 @@ use crate::roles::roles_of;
 use graph::Found;
 use graph::chain_to;
 ghost use mathlib.Core.Path.{_≡_};
+ghost use mathlib.Core.Bool.{true};
 ghost use Prim.Native.Nat.{_≤_, _<_};
+ghost use lib.ListN.{replicate};
 ghost use Rattle.chain.specs.Answer.{goodChains};
-ghost use Rattle.chain.specs.Rows.{Searched};
+ghost use Rattle.chain.specs.Rows.{Searched, enoughOf};
 ghost use Rattle.graph.specs.Answer as search;
 ghost use Rattle.image.specs.Index.{entryCount};
 
 // Round 0 opens anchors, CRLs and the target, and each round goes a link further back from the target. So a round knows all
 // good chains of at most two places more than its number, and the last round all: a chain found that is as short is the best.
-// Where no round could open more, all good chains are known too.
+// In round 0 these are the steps from an anchor to the target. Where no round could open more, all good chains are known too.
 pub(crate) fn chain_among(
     image: &[u8],
     table: &[u8],
@@ -38,34 +42,75 @@ pub(crate) fn chain_among(
     let counting = counting_lists(table, places, rows);
     let mut roles = roles_of(image, places, nothing, rows, counting, nothing);
     if roles[target] != 3 {
-        return Found {
-            length: 0,
-            places: [255; 96],
-        };
+        return nowhere();
+    }
+    let direct = direct_chain(image, table, places, rows, roles, target);
+    let two = direct.length;
+    if two != 0 {
+        return direct;
     }
     let mut round = 0;
     loop {
-        let found = searched(image, table, places, rows, roles, target);
-        let length = found.length;
-        if round == LAST {
-            return found;
-        }
-        if length != 0 {
-            if length <= round + 2 {
-                return found;
-            }
-        }
         round += 1;
         let wider = near_next(table, places, round, near, roles);
         if unchanged(places, near, wider) {
-            return found;
+            return searched(image, table, places, rows, roles, target);
         }
         let opened = open_items(image, places, moment, near, wider, rows);
         let known = roles_of(image, places, near, opened, counting, roles);
+        if worthwhile(image, table, places, round, opened, known) {
+            let found = searched(image, table, places, opened, known, target);
+            let length = found.length;
+            if enough(length, round) {
+                return found;
+            }
+        }
         near = wider;
         rows = opened;
         roles = known;
     }
+}
+
+// No chain.
+fn nowhere() -> Found
+    ensures { λ r. ⌜ (r .length ≡ 0) × (r .places ≡ replicate 96 255) ⌝ }
+{
+    Found {
+        length: 0,
+        places: [255; 96],
+    }
+}
+
+// Whether to search in a round: in the last one, and where an anchor leads to a link that is near.
+fn worthwhile(
+    image: &[u8],
+    table: &[u8],
+    places: usize,
+    round: usize,
+    rows: [Row; 96],
+    roles: [u8; 96],
+) -> bool
+    requires { ⌜ places ≤ 96 ⌝ }
+    ensures { λ r. ⌜ (round ≡ 4 → r ≡ true) ⌝ }
+{
+    if round == LAST {
+        return true;
+    }
+    begins(image, table, places, rows, roles)
+}
+
+// Whether a chain of so many places settles a round: any in the last one, else one that is short enough.
+fn enough(length: usize, round: usize) -> bool
+    requires { ⌜ round ≤ 4 ⌝ }
+    ensures { λ r. ⌜ r ≡ enoughOf round length ⌝ }
+{
+    if round == LAST {
+        return true;
+    }
+    if length == 0 {
+        return false;
+    }
+    length <= round + 2
 }
 
 // The search over the tables of a round.
