@@ -29,7 +29,7 @@ longer : {g : Graph} {target u : ℕ} {c : List ℕ} → Onward g target u c →
 longer (ends m signer step) = omega arith
 longer (goes m link step rest) = omega arith
 
-module _ (s table : List ℕ) (moment target n : ℕ) (equal : n ≡ entryCount s) {round : ℕ} {near : List ℕ} {rows : List Row} {counting roles : List ℕ} (r : Round s table moment target round near rows counting roles) (here : target < n) (three : getD roles target 0 ≡ 3) where
+module _ (s table : List ℕ) (moment target n : ℕ) (equal : n ≡ entryCount s) {round : ℕ} {near : List ℕ} {rows : List (List ℕ)} {counting roles : List ℕ} (r : Round s table moment target round near rows counting roles) (here : target < n) (three : getD roles target 0 ≡ 3) where
   -- what the tables tell of a step from an anchor
   from-anchor :
       (u : ℕ) → u < n → eqb (getD roles u 0) 1 ≡ true

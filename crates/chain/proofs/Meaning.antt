@@ -20,7 +20,7 @@ use Rattle.chain.proofs.StepsMean.{step-means}
 
 -- the graph of the tables is the part of that of the items that is near
 pub tables-part :
-    (s table : List ℕ) (moment : ℕ) (near : List ℕ) (rows : List Row) (roles steps : List ℕ) → entryCount s ≤ 96
+    (s table : List ℕ) (moment : ℕ) (near : List ℕ) (rows : List (List ℕ)) (roles steps : List ℕ) → entryCount s ≤ 96
     → Told moment s (entryCount s) near rows → Based s (entryCount s) near → Known s table moment near roles
     → Matched s (entryCount s) table rows roles steps
     → Part (isNear near) (graphOf (entryCount s) roles steps) (goodChains s table moment)

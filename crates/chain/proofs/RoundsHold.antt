@@ -45,7 +45,7 @@ unsettled round length e four = false-true (sym e ∙ rw four)
 pub unasked : {round : ℕ} {asked : Bool} → (round ≡ 4 → asked ≡ true) → asked ≡ false → round ≡ 4 → ⊥
 unasked last e four = false-true (sym e ∙ last four)
 
-module _ (s table : List ℕ) (moment target round : ℕ) (near : List ℕ) (rows : List Row) (counting roles : List ℕ) where
+module _ (s table : List ℕ) (moment target round : ℕ) (near : List ℕ) (rows : List (List ℕ)) (counting roles : List ℕ) where
   -- the tables tell what is near, and so is each way on to the target of at most a place more than rounds were done, in the
   -- last round each way
   pub record Round : Type 0 where
@@ -59,7 +59,7 @@ module _ (s table : List ℕ) (moment target round : ℕ) (near : List ℕ) (row
         {u : ℕ} {c : List ℕ} → Onward (goodChains s table moment) target u c → (length c ≤ round + 1) ⊎ (round ≡ 4)
         → AllNear (isNear near) c
 
-module _ (s table : List ℕ) (moment target n : ℕ) (same : n ≡ entryCount s) {round : ℕ} {near : List ℕ} {rows : List Row} {counting roles : List ℕ} (r : Round s table moment target round near rows counting roles) where
+module _ (s table : List ℕ) (moment target n : ℕ) (same : n ≡ entryCount s) {round : ℕ} {near : List ℕ} {rows : List (List ℕ)} {counting roles : List ℕ} (r : Round s table moment target round near rows counting roles) where
   -- what the tables answer, where each way on to the target is near or no shorter than what is found
   pub answer-by :
       {f : Found} → n ≤ 96 → Searched s n table rows roles target f

@@ -37,7 +37,7 @@ either-cond false b (inr e) = e
 
 -- names and keys of two certificates are those of their rows
 fits-rows :
-    (s : List ℕ) (rows : List Row) (u v : ℕ) → u < entryCount s → v < entryCount s → Certificate s rows u → Certificate s rows v
+    (s : List ℕ) (rows : List (List ℕ)) (u v : ℕ) → u < entryCount s → v < entryCount s → Certificate s rows u → Certificate s rows v
     → fitsOf s (rowAt rows u) (rowAt rows v) ≡ fits (itemsIn s) u v
 unfolding fitsOf fits pieceOf bytesAt
 fits-rows s rows u v hu hv (f, jf, rf) (g, jg, rg) =
@@ -55,7 +55,7 @@ fits-rows s rows u v hu hv (f, jf, rf) (g, jg, rg) =
     (swapped (alike (part v (g .«issuer_at») (g .«issuer_len»)) (part u (f .«subject_at») (f .«subject_len»)))
     (alike (part v (g .«authority_key_at») (g .«authority_key_len»)) (part u (f .«subject_key_at») (f .«subject_key_len»))))
 
-module _ (s table : List ℕ) (moment : ℕ) (near : List ℕ) (rows : List Row) (told : Told moment s (entryCount s) near rows) (based : Based s (entryCount s) near) (roles : List ℕ) (known : Known s table moment near roles) where
+module _ (s table : List ℕ) (moment : ℕ) (near : List ℕ) (rows : List (List ℕ)) (told : Told moment s (entryCount s) near rows) (based : Based s (entryCount s) near) (roles : List ℕ) (known : Known s table moment near roles) where
   -- a place with a role has a certificate's row
   anchor-row : (p : ℕ) → p < entryCount s → eqb (getD roles p 0) 1 ≡ true → Certificate s rows p
   anchor-row p h e =

@@ -1,7 +1,7 @@
 // The steps from an anchor, looked at before a search.
 use crate::counting::octet;
 use crate::matching::matched;
-use crate::opened::Row;
+use crate::opened::row_at;
 use graph::Found;
 ghost use mathlib.Core.Path.{_≡_};
 ghost use mathlib.Core.Bool.{true};
@@ -15,18 +15,18 @@ pub(crate) fn direct_chain(
     image: &[u8],
     table: &[u8],
     places: usize,
-    rows: [Row; 96],
+    rows: &[[usize; 17]; 96],
     roles: [u8; 96],
     target: usize,
 ) -> Found
     requires { ⌜ (places ≤ 96) × (target < places) ⌝ }
-    ensures { λ r. ⌜ ((r .length ≡ 0 → ⊥) → Direct (now (image .entry)) places (now (table .entry)) rows roles target r) ⌝ }
+    ensures { λ r. ⌜ ((r .length ≡ 0 → ⊥) → Direct (now (image .entry)) places (now (table .entry)) (now (rows .entry)) roles target r) ⌝ }
 {
     let mut u = 0;
     while u < places {
         if roles[u] == 1 {
             if octet(table, u * places + target) == 1 {
-                if matched(image, rows[u], rows[target], roles[target]) == 1 {
+                if matched(image, row_at(rows, u), row_at(rows, target), roles[target]) == 1 {
                     return pair(u, target);
                 }
             }
@@ -58,11 +58,11 @@ pub(crate) fn begins(
     image: &[u8],
     table: &[u8],
     places: usize,
-    rows: [Row; 96],
+    rows: &[[usize; 17]; 96],
     roles: [u8; 96],
 ) -> bool
     requires { ⌜ places ≤ 96 ⌝ }
-    ensures { λ r. ⌜ (r ≡ true → (u : ℕ) × (v : ℕ) × (stepOf (now (image .entry)) places (now (table .entry)) rows roles u v ≡ true)) ⌝ }
+    ensures { λ r. ⌜ (r ≡ true → (u : ℕ) × (v : ℕ) × (stepOf (now (image .entry)) places (now (table .entry)) (now (rows .entry)) roles u v ≡ true)) ⌝ }
 {
     let mut u = 0;
     while u < places {
@@ -71,7 +71,7 @@ pub(crate) fn begins(
             while v < places {
                 if roles[v] == 2 {
                     if octet(table, u * places + v) == 1 {
-                        if matched(image, rows[u], rows[v], 2) == 1 {
+                        if matched(image, row_at(rows, u), row_at(rows, v), 2) == 1 {
                             return true;
                         }
                     }

@@ -1,14 +1,12 @@
 // The search over the places near the target, round by round.
 use crate::anchors::begins;
 use crate::anchors::direct_chain;
-use crate::certificates::blank_row;
 use crate::counting::counting_lists;
 use crate::matching::matching_steps;
 use crate::near::LAST;
 use crate::near::near_first;
 use crate::near::near_next;
 use crate::near::unchanged;
-use crate::opened::Row;
 use crate::opening::open_items;
 use crate::roles::roles_of;
 use graph::Found;
@@ -35,16 +33,16 @@ pub(crate) fn chain_among(
     requires { ⌜ (places ≡ entryCount (now image)) × (places ≤ 96) × (target < places) ⌝ }
     ensures { λ r. ⌜ search.Answered (goodChains (now (image .entry)) (now (table .entry)) moment) target r ⌝ }
 {
-    let none = blank_row();
     let nothing = [0u8; 96];
+    let mut rows = [[0usize; 17]; 96];
     let mut near = near_first(image, places, target);
-    let mut rows = open_items(image, places, moment, nothing, near, [none; 96]);
-    let counting = counting_lists(table, places, rows);
-    let mut roles = roles_of(image, places, nothing, rows, counting, nothing);
+    open_items(image, places, moment, nothing, near, &mut rows);
+    let counting = counting_lists(table, places, &rows);
+    let mut roles = roles_of(image, places, nothing, &rows, counting, nothing);
     if roles[target] != 3 {
         return nowhere();
     }
-    let direct = direct_chain(image, table, places, rows, roles, target);
+    let direct = direct_chain(image, table, places, &rows, roles, target);
     let two = direct.length;
     if two != 0 {
         return direct;
@@ -54,19 +52,18 @@ pub(crate) fn chain_among(
         round += 1;
         let wider = near_next(table, places, round, near, roles);
         if unchanged(places, near, wider) {
-            return searched(image, table, places, rows, roles, target);
+            return searched(image, table, places, &rows, roles, target);
         }
-        let opened = open_items(image, places, moment, near, wider, rows);
-        let known = roles_of(image, places, near, opened, counting, roles);
-        if worthwhile(image, table, places, round, opened, known) {
-            let found = searched(image, table, places, opened, known, target);
+        open_items(image, places, moment, near, wider, &mut rows);
+        let known = roles_of(image, places, near, &rows, counting, roles);
+        if worthwhile(image, table, places, round, &rows, known) {
+            let found = searched(image, table, places, &rows, known, target);
             let length = found.length;
             if enough(length, round) {
                 return found;
             }
         }
         near = wider;
-        rows = opened;
         roles = known;
     }
 }
@@ -87,7 +84,7 @@ fn worthwhile(
     table: &[u8],
     places: usize,
     round: usize,
-    rows: [Row; 96],
+    rows: &[[usize; 17]; 96],
     roles: [u8; 96],
 ) -> bool
     requires { ⌜ places ≤ 96 ⌝ }
@@ -118,12 +115,12 @@ fn searched(
     image: &[u8],
     table: &[u8],
     places: usize,
-    rows: [Row; 96],
+    rows: &[[usize; 17]; 96],
     roles: [u8; 96],
     target: usize,
 ) -> Found
     requires { ⌜ places ≤ 96 ⌝ }
-    ensures { λ r. ⌜ Searched (now (image .entry)) places (now (table .entry)) rows roles target r ⌝ }
+    ensures { λ r. ⌜ Searched (now (image .entry)) places (now (table .entry)) (now (rows .entry)) roles target r ⌝ }
 {
     let steps = matching_steps(image, table, places, rows, roles);
     chain_to(places, &roles, &steps, target)

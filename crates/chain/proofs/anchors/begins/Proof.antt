@@ -1,16 +1,12 @@
 -- The step that is found is good.
 use Prim.Native.Nat.{ℕ, _-_, _*_, _≤_}
-use mathlib.Core.Path.{_≡_, refl, sym, _∙_}
+use mathlib.Core.Path.{_≡_, refl, sym}
 use native.Mathlib.Nat.{mul-le-mul}
 use native.Mathlib.Omega.{arith}
 use borrow.Author.Needs.{needs}
-use Rattle.chain.proofs.RowLaws.{row-read, flag-true, leads-anchor, step-asked}
+use Rattle.chain.proofs.RowLaws.{flag-true, leads-anchor, step-asked}
 use Rattle.chain.proofs.anchors.begins.Statement.{statement}
 use Rattle.chain.proofs.anchors.begins.Tie as tie
-use Rattle.chain.proofs.anchors.begins.Reads as reads
-use Rattle.chain.proofs.anchors.begins.Lts as lts
-use Rattle.chain.proofs.counting.octet.Reads as octet-reads
-use Rattle.chain.proofs.matching.matched.Reads as matched-reads
 
 abbrev Inv-loop2 : tie.InvT-loop2
 Inv-loop2 image table places rows roles u v₀ v = v ≤ places
@@ -24,83 +20,57 @@ Inv-loop image table places rows roles u₀ u = u ≤ places
 abbrev μ-loop : tie.MeasureT-loop
 μ-loop image table places rows roles u₀ u = places - u
 
--- src/anchors.rt:68:5
 loop-holds : tie.Need-loop-holds Inv-loop2 μ-loop2 Inv-loop μ-loop
 loop-holds c = omega arith
 
--- src/anchors.rt:69:12
 array-read-if1 : tie.Need-array-read-if1 Inv-loop2 μ-loop2 Inv-loop μ-loop
 array-read-if1 c = omega (arith, c .before .before .before .before .pre, c .loop-test .taken)
 
--- src/anchors.rt:71:13
 loop2-holds : tie.Need-loop2-holds Inv-loop2 μ-loop2 Inv-loop μ-loop
 loop2-holds c = omega arith
 
--- src/anchors.rt:72:20
 array-read-if2 : tie.Need-array-read-if2 Inv-loop2 μ-loop2 Inv-loop μ-loop
 array-read-if2 c = omega (arith, c .before .before .before .before .before .before .before .pre, c .before .before .before .loop-test .taken, c .loop2-test .taken)
 
--- src/anchors.rt:73:37
 mul-octet : tie.Need-mul-octet Inv-loop2 μ-loop2 Inv-loop μ-loop
 mul-octet c = let m : c .before .before .before .before .before .loop .u * c .before .before .before .before .before .before .before .before .args .places ≤ 96 * 96 = mul-le-mul {n₂ = 96} {m₂ = 96} (omega (arith, c .before .before .before .before .before .before .before .before .pre, c .before .before .before .before .loop-test .taken, c .before .loop2-test .taken)) (omega (arith, c .before .before .before .before .before .before .before .before .pre)) in omega (arith, m, c .before .before .before .before .before .before .before .before .pre, c .before .before .before .before .loop-test .taken, c .before .loop2-test .taken)
 
--- src/anchors.rt:73:37
 add-octet : tie.Need-add-octet Inv-loop2 μ-loop2 Inv-loop μ-loop
 add-octet c = let m : c .before .before .before .before .before .loop .u * c .before .before .before .before .before .before .before .before .args .places ≤ 96 * 96 = mul-le-mul {n₂ = 96} {m₂ = 96} (omega (arith, c .before .before .before .before .before .before .before .before .pre, c .before .before .before .before .loop-test .taken, c .before .loop2-test .taken)) (omega (arith, c .before .before .before .before .before .before .before .before .pre)) in omega (arith, m, c .before .before .before .before .before .before .before .before .pre, c .before .before .before .before .loop-test .taken, c .before .loop2-test .taken)
 
--- src/anchors.rt:73:24
 octet-requires : tie.Need-octet-requires Inv-loop2 μ-loop2 Inv-loop μ-loop
 octet-requires c κs = search needs
 
--- src/anchors.rt:74:43
-mul-matched : tie.Need-mul-matched Inv-loop2 μ-loop2 Inv-loop μ-loop
-mul-matched c = omega (arith, c .before .before .before .before .before .before .before .before .before .before .pre, c .before .before .before .before .before .before .loop-test .taken, c .before .before .before .loop2-test .taken)
+row-at-requires : tie.Need-row-at-requires Inv-loop2 μ-loop2 Inv-loop μ-loop
+row-at-requires c κs = omega (arith, c .before .before .before .before .before .before .before .before .before .before .pre, c .before .before .before .before .before .before .loop-test .taken, c .before .before .before .loop2-test .taken)
 
--- src/anchors.rt:74:43
-array-copy-out-matched : tie.Need-array-copy-out-matched Inv-loop2 μ-loop2 Inv-loop μ-loop
-array-copy-out-matched c = omega (arith, c .before .before .before .before .before .before .before .before .before .before .pre, c .before .before .before .before .before .before .loop-test .taken, c .before .before .before .loop2-test .taken)
+row-at-requires-2 : tie.Need-row-at-requires-2 Inv-loop2 μ-loop2 Inv-loop μ-loop
+row-at-requires-2 c κs = omega (arith, c .before .before .before .before .before .before .before .before .before .before .before .pre, c .before .before .before .before .before .before .before .loop-test .taken, c .before .before .before .before .loop2-test .taken)
 
--- src/anchors.rt:74:52
-mul-matched-2 : tie.Need-mul-matched-2 Inv-loop2 μ-loop2 Inv-loop μ-loop
-mul-matched-2 c = omega (arith, c .before .before .before .before .before .before .before .before .before .before .before .pre, c .before .before .before .before .before .before .before .loop-test .taken, c .before .before .before .before .loop2-test .taken)
-
--- src/anchors.rt:74:52
-array-copy-out-matched-2 : tie.Need-array-copy-out-matched-2 Inv-loop2 μ-loop2 Inv-loop μ-loop
-array-copy-out-matched-2 c = omega (arith, c .before .before .before .before .before .before .before .before .before .before .before .pre, c .before .before .before .before .before .before .before .loop-test .taken, c .before .before .before .before .loop2-test .taken)
-
--- src/anchors.rt:74:28
 matched-requires : tie.Need-matched-requires Inv-loop2 μ-loop2 Inv-loop μ-loop
 matched-requires c κs = search needs
 
--- src/anchors.rt:75:29
 returns : tie.Need-returns Inv-loop2 μ-loop2 Inv-loop μ-loop
-returns c = λ e. (c .before .before .before .before .before .before .before .before .before .before .before .loop .u, c .before .before .before .before .before .before .before .before .loop2 .v, flag-true _ (step-asked _ _ _ _ _ _ _ (row-read _ _) (row-read _ _) (sym (c .before .before .before .before .before .before .if2 .taken)) refl (leads-anchor (c .before .before .before .before .before .before .before .before .before .if1 .taken)) (c .before .before .before .before .before .octet .ensures) (c .before .before .before .before .if3 .taken) (c .before .matched .ensures)) (c .if4 .taken))
+returns c = λ e. (c .before .before .before .before .before .before .before .before .before .before .before .loop .u, c .before .before .before .before .before .before .before .before .loop2 .v, flag-true _ (step-asked _ _ _ _ _ _ _ (c .before .before .before .row-at .ensures) (c .before .before .row-at2 .ensures) (sym (c .before .before .before .before .before .before .if2 .taken)) refl (leads-anchor (c .before .before .before .before .before .before .before .before .before .if1 .taken)) (c .before .before .before .before .before .octet .ensures) (c .before .before .before .before .if3 .taken) (c .before .matched .ensures)) (c .if4 .taken))
 
--- src/anchors.rt:79:17
 add-v : tie.Need-add-v Inv-loop2 μ-loop2 Inv-loop μ-loop
 add-v c = omega (arith, c .before .before .before .before .before .before .before .before .pre, c .before .before .before .before .loop-test .taken, c .before .loop2-test .taken)
 
--- src/anchors.rt:71:13
 loop2-less : tie.Need-loop2-less Inv-loop2 μ-loop2 Inv-loop μ-loop
 loop2-less c = omega (arith, c .before .loop2-test .taken)
 
--- src/anchors.rt:71:13
 loop2-again : tie.Need-loop2-again Inv-loop2 μ-loop2 Inv-loop μ-loop
 loop2-again c = omega (arith, c .before .loop2-test .taken)
 
--- src/anchors.rt:82:9
 add-u : tie.Need-add-u Inv-loop2 μ-loop2 Inv-loop μ-loop
 add-u c = omega (arith, c .before .before .before .before .before .pre, c .before .loop-test .taken)
 
--- src/anchors.rt:68:5
 loop-less : tie.Need-loop-less Inv-loop2 μ-loop2 Inv-loop μ-loop
 loop-less c = omega (arith, c .before .loop-test .taken)
 
--- src/anchors.rt:68:5
 loop-again : tie.Need-loop-again Inv-loop2 μ-loop2 Inv-loop μ-loop
 loop-again c = omega (arith, c .before .loop-test .taken)
 
--- src/anchors.rt:57:1
 returns-2 : tie.Need-returns-2 Inv-loop2 μ-loop2 Inv-loop μ-loop
 returns-2 c = λ e. absurd (let z : _≡_ {A = ℕ} 0 1 = cc in omega arith)
 
@@ -119,10 +89,8 @@ begins-spec =
     mul-octet
     add-octet
     octet-requires
-    mul-matched
-    array-copy-out-matched
-    mul-matched-2
-    array-copy-out-matched-2
+    row-at-requires
+    row-at-requires-2
     matched-requires
     returns
     add-v
