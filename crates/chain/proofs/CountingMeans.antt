@@ -44,16 +44,16 @@ Counts s table moment counting =
     (c : ℕ) → c < entryCount s → eqb (getD counting c 0) 1 ≡ counts (itemsIn s) (verdictIn (entryCount s) table) moment c
 
 -- what the row of a place tells of the certificate, or of the CRL, that stands there
-abbrev pub Certificate : List ℕ → List Row → ℕ → Type 0
+abbrev pub Certificate : List ℕ → List (List ℕ) → ℕ → Type 0
 Certificate s rows p =
     (f : certificates.Fields) × (judgedOf (bytesAt s (entryIn s p)) (entryIn s p .kind) ≡ Passed f)
     × (rowAt rows p ≡ certificateTold (entryIn s p) f)
 
-abbrev pub Crl : List ℕ → List Row → ℕ → Type 0
+abbrev pub Crl : List ℕ → List (List ℕ) → ℕ → Type 0
 Crl s rows p =
     (f : crls.Fields) × (lists.judgedOf (bytesAt s (entryIn s p)) ≡ list-judged.Passed f) × (rowAt rows p ≡ listTold (entryIn s p) f)
 
-module _ (s table : List ℕ) (moment : ℕ) (near : List ℕ) (rows : List Row) (told : Told moment s (entryCount s) near rows) (based : Based s (entryCount s) near) where
+module _ (s table : List ℕ) (moment : ℕ) (near : List ℕ) (rows : List (List ℕ)) (told : Told moment s (entryCount s) near rows) (based : Based s (entryCount s) near) where
   pub row-reading : (p : ℕ) → p < entryCount s → Reading moment s (entryIn s p) (isNear near p) (rowAt rows p)
   row-reading p h = row-read-near moment s (entryCount s) near rows told based p h
 

@@ -12,7 +12,7 @@ use Rattle.graph.specs.Chains.{Onward, ends, goes}
 use Rattle.image.specs.Index.{entryIn, entryCount}
 use Rattle.chain.specs.declared.opened.Row.{Row}
 use Rattle.chain.specs.Near.{isNear, firstOf}
-use Rattle.chain.specs.Rows.{Opens, Counted, Roles}
+use Rattle.chain.specs.Rows.{blank, rowAt, Opens, Counted, Roles}
 use Rattle.chain.specs.Answer.{goodChains}
 use Rattle.chain.proofs.Booleans.{false-true}
 use Rattle.chain.proofs.Slots.{empty-slots}
@@ -60,13 +60,13 @@ module _ (s table : List ℕ) (moment target n : ℕ) (same : n ≡ entryCount s
   first-reach h (goes l link step (goes m other next rest)) few = absurd (⊎-elim (λ k. omega arith) (λ k. omega arith) few)
 
   pub first-round :
-      (blanks : List Row) {rows : List Row} {counting roles : List ℕ} → target < n
+      (blanks : List (List ℕ)) → ((p : ℕ) → rowAt blanks p ≡ blank) → {rows : List (List ℕ)} {counting roles : List ℕ} → target < n
       → Opens moment s n (replicate 96 0) near blanks rows → Counted n table rows counting
       → Roles s n (replicate 96 0) rows counting (replicate 96 0) roles
       → Round s table moment target 0 near rows counting roles
-  first-round blanks {rows} {counting} {roles} h opens counted is =
+  first-round blanks empty {rows} {counting} {roles} h opens counted is =
       let told : Told moment s (entryCount s) near rows =
-      rw same at (told-next moment s n (replicate 96 0) near blanks rows (λ p k e. absurd (no-slots p e)) opens) in
+      rw same at (told-next moment s n (replicate 96 0) near blanks rows (λ p k e. absurd (no-slots p e)) (λ p k e. empty p) opens) in
       let based : Based s (entryCount s) near = rw same at first-based in
       let counts : Counts s table moment counting =
       counting-means s table moment near rows told based counting (rw same at counted) in

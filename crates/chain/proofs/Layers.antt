@@ -24,10 +24,7 @@ marked-or-kept before verdict mark = go (eqb before 2) (eqb verdict 1)
     go true false = inr refl
     go false b = inr refl
 
--- 1 stays, and a link with verdict 1 is marked
-one-kept : (before verdict : ℕ) {mark : ℕ} → mark ≡ 1 → markedOf before verdict mark ≡ 1
-one-kept before verdict {mark} e = ⊎-elim (λ k. k) (λ k. k ∙ e) (marked-or-kept before verdict mark)
-
+-- a link with verdict 1 is marked
 link-marked : {before verdict : ℕ} (mark : ℕ) → before ≡ 2 → verdict ≡ 1 → markedOf before verdict mark ≡ 1
 unfolding markedOf
 link-marked mark e f = rw (e, f)
@@ -48,46 +45,45 @@ layer-start n table roles before =
     record { kept = λ p. inr refl; done = λ w x k h. absurd (omega arith); part = λ w h. absurd (omega arith) }
 
 module _ {n : ℕ} {table roles before more : List ℕ} {v u : ℕ} where
-  -- one signer more
-  pub layer-marked :
-      {value octet : ℕ} → Layer n table roles before more v u → u < length more → octet ≡ getD table (u * n + v) 0
-      → value ≡ markedOf (getD before u 0) octet (getD more u 0) → Layer n table roles before (set more u value) v (u + 1)
-  unfolding verdictIn
-  layer-marked {value} {octet} l room o e =
+  -- one signer more is marked
+  pub layer-marked : Layer n table roles before more v u → u < length more → Layer n table roles before (set more u 1) v (u + 1)
+  layer-marked l room =
       record {
-        kept = λ p. ⊎-elim (λ (q : p ≡ u). here p q) (λ q. rw (q .1) (l .kept p)) (slot p);
+        kept = λ p. ⊎-elim (λ (q : p ≡ u). inl (rw q here)) (λ q. rw (q .1) (l .kept p)) (slot p);
         done = λ w x k h a b t. one w (l .done w x k h a b t);
         part = λ w h a b t.
-            ⊎-elim (λ (q : w ≡ u). asked w q b t) (λ (q : w < u). one w (l .part w q a b t)) (eq-or-lt-of-le (least w h));
+            ⊎-elim (λ (q : w ≡ u). rw q here) (λ (q : w < u). one w (l .part w q a b t)) (eq-or-lt-of-le (least w h));
       }
     where
       least : (w : ℕ) → w < u + 1 → w ≤ u
       least w h = omega arith
 
-      set-here : getD (set more u value) u 0 ≡ markedOf (getD before u 0) octet (getD more u 0)
-      set-here = getD-set-same more u value 0 room ∙ e
+      here : getD (set more u 1) u 0 ≡ 1
+      here = getD-set-same more u 1 0 room
 
-      slot : (p : ℕ) → (p ≡ u) ⊎ ((p ≡ u → ⊥) × (getD (set more u value) p 0 ≡ getD more p 0))
+      slot : (p : ℕ) → (p ≡ u) ⊎ ((p ≡ u → ⊥) × (getD (set more u 1) p 0 ≡ getD more p 0))
       slot p = go (eqb p u) refl
         where
-          go : (b : Bool) → eqb p u ≡ b → (p ≡ u) ⊎ ((p ≡ u → ⊥) × (getD (set more u value) p 0 ≡ getD more p 0))
+          go : (b : Bool) → eqb p u ≡ b → (p ≡ u) ⊎ ((p ≡ u → ⊥) × (getD (set more u 1) p 0 ≡ getD more p 0))
           go true q = inl (eqb-true p u q)
-          go false q = inr (eqb-false p u q, getD-set-other more u p value 0 (eqb-false p u q))
+          go false q = inr (eqb-false p u q, getD-set-other more u p 1 0 (eqb-false p u q))
 
-      here : (p : ℕ) → p ≡ u → (getD (set more u value) p 0 ≡ 1) ⊎ (getD (set more u value) p 0 ≡ getD before p 0)
-      here p q =
-          rw (q, set-here)
-          (⊎-elim (λ k. inl k)
-          (λ k. ⊎-elim (λ m. inl (k ∙ m)) (λ m. inr (k ∙ m)) (l .kept u))
-          (marked-or-kept (getD before u 0) octet (getD more u 0)))
+      one : (w : ℕ) → getD more w 0 ≡ 1 → getD (set more u 1) w 0 ≡ 1
+      one w m = ⊎-elim (λ (q : w ≡ u). rw q here) (λ q. q .1 ∙ m) (slot w)
 
-      one : (w : ℕ) → getD more w 0 ≡ 1 → getD (set more u value) w 0 ≡ 1
-      one w m = ⊎-elim (λ (q : w ≡ u). rw (q, set-here) (one-kept (getD before u 0) octet (rw q at m))) (λ q. q .1 ∙ m) (slot w)
-
-      asked : (w : ℕ) → w ≡ u → eqb (getD table (w * n + v) 0) 1 ≡ true → getD before w 0 ≡ 2 → getD (set more u value) w 0 ≡ 1
-      asked w q b t =
-          let verdict : octet ≡ 1 = o ∙ eqb-true (getD table (u * n + v) 0) 1 (rw q at b) in
-          rw (q, set-here) (link-marked (getD more u 0) (rw q at t) verdict)
+  -- or none, since it is no link that waits, or has no verdict 1
+  pub layer-passed :
+      Layer n table roles before more v u → (verdictIn n table u v ≡ true → getD before u 0 ≡ 2 → ⊥) → Layer n table roles before more v (u + 1)
+  layer-passed l none =
+      record {
+        kept = l .kept;
+        done = l .done;
+        part = λ w h a b t.
+            ⊎-elim (λ (q : w ≡ u). absurd (none (rw q at b) (rw q at t))) (λ (q : w < u). l .part w q a b t) (eq-or-lt-of-le (least w h));
+      }
+    where
+      least : (w : ℕ) → w < u + 1 → w ≤ u
+      least w h = omega arith
 
   -- one place more, all of its signers asked
   pub layer-done : u ≡ n → Layer n table roles before more v u → Layer n table roles before more (v + 1) 0
@@ -120,6 +116,11 @@ module _ {n : ℕ} {table roles before more : List ℕ} {v : ℕ} where
 
   pub layer-end : Layer n table roles before more v 0 → n ≤ v → Near n table roles before more
   layer-end l all = record { kept = λ p h. l .kept p; signers = λ u x hu hx. l .done u x hu (omega arith) }
+
+-- an octet that is not 1 is no verdict 1
+pub no-verdict : (n : ℕ) (table : List ℕ) (u v : ℕ) {octet : ℕ} → octet ≡ getD table (u * n + v) 0 → (octet ≡ 1 → ⊥) → verdictIn n table u v ≡ true → ⊥
+unfolding verdictIn
+no-verdict n table u v e not-one b = not-one (e ∙ eqb-true (getD table (u * n + v) 0) 1 b)
 
 -- a table in which all links are marked, and one of a layer more
 pub links-wider :

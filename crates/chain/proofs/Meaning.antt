@@ -20,7 +20,7 @@ use Rattle.chain.proofs.StepsMean.{step-means}
 
 -- the graph of the tables is the part of that of the items that is near
 pub tables-part :
-    (s table : List ℕ) (moment : ℕ) (near : List ℕ) (rows : List Row) (roles steps : List ℕ) → entryCount s ≤ 96
+    (s table : List ℕ) (moment : ℕ) (near : List ℕ) (rows : List (List ℕ)) (roles steps : List ℕ) → entryCount s ≤ 96
     → Told moment s (entryCount s) near rows → Based s (entryCount s) near → Known s table moment near roles
     → Matched s (entryCount s) table rows roles steps
     → Part (isNear near) (graphOf (entryCount s) roles steps) (goodChains s table moment)
@@ -33,5 +33,5 @@ tables-part s table moment near rows roles steps few told based known matched =
       link = λ u h. known u (rw here at h) .link;
       signer = λ u h. known u (rw here at h) .signer;
       step = λ u v hu hv.
-          step-means s table moment near rows told based roles steps known matched u v (rw here at hu) (rw here at hv);
+          step-means s table moment near rows told based roles known steps matched u v (rw here at hu) (rw here at hv);
     }

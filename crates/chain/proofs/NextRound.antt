@@ -53,7 +53,7 @@ led-signer : (role : ℕ) → eqb role 3 ≡ true → ledOf role ≡ true
 unfolding ledOf
 led-signer role three = rw (eqb-true role 3 three)
 
-module _ (s table : List ℕ) (moment target n : ℕ) (same : n ≡ entryCount s) {round : ℕ} {near : List ℕ} {rows : List Row} {counting roles : List ℕ} (r : Round s table moment target round near rows counting roles) {wider : List ℕ} (w : Wider n table (round + 1) roles near wider) where
+module _ (s table : List ℕ) (moment target n : ℕ) (same : n ≡ entryCount s) {round : ℕ} {near : List ℕ} {rows : List (List ℕ)} {counting roles : List ℕ} (r : Round s table moment target round near rows counting roles) {wider : List ℕ} (w : Wider n table (round + 1) roles near wider) where
   kept : (p : ℕ) → p < entryCount s → isNear near p ≡ true → isNear wider p ≡ true
   unfolding isNear
   kept p h e = ⊎-elim (λ k. eq-eqb (getD wider p 0) 1 k) (λ k. rw k e) (w .layer .kept p (rw (← same) at h))
@@ -136,12 +136,14 @@ module _ (s table : List ℕ) (moment target n : ℕ) (same : n ≡ entryCount s
       more (signs here (link-kind s table moment x here link) rest all) (all-kept rest all)
 
   pub next-round :
-      {opened : List Row} {after : List ℕ} → target < n → Opens moment s n near wider rows opened
+      {opened : List (List ℕ)} {after : List ℕ} → target < n → Opens moment s n near wider rows opened
       → Roles s n near opened counting roles after → Round s table moment target (round + 1) wider opened counting after
   next-round {opened} {after} h opens is =
       let told : Told moment s (entryCount s) wider opened =
       rw same at (told-next moment s n near wider rows opened
-      (λ p k e. r .told p (rw same at k) ∙ ap (λ (b : Bool). cond b (rowOf moment s (entryIn s p)) blank) e) opens) in
+      (λ p k e. r .told p (rw same at k) ∙ ap (λ (b : Bool). cond b (rowOf moment s (entryIn s p)) blank) e)
+      (λ p k e.
+      r .told p (rw same at k) ∙ ap (λ (b : Bool). cond b (rowOf moment s (entryIn s p)) blank) (far p (rw same at k) e)) opens) in
       record {
         told = told;
         based = λ p k e. r .based p k (far p k e);

@@ -64,7 +64,7 @@ by-signer false false z spoken f = other z 1 3 refl refl
 apart : (m k l : ℕ) → (k ≡ l → ⊥) → eqb m k ≡ true → eqb m l ≡ false
 apart m k l d e = let same : m ≡ k = eqb-true m k e in ne-eqb m l (λ z. d (sym same ∙ z))
 
-module _ (s : List ℕ) (n : ℕ) (rows : List Row) (counting : List ℕ) (row : Row) where
+module _ (s : List ℕ) (n : ℕ) (rows : List (List ℕ)) (counting : List ℕ) (row : Row) where
   role-anchor : eqb (roleOf s n rows counting row) 1 ≡ eqb (row .standing) 1
   unfolding roleOf roleBy signedOf
   role-anchor =
@@ -93,7 +93,7 @@ pub record Role (s table : List ℕ) (moment p : ℕ) (near : Bool) (role : ℕ)
 abbrev pub Known : List ℕ → List ℕ → ℕ → List ℕ → List ℕ → Type 0
 Known s table moment near roles = (p : ℕ) → p < entryCount s → Role s table moment p (isNear near p) (getD roles p 0)
 
-module _ (s table : List ℕ) (moment : ℕ) (near : List ℕ) (rows : List Row) (told : Told moment s (entryCount s) near rows) (based : Based s (entryCount s) near) (counting : List ℕ) (counts : Counts s table moment counting) where
+module _ (s table : List ℕ) (moment : ℕ) (near : List ℕ) (rows : List (List ℕ)) (told : Told moment s (entryCount s) near rows) (based : Based s (entryCount s) near) (counting : List ℕ) (counts : Counts s table moment counting) where
   -- a standing of 2 or 3 that the CRLs leave is a usable link or signer that is near
   signed :
       (p k : ℕ) → p < entryCount s → 2 ≤ k → k ≤ 3

@@ -1,12 +1,13 @@
 -- What holds at the start of each round: the tables tell what is near, and each good chain of few enough places is near. So a
 -- chain of the tables that is short enough is the best.
 use Prim.Native.Nat.{ℕ, _+_, _<_, _≤_}
-use mathlib.Core.Path.{_≡_, _∙_}
-use mathlib.Core.Bool.{true, false}
+use mathlib.Core.Path.{_≡_, refl, sym, _∙_}
+use mathlib.Core.Bool.{Bool, true, false, cond}
 use mathlib.Core.List.{List}
 use mathlib.Core.Logic.{_⊎_, inl, inr, ⊎-elim}
 use native.Mathlib.Omega.{arith}
-use borrow.Author.Tests.{eqb-true}
+use borrow.Author.Tests.{eqb-true, eqb-false, leb-true}
+use lib.Dec.{eqb, leb}
 use lib.ListN.{length, getD, replicate}
 use Rattle.graph.specs.declared.Found.{Found}
 use Rattle.graph.specs.Chains.{Onward, ends, goes, Chain, chain}
@@ -15,8 +16,9 @@ use Rattle.image.specs.Index.{entryIn, entryCount}
 use Rattle.chain.specs.declared.opened.Row.{Row}
 use Rattle.chain.specs.Near.{isNear}
 use Rattle.chain.specs.Steps.{chains}
-use Rattle.chain.specs.Rows.{Searched}
+use Rattle.chain.specs.Rows.{Searched, enoughOf}
 use Rattle.chain.specs.Answer.{goodChains}
+use Rattle.chain.proofs.Booleans.{false-true}
 use Rattle.chain.proofs.Cells.{below-or-not}
 use Rattle.chain.proofs.NearRows.{Told, Based}
 use Rattle.chain.proofs.CountingMeans.{Counts}
@@ -24,7 +26,26 @@ use Rattle.chain.proofs.RolesMean.{Known}
 use Rattle.chain.proofs.Transfer.{AllNear, NearOrLonger, answer-out}
 use Rattle.chain.proofs.Meaning.{tables-part}
 
-module _ (s table : List ℕ) (moment target round : ℕ) (near : List ℕ) (rows : List Row) (counting roles : List ℕ) where
+-- a chain that settles a round, and in the last round each does
+pub settled : (round length : ℕ) → enoughOf round length ≡ true → (round ≡ 4) ⊎ ((length ≡ 0 → ⊥) × (length ≤ round + 2))
+unfolding enoughOf
+settled round length e = go (eqb round 4) refl (eqb length 0) refl e
+  where
+    go :
+        (a : Bool) → eqb round 4 ≡ a → (b : Bool) → eqb length 0 ≡ b
+        → cond a true (cond b false (leb length (round + 2))) ≡ true → (round ≡ 4) ⊎ ((length ≡ 0 → ⊥) × (length ≤ round + 2))
+    go true k b h f = inl (eqb-true round 4 k)
+    go false k true h f = false-true f
+    go false k false h f = inr (eqb-false length 0 h, leb-true length (round + 2) f)
+
+pub unsettled : (round length : ℕ) → enoughOf round length ≡ false → round ≡ 4 → ⊥
+unfolding enoughOf
+unsettled round length e four = false-true (sym e ∙ rw four)
+
+pub unasked : {round : ℕ} {asked : Bool} → (round ≡ 4 → asked ≡ true) → asked ≡ false → round ≡ 4 → ⊥
+unasked last e four = false-true (sym e ∙ last four)
+
+module _ (s table : List ℕ) (moment target round : ℕ) (near : List ℕ) (rows : List (List ℕ)) (counting roles : List ℕ) where
   -- the tables tell what is near, and so is each way on to the target of at most a place more than rounds were done, in the
   -- last round each way
   pub record Round : Type 0 where
@@ -38,7 +59,7 @@ module _ (s table : List ℕ) (moment target round : ℕ) (near : List ℕ) (row
         {u : ℕ} {c : List ℕ} → Onward (goodChains s table moment) target u c → (length c ≤ round + 1) ⊎ (round ≡ 4)
         → AllNear (isNear near) c
 
-module _ (s table : List ℕ) (moment target n : ℕ) (same : n ≡ entryCount s) {round : ℕ} {near : List ℕ} {rows : List Row} {counting roles : List ℕ} (r : Round s table moment target round near rows counting roles) where
+module _ (s table : List ℕ) (moment target n : ℕ) (same : n ≡ entryCount s) {round : ℕ} {near : List ℕ} {rows : List (List ℕ)} {counting roles : List ℕ} (r : Round s table moment target round near rows counting roles) where
   -- what the tables answer, where each way on to the target is near or no shorter than what is found
   pub answer-by :
       {f : Found} → n ≤ 96 → Searched s n table rows roles target f

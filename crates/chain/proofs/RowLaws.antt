@@ -1,29 +1,89 @@
 -- One law for each answer of the definitions over rows: what they come to under the tests that lead there.
-use Prim.Native.Nat.{ℕ, _+_, _*_}
+use Prim.Native.Nat.{ℕ, zero, suc, _+_, _*_, _<_, _≤_}
 use mathlib.Core.Path.{_≡_, refl, sym, ap, _∙_}
 use mathlib.Core.Bool.{Bool, true, false, cond, _||_}
-use mathlib.Core.List.{List}
+use mathlib.Core.List.{List, []}
+use mathlib.Core.Logic.{⊎-elim}
+use native.Mathlib.Nat.{eq-or-lt-of-le}
 use native.Mathlib.Numerals.{add-one}
+use native.Mathlib.Omega.{arith}
 use borrow.Author.Tests.{eq-eqb, ne-eqb}
+use borrow.Author.Count.{below-more}
 use lib.Dec.{eqb}
-use lib.ListN.{getD, take, drop, replicate}
+use lib.ListN.{length, getD, set, take, drop, replicate}
+use lib.Seq.{getD-set-same, getD-set-other}
 use Rattle.crl.specs.Listed.{listedOf}
 use Rattle.elements.specs.Octets.{alike}
+use Rattle.image.specs.declared.IndexEntry.{IndexEntry}
 use Rattle.image.specs.Index.{entryIn}
 use Rattle.chain.specs.declared.opened.Row.{Row}
 use Rattle.chain.specs.Items.{someBelow}
-use Rattle.chain.specs.Near.{isNear, ledOf}
-use Rattle.chain.specs.Rows.{blank, flag, vouchesOf, rowAt, vouchedBy, countedOf, pieceOf, coversOf, listsOf, spokenOf, spokenBelow, signedOf, roleBy, roleOf, roleIn, rowOf, rowIn, fitsOf, matchedOf, leadsOf, stepOf}
+use Rattle.chain.specs.Near.{isNear, ledOf, freshOf}
+use Rattle.chain.specs.Rows.{blank, flag, vouchesOf, rowFrom, rowAt, vouchedBy, countedOf, pieceOf, coversOf, listsOf, spokenOf, spokenBelow, signedOf, roleBy, roleOf, roleIn, rowOf, rowIn, fitsOf, matchedOf, leadsOf, stepOf}
 use Rattle.chain.specs.Table.{verdictIn}
-use Rattle.chain.proofs.Slots.{empty-slots}
 
--- a slot of the array is the row of its place
-pub row-read : (rows : List Row) (p : ℕ) → getD rows p (record { standing = 0; first = 0; second = 0; at = 0; size = 0; «issuer_at» = 0; «issuer_len» = 0; «subject_at» = 0; «subject_len» = 0; «serial_at» = 0; «serial_len» = 0; «own_at» = 0; «own_len» = 0; «authority_at» = 0; «authority_len» = 0; from = 0; end = 0 }) ≡ rowAt rows p
-unfolding rowAt blank
-row-read rows p = refl
+-- the rows of a table of nothing but 0
+pub blank-rows : (n p : ℕ) → rowAt (replicate n (replicate 17 0)) p ≡ blank
+unfolding rowAt rowFrom blank
+blank-rows zero p = refl
+blank-rows (suc n) zero = refl
+blank-rows (suc n) (suc p) = blank-rows n p
 
-pub blank-slots : {r : Row} → r ≡ blank → (n p : ℕ) → getD (replicate n r) p blank ≡ blank
-blank-slots e n p = rw e (empty-slots n p)
+-- the rows before p are those of f, and the others as they were
+pub record Rewritten (f : ℕ → Row) (old rows : List (List ℕ)) (p : ℕ) : Type 0 where
+  pub before : (c : ℕ) → c < p → rowAt rows c ≡ f c
+  pub behind : (c : ℕ) → p ≤ c → rowAt rows c ≡ rowAt old c
+
+set-here : (rows : List (List ℕ)) (p : ℕ) (cells : List ℕ) → p < length rows → rowAt (set rows p cells) p ≡ rowFrom cells
+unfolding rowAt
+set-here rows p cells room = ap rowFrom (getD-set-same rows p cells [] room)
+
+set-there : (rows : List (List ℕ)) (p : ℕ) (cells : List ℕ) (c : ℕ) → (c ≡ p → ⊥) → rowAt (set rows p cells) c ≡ rowAt rows c
+unfolding rowAt
+set-there rows p cells c h = ap rowFrom (getD-set-other rows p c cells [] h)
+
+module _ {f : ℕ → Row} {old rows : List (List ℕ)} {p : ℕ} where
+  -- one row more, set or left
+  pub row-set : (cells : List ℕ) → Rewritten f old rows p → p < length rows → rowFrom cells ≡ f p → Rewritten f old (set rows p cells) (p + 1)
+  row-set cells r room e =
+      record {
+        before = λ c h.
+            ⊎-elim (λ (q : c ≡ p). rw q (set-here rows p cells room ∙ e)) (λ (q : c < p). set-there rows p cells c (λ (w : c ≡ p). omega arith) ∙ r .before c q)
+            (eq-or-lt-of-le (least c h));
+        behind = λ c h. set-there rows p cells c (λ (w : c ≡ p). omega arith) ∙ r .behind c (omega arith);
+      }
+    where
+      least : (c : ℕ) → c < p + 1 → c ≤ p
+      least c h = omega arith
+
+  pub row-left : Rewritten f old rows p → rowAt old p ≡ f p → Rewritten f old rows (p + 1)
+  row-left r e =
+      record {
+        before = λ c h.
+            ⊎-elim (λ (q : c ≡ p). rw q (r .behind p (omega arith) ∙ e)) (λ (q : c < p). r .before c q) (eq-or-lt-of-le (least c h));
+        behind = λ c h. r .behind c (omega arith);
+      }
+    where
+      least : (c : ℕ) → c < p + 1 → c ≤ p
+      least c h = omega arith
+
+cond-false : (b : Bool) → cond b false false ≡ false
+cond-false true = refl
+cond-false false = refl
+
+pub flag-true : {value : ℕ} (b : Bool) → value ≡ flag b → value ≡ 1 → b ≡ true
+unfolding flag
+flag-true true e f = refl
+flag-true false e f = absurd (omega arith)
+
+pub flag-false : {value : ℕ} (b : Bool) → value ≡ flag b → (value ≡ 1 → ⊥) → b ≡ false
+unfolding flag
+flag-false true e f = absurd (f e)
+flag-false false e f = refl
+
+pub leads-anchor : {role : ℕ} → role ≡ 1 → leadsOf role ≡ true
+unfolding leadsOf
+leads-anchor e = rw e
 
 module _ (a l : Row) where
   pub vouches-unfit : eqb (a .standing) 1 ≡ false → vouchesOf a l ≡ false
@@ -124,7 +184,7 @@ module _ (s : List ℕ) (u v : Row) (role : ℕ) where
   matched-unfit e f = rw (e, f)
 
 -- one place more
-module _ (n : ℕ) (table : List ℕ) (rows : List Row) (list : ℕ) where
+module _ (n : ℕ) (table : List ℕ) (rows : List (List ℕ)) (list : ℕ) where
   pub vouched-none : flag (someBelow 0 (vouchedBy n table rows list)) ≡ 0
   unfolding flag someBelow
   vouched-none = refl
@@ -154,26 +214,41 @@ module _ (n : ℕ) (table : List ℕ) (rows : List Row) (list : ℕ) where
       let not-1 : eqb (getD table (anchor * n + list) 0) 1 ≡ false = ne-eqb _ _ (λ e. not-one (h ∙ e)) in
       rw (add-one anchor, not-1) g
 
+  -- and one that is no usable anchor
+  pub vouched-unfit :
+      (anchor : ℕ) {before standing : ℕ} → before ≡ flag (someBelow anchor (vouchedBy n table rows list))
+      → standing ≡ rowAt rows anchor .standing → (standing ≡ 1 → ⊥) → before ≡ flag (someBelow (anchor + 1) (vouchedBy n table rows list))
+  unfolding someBelow vouchedBy
+  vouched-unfit anchor g h not-one =
+      let none : vouchesOf (rowAt rows anchor) (rowAt rows list) ≡ false =
+      vouches-unfit (rowAt rows anchor) (rowAt rows list) (ne-eqb _ _ (λ e. not-one (h ∙ e))) in
+      rw (add-one anchor, none, cond-false (verdictIn n table anchor list)) g
+
   -- all anchors are asked
   pub counted-all :
-      {anchor vouched : ℕ} {l : Row} → anchor ≡ n → l ≡ rowAt rows list → l .standing ≡ 4
+      {anchor vouched standing : ℕ} → anchor ≡ n → standing ≡ rowAt rows list .standing → standing ≡ 4
       → vouched ≡ flag (someBelow anchor (vouchedBy n table rows list)) → vouched ≡ flag (countedOf n table rows list)
   unfolding countedOf
   counted-all all e four f =
-      let is-4 : eqb (rowAt rows list .standing) 4 ≡ true = eq-eqb _ _ (ap (λ (r : Row). r .standing) (sym e) ∙ four) in
+      let is-4 : eqb (rowAt rows list .standing) 4 ≡ true = eq-eqb _ _ (sym e ∙ four) in
       rw is-4 (rw all at f)
 
-  pub counted-other : {l : Row} → l ≡ rowAt rows list → (l .standing ≡ 4 → ⊥) → 0 ≡ flag (countedOf n table rows list)
+  pub counted-other : {standing : ℕ} → standing ≡ rowAt rows list .standing → (standing ≡ 4 → ⊥) → 0 ≡ flag (countedOf n table rows list)
   unfolding countedOf flag
   counted-other e not-four =
-      let not-4 : eqb (rowAt rows list .standing) 4 ≡ false = ne-eqb _ _ (λ f. not-four (ap (λ (r : Row). r .standing) e ∙ f)) in
+      let not-4 : eqb (rowAt rows list .standing) 4 ≡ false = ne-eqb _ _ (λ f. not-four (e ∙ f)) in
       rw not-4
 
-pub spoken-none : (s : List ℕ) (rows : List Row) (counting : List ℕ) (row : Row) → 0 ≡ spokenBelow s rows counting row 0
+-- where no CRL before counts
+pub spoken-none :
+    (s : List ℕ) (rows : List (List ℕ)) (counting : List ℕ) (row : Row) (c : ℕ) → ((k : ℕ) → k < c → getD counting k 0 ≡ 1 → ⊥)
+    → 0 ≡ spokenBelow s rows counting row c
 unfolding spokenBelow
-spoken-none s rows counting row = refl
+spoken-none s rows counting row zero none = refl
+spoken-none s rows counting row (suc c) none =
+    rw (ne-eqb (getD counting c 0) 1 (none c (omega arith))) (spoken-none s rows counting row c (λ k h. none k (omega arith)))
 
-module _ (s : List ℕ) (rows : List Row) (counting : List ℕ) (row : Row) (c : ℕ) where
+module _ (s : List ℕ) (rows : List (List ℕ)) (counting : List ℕ) (row : Row) (c : ℕ) where
   -- a counting CRL is asked
   pub spoken-asked :
       {before after : ℕ} {l : Row} → l ≡ rowAt rows c → before ≡ spokenBelow s rows counting row c → getD counting c 0 ≡ 1
@@ -192,48 +267,38 @@ module _ (s : List ℕ) (rows : List Row) (counting : List ℕ) (row : Row) (c :
       let not-1 : eqb (getD counting c 0) 1 ≡ false = ne-eqb _ _ not-one in
       rw (add-one c, not-1) f
 
-module _ (s : List ℕ) (n : ℕ) (before : List ℕ) (rows : List Row) (counting roles : List ℕ) (p : ℕ) {own : Row} {spoken role : ℕ} where
+module _ (s : List ℕ) (n : ℕ) (before : List ℕ) (rows : List (List ℕ)) (counting roles : List ℕ) (p : ℕ) where
+  -- a role that is handed on
+  pub role-kept : {role : ℕ} → role ≡ getD roles p 0 → getD before p 0 ≡ 1 → role ≡ roleIn s n before rows counting roles p
+  unfolding roleIn isNear
+  role-kept h one = rw (eq-eqb _ _ one) h
+
+  -- one by what the CRLs say, and one that they are not asked for
   pub role-told :
-      {c : ℕ} {asked : Bool} → own ≡ rowAt rows p → asked ≡ cond (eqb (getD before p 0) 1) false (signedOf own) → asked ≡ true → c ≡ n
-      → spoken ≡ spokenBelow s rows counting own c → role ≡ cond (eqb (getD before p 0) 1) (getD roles p 0) (roleBy own spoken)
-      → role ≡ roleIn s n before rows counting roles p
+      {own : Row} {spoken role c : ℕ} → own ≡ rowAt rows p → (getD before p 0 ≡ 1 → ⊥) → signedOf own ≡ true → c ≡ n
+      → spoken ≡ spokenBelow s rows counting own c → role ≡ roleBy own spoken → role ≡ roleIn s n before rows counting roles p
   unfolding roleIn isNear roleOf
-  role-told {c} e a t all g h = go (eqb (getD before p 0) 1) (sym a ∙ t) h
-    where
-      go :
-          (b : Bool) → cond b false (signedOf own) ≡ true → role ≡ cond b (getD roles p 0) (roleBy own spoken)
-          → role
-          ≡ cond b (getD roles p 0)
-          (roleBy (rowAt rows p) (cond (signedOf (rowAt rows p)) (spokenBelow s rows counting (rowAt rows p) n) 0))
-      go true f k = k
-      go false f k = rw (← e, f) (k ∙ ap (roleBy own) (g ∙ ap (spokenBelow s rows counting own) all))
+  role-told {own} e not-one signed all g h =
+      rw (ne-eqb _ _ not-one, ← e, signed) (h ∙ ap (roleBy own) (g ∙ ap (spokenBelow s rows counting own) all))
 
   pub role-untold :
-      {asked : Bool} → own ≡ rowAt rows p → asked ≡ cond (eqb (getD before p 0) 1) false (signedOf own) → asked ≡ false → spoken ≡ 0
-      → role ≡ cond (eqb (getD before p 0) 1) (getD roles p 0) (roleBy own spoken) → role ≡ roleIn s n before rows counting roles p
+      {own : Row} {spoken role : ℕ} → own ≡ rowAt rows p → (getD before p 0 ≡ 1 → ⊥) → signedOf own ≡ false → spoken ≡ 0
+      → role ≡ roleBy own spoken → role ≡ roleIn s n before rows counting roles p
   unfolding roleIn isNear roleOf
-  role-untold e a t g h = go (eqb (getD before p 0) 1) (sym a ∙ t) h
-    where
-      go :
-          (b : Bool) → cond b false (signedOf own) ≡ false → role ≡ cond b (getD roles p 0) (roleBy own spoken)
-          → role
-          ≡ cond b (getD roles p 0)
-          (roleBy (rowAt rows p) (cond (signedOf (rowAt rows p)) (spokenBelow s rows counting (rowAt rows p) n) 0))
-      go true f k = k
-      go false f k = rw (← e, f) (k ∙ ap (roleBy own) g)
+  role-untold {own} e not-one unsigned g h = rw (ne-eqb _ _ not-one, ← e, unsigned) (h ∙ ap (roleBy own) g)
 
-module _ (moment : ℕ) (s before near : List ℕ) (rows : List Row) (p : ℕ) where
-  pub row-near :
-      {own row : Row} → own ≡ rowAt rows p → getD near p 0 ≡ 1 → row ≡ cond (eqb (getD before p 0) 1) own (rowOf moment s (entryIn s p))
-      → row ≡ rowIn moment s before near rows p
-  unfolding rowIn isNear
-  row-near e one h = rw (eq-eqb _ _ one, ← e) h
+module _ (moment : ℕ) (s before near : List ℕ) (rows : List (List ℕ)) (p : ℕ) where
+  pub row-fresh :
+      {row : Row} {entry : IndexEntry} → freshOf (getD before p 0) (getD near p 0) ≡ true → entry ≡ entryIn s p
+      → row ≡ rowOf moment s entry → row ≡ rowIn moment s before near rows p
+  unfolding rowIn
+  row-fresh e f h = rw (e, ← f) h
 
-  pub row-far : (getD near p 0 ≡ 1 → ⊥) → blank ≡ rowIn moment s before near rows p
-  unfolding rowIn isNear
-  row-far not-one = rw (ne-eqb _ _ not-one)
+  pub row-stays : freshOf (getD before p 0) (getD near p 0) ≡ false → rowAt rows p ≡ rowIn moment s before near rows p
+  unfolding rowIn
+  row-stays e = rw e
 
-module _ (s : List ℕ) (n : ℕ) (table : List ℕ) (rows : List Row) (roles : List ℕ) (u v : ℕ) where
+module _ (s : List ℕ) (n : ℕ) (table : List ℕ) (rows : List (List ℕ)) (roles : List ℕ) (u v : ℕ) where
   pub step-asked :
       {a b : Row} {role lead octet value : ℕ} → a ≡ rowAt rows u → b ≡ rowAt rows v → role ≡ getD roles v 0
       → lead ≡ getD roles u 0 → leadsOf lead ≡ true → octet ≡ getD table (u * n + v) 0 → octet ≡ 1
@@ -258,3 +323,11 @@ module _ (s : List ℕ) (n : ℕ) (table : List ℕ) (rows : List Row) (roles : 
   step-unled h lead =
       let not-leading : leadsOf (getD roles u 0) ≡ false = ap leadsOf (sym h) ∙ lead in
       rw not-leading
+
+-- one anchor more that has no good step to the target
+pub none-more :
+    (s : List ℕ) (n : ℕ) (table : List ℕ) (rows : List (List ℕ)) (roles : List ℕ) (target u : ℕ)
+    → ((w : ℕ) → w < u → getD roles w 0 ≡ 1 → stepOf s n table rows roles w target ≡ false)
+    → (getD roles u 0 ≡ 1 → stepOf s n table rows roles u target ≡ false)
+    → (w : ℕ) → w < u + 1 → getD roles w 0 ≡ 1 → stepOf s n table rows roles w target ≡ false
+none-more s n table rows roles target u = below-more (λ (w : ℕ). getD roles w 0 ≡ 1 → stepOf s n table rows roles w target ≡ false) u

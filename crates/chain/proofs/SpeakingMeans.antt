@@ -49,7 +49,7 @@ is-one true false = refl
 is-one false true = refl
 is-one false false = refl
 
-module _ (s : List ℕ) (rows : List Row) (counting : List ℕ) (row : Row) where
+module _ (s : List ℕ) (rows : List (List ℕ)) (counting : List ℕ) (row : Row) where
   -- a counting CRL that covers the row, and one that lists it besides
   unfoldable speaking : ℕ → Bool
   speaking c = eqb (getD counting c 0) 1 && coversOf s (rowAt rows c) row
@@ -68,7 +68,7 @@ module _ (s : List ℕ) (rows : List Row) (counting : List ℕ) (row : Row) wher
   spoken-one : (n : ℕ) → eqb (spokenBelow s rows counting row n) 1 ≡ (someBelow n speaking && not (someBelow n listing))
   spoken-one n = rw (spoken-some n) (is-one (someBelow n listing) (someBelow n speaking))
 
-module _ (s table : List ℕ) (moment : ℕ) (near : List ℕ) (rows : List Row) (told : Told moment s (entryCount s) near rows) (based : Based s (entryCount s) near) where
+module _ (s table : List ℕ) (moment : ℕ) (near : List ℕ) (rows : List (List ℕ)) (told : Told moment s (entryCount s) near rows) (based : Based s (entryCount s) near) where
   covers-row :
       (c p : ℕ) → c < entryCount s → p < entryCount s → Crl s rows c → Certificate s rows p
       → coversOf s (rowAt rows c) (rowAt rows p) ≡ covers (itemsIn s) c p

@@ -37,7 +37,7 @@ either-cond false b (inr e) = e
 
 -- names and keys of two certificates are those of their rows
 fits-rows :
-    (s : List ℕ) (rows : List Row) (u v : ℕ) → u < entryCount s → v < entryCount s → Certificate s rows u → Certificate s rows v
+    (s : List ℕ) (rows : List (List ℕ)) (u v : ℕ) → u < entryCount s → v < entryCount s → Certificate s rows u → Certificate s rows v
     → fitsOf s (rowAt rows u) (rowAt rows v) ≡ fits (itemsIn s) u v
 unfolding fitsOf fits pieceOf bytesAt
 fits-rows s rows u v hu hv (f, jf, rf) (g, jg, rg) =
@@ -55,7 +55,7 @@ fits-rows s rows u v hu hv (f, jf, rf) (g, jg, rg) =
     (swapped (alike (part v (g .«issuer_at») (g .«issuer_len»)) (part u (f .«subject_at») (f .«subject_len»)))
     (alike (part v (g .«authority_key_at») (g .«authority_key_len»)) (part u (f .«subject_key_at») (f .«subject_key_len»))))
 
-module _ (s table : List ℕ) (moment : ℕ) (near : List ℕ) (rows : List Row) (told : Told moment s (entryCount s) near rows) (based : Based s (entryCount s) near) (roles steps : List ℕ) (known : Known s table moment near roles) (matched : Matched s (entryCount s) table rows roles steps) where
+module _ (s table : List ℕ) (moment : ℕ) (near : List ℕ) (rows : List (List ℕ)) (told : Told moment s (entryCount s) near rows) (based : Based s (entryCount s) near) (roles : List ℕ) (known : Known s table moment near roles) where
   -- a place with a role has a certificate's row
   anchor-row : (p : ℕ) → p < entryCount s → eqb (getD roles p 0) 1 ≡ true → Certificate s rows p
   anchor-row p h e =
@@ -92,18 +92,26 @@ module _ (s table : List ℕ) (moment : ℕ) (near : List ℕ) (rows : List Row)
   signer-kind p h e = middle (isNear near p) (hasKind (itemsIn s) 3 p) _ (sym (known p h .signer) ∙ e)
 
   -- between an anchor or link and a link or signer, a step told is a good one
-  pub step-means :
+  pub step-told :
       (u v : ℕ) → u < entryCount s → v < entryCount s → (eqb (getD roles u 0) 1 ≡ true) ⊎ (eqb (getD roles u 0) 2 ≡ true)
       → (eqb (getD roles v 0) 2 ≡ true) ⊎ (eqb (getD roles v 0) 3 ≡ true)
-      → eqb (getD steps (u * 96 + v) 0) 1 ≡ goodStep (itemsIn s) (verdictIn (entryCount s) table) u v
+      → stepOf s (entryCount s) table rows roles u v ≡ goodStep (itemsIn s) (verdictIn (entryCount s) table) u v
   unfolding stepOf matchedOf leadsOf ledOf goodStep
-  step-means u v hu hv from to =
+  step-told u v hu hv from to =
       let a : hasKind (itemsIn s) 1 u || hasKind (itemsIn s) 2 u ≡ true =
       either _ _ (⊎-elim (λ e. inl (anchor-kind u hu e)) (λ e. inr (link-kind u hu e)) from) in
       let b : hasKind (itemsIn s) 2 v || hasKind (itemsIn s) 3 v ≡ true =
       either _ _ (⊎-elim (λ e. inl (link-kind v hv e)) (λ e. inr (signer-kind v hv e)) to) in
       let cu : Certificate s rows u = ⊎-elim (anchor-row u hu) (link-row u hu) from in
       let cv : Certificate s rows v = ⊎-elim (link-row v hv) (signer-row v hv) to in
-      rw (matched u v hu hv, flag-one (stepOf s (entryCount s) table rows roles u v), either-cond _ _ from, either-cond _ _ to, a, b)
+      rw (either-cond _ _ from, either-cond _ _ to, a, b)
       (chosen (verdictIn (entryCount s) table u v) (fitsOf s (rowAt rows u) (rowAt rows v)) (fits (itemsIn s) u v)
       (fits-rows s rows u v hu hv cu cv))
+
+  pub step-means :
+      (steps : List ℕ) → Matched s (entryCount s) table rows roles steps → (u v : ℕ) → u < entryCount s → v < entryCount s
+      → (eqb (getD roles u 0) 1 ≡ true) ⊎ (eqb (getD roles u 0) 2 ≡ true)
+      → (eqb (getD roles v 0) 2 ≡ true) ⊎ (eqb (getD roles v 0) 3 ≡ true)
+      → eqb (getD steps (u * 96 + v) 0) 1 ≡ goodStep (itemsIn s) (verdictIn (entryCount s) table) u v
+  step-means steps matched u v hu hv from to =
+      rw (matched u v hu hv) (flag-one (stepOf s (entryCount s) table rows roles u v) ∙ step-told u v hu hv from to)

@@ -2,7 +2,7 @@
 -- nothing of this.
 use Prim.Native.Nat.{ℕ, _<_}
 use mathlib.Core.Path.{_≡_}
-use mathlib.Core.Bool.{Bool, true, cond}
+use mathlib.Core.Bool.{Bool, true, false, cond}
 use mathlib.Core.List.{List}
 use mathlib.Core.Logic.{_⊎_}
 use lib.Dec.{eqb}
@@ -12,6 +12,10 @@ use Rattle.chain.specs.Table.{verdictIn}
 
 unfoldable pub isNear : List ℕ → ℕ → Bool
 isNear near place = eqb (getD near place 0) 1
+
+-- near now and not before
+unfoldable pub freshOf : ℕ → ℕ → Bool
+freshOf before near = cond (eqb near 1) (cond (eqb before 1) false true) false
 
 -- at first the target, the anchors and the CRLs
 unfoldable pub firstOf : ℕ → ℕ → IndexEntry → ℕ

@@ -3,9 +3,9 @@
 use Prim.Native.Nat.{ℕ, zero, suc, _+_, _*_, _<_}
 use mathlib.Core.Path.{_≡_}
 use mathlib.Core.Bool.{Bool, true, false, cond}
-use mathlib.Core.List.{List}
-use lib.Dec.{eqb}
-use lib.ListN.{getD, take, drop}
+use mathlib.Core.List.{List, [], _∷_, _++_}
+use lib.Dec.{eqb, leb}
+use lib.ListN.{getD, take, drop, replicate}
 use Rattle.certificate.specs.declared.Judged.{Judged}
 use Rattle.certificate.specs.declared.Judged.the-variants.{Passed, Refused}
 use Rattle.certificate.specs.Answer.{judgedOf}
@@ -21,7 +21,7 @@ use Rattle.image.specs.declared.IndexEntry.{IndexEntry}
 use Rattle.image.specs.Index.{entryIn}
 use Rattle.chain.specs.declared.opened.Row.{Row}
 use Rattle.chain.specs.Items.{someBelow, within}
-use Rattle.chain.specs.Near.{isNear, ledOf}
+use Rattle.chain.specs.Near.{isNear, ledOf, freshOf}
 use Rattle.chain.specs.Table.{verdictIn}
 
 -- nothing that could stand in a chain
@@ -110,15 +110,38 @@ rowOf moment s e =
     (cond (eqb (e .flags) 1) (certificateRow moment e (judgedOf (bytesAt s e) (e .kind))) blank)
     (certificateRow moment e (judgedOf (bytesAt s e) (e .kind))))
 
-unfoldable pub rowAt : List Row → ℕ → Row
-rowAt rows place = getD rows place blank
+-- a row from its numbers, and that of a place in a table
+unfoldable pub rowFrom : List ℕ → Row
+rowFrom cells =
+    record {
+      standing = getD cells 0 0;
+      first = getD cells 1 0;
+      second = getD cells 2 0;
+      at = getD cells 3 0;
+      size = getD cells 4 0;
+      «issuer_at» = getD cells 5 0;
+      «issuer_len» = getD cells 6 0;
+      «subject_at» = getD cells 7 0;
+      «subject_len» = getD cells 8 0;
+      «serial_at» = getD cells 9 0;
+      «serial_len» = getD cells 10 0;
+      «own_at» = getD cells 11 0;
+      «own_len» = getD cells 12 0;
+      «authority_at» = getD cells 13 0;
+      «authority_len» = getD cells 14 0;
+      from = getD cells 15 0;
+      end = getD cells 16 0;
+    }
 
--- the row of a place that is near, where it was before as it was
-unfoldable pub rowIn : ℕ → List ℕ → List ℕ → List ℕ → List Row → ℕ → Row
+unfoldable pub rowAt : List (List ℕ) → ℕ → Row
+rowAt rows place = rowFrom (getD rows place [])
+
+-- the row of a place that was not near before, any other as it was
+unfoldable pub rowIn : ℕ → List ℕ → List ℕ → List ℕ → List (List ℕ) → ℕ → Row
 rowIn moment s before near rows p =
-    cond (isNear near p) (cond (isNear before p) (rowAt rows p) (rowOf moment s (entryIn s p))) blank
+    cond (freshOf (getD before p 0) (getD near p 0)) (rowOf moment s (entryIn s p)) (rowAt rows p)
 
-abbrev pub Opens : ℕ → List ℕ → ℕ → List ℕ → List ℕ → List Row → List Row → Type 0
+abbrev pub Opens : ℕ → List ℕ → ℕ → List ℕ → List ℕ → List (List ℕ) → List (List ℕ) → Type 0
 Opens moment s n before near rows more = (p : ℕ) → p < n → rowAt more p ≡ rowIn moment s before near rows p
 
 -- 1 for what is so
@@ -131,14 +154,14 @@ vouchesOf anchor list =
     cond (eqb (anchor .standing) 1) (cond (eqb (anchor .first) (list .first)) (eqb (anchor .second) (list .second)) false) false
 
 -- an anchor that has verdict 1 for a CRL
-unfoldable pub vouchedBy : ℕ → List ℕ → List Row → ℕ → ℕ → Bool
+unfoldable pub vouchedBy : ℕ → List ℕ → List (List ℕ) → ℕ → ℕ → Bool
 vouchedBy n table rows list anchor = cond (verdictIn n table anchor list) (vouchesOf (rowAt rows anchor) (rowAt rows list)) false
 
-unfoldable pub countedOf : ℕ → List ℕ → List Row → ℕ → Bool
+unfoldable pub countedOf : ℕ → List ℕ → List (List ℕ) → ℕ → Bool
 countedOf n table rows list = cond (eqb (rowAt rows list .standing) 4) (someBelow n (vouchedBy n table rows list)) false
 
 -- the table of counting CRLs
-abbrev pub Counted : ℕ → List ℕ → List Row → List ℕ → Type 0
+abbrev pub Counted : ℕ → List ℕ → List (List ℕ) → List ℕ → Type 0
 Counted n table rows counting = (c : ℕ) → c < n → getD counting c 0 ≡ flag (countedOf n table rows c)
 
 -- a part of the item of a row
@@ -158,7 +181,7 @@ unfoldable pub spokenOf : List ℕ → Row → Row → ℕ → ℕ
 spokenOf s list row before = cond (eqb before 2) 2 (cond (coversOf s list row) (cond (listsOf s list row) 2 1) before)
 
 -- what so many CRLs say
-unfoldable pub spokenBelow : List ℕ → List Row → List ℕ → Row → ℕ → ℕ
+unfoldable pub spokenBelow : List ℕ → List (List ℕ) → List ℕ → Row → ℕ → ℕ
 spokenBelow s rows counting row zero = 0
 spokenBelow s rows counting row (suc c) =
     cond (eqb (getD counting c 0) 1) (spokenOf s (rowAt rows c) row (spokenBelow s rows counting row c))
@@ -173,15 +196,15 @@ unfoldable pub roleBy : Row → ℕ → ℕ
 roleBy row spoken =
     cond (signedOf row) (cond (eqb spoken 1) (cond (eqb (row .standing) 2) 2 3) 0) (cond (eqb (row .standing) 1) 1 0)
 
-unfoldable pub roleOf : List ℕ → ℕ → List Row → List ℕ → Row → ℕ
+unfoldable pub roleOf : List ℕ → ℕ → List (List ℕ) → List ℕ → Row → ℕ
 roleOf s n rows counting row = roleBy row (cond (signedOf row) (spokenBelow s rows counting row n) 0)
 
 -- the role of a place, where it was near before as it was
-unfoldable pub roleIn : List ℕ → ℕ → List ℕ → List Row → List ℕ → List ℕ → ℕ → ℕ
+unfoldable pub roleIn : List ℕ → ℕ → List ℕ → List (List ℕ) → List ℕ → List ℕ → ℕ → ℕ
 roleIn s n before rows counting roles p = cond (isNear before p) (getD roles p 0) (roleOf s n rows counting (rowAt rows p))
 
 -- the table of roles
-abbrev pub Roles : List ℕ → ℕ → List ℕ → List Row → List ℕ → List ℕ → List ℕ → Type 0
+abbrev pub Roles : List ℕ → ℕ → List ℕ → List (List ℕ) → List ℕ → List ℕ → List ℕ → Type 0
 Roles s n before rows counting roles more = (p : ℕ) → p < n → getD more p 0 ≡ roleIn s n before rows counting roles p
 
 -- an anchor or a link
@@ -200,19 +223,33 @@ unfoldable pub matchedOf : List ℕ → Row → Row → ℕ → Bool
 matchedOf s u v role = cond (ledOf role) (fitsOf s u v) false
 
 -- a good step between usable places
-unfoldable pub stepOf : List ℕ → ℕ → List ℕ → List Row → List ℕ → ℕ → ℕ → Bool
+unfoldable pub stepOf : List ℕ → ℕ → List ℕ → List (List ℕ) → List ℕ → ℕ → ℕ → Bool
 stepOf s n table rows roles u v =
     cond (leadsOf (getD roles u 0))
     (cond (verdictIn n table u v) (matchedOf s (rowAt rows u) (rowAt rows v) (getD roles v 0)) false)
     false
 
 -- the table of steps
-abbrev pub Matched : List ℕ → ℕ → List ℕ → List Row → List ℕ → List ℕ → Type 0
+abbrev pub Matched : List ℕ → ℕ → List ℕ → List (List ℕ) → List ℕ → List ℕ → Type 0
 Matched s n table rows roles steps =
     (u v : ℕ) → u < n → v < n → getD steps (u * 96 + v) 0 ≡ flag (stepOf s n table rows roles u v)
 
 -- an answer for the chains that the tables tell
-pub record Searched (s : List ℕ) (n : ℕ) (table : List ℕ) (rows : List Row) (roles : List ℕ) (target : ℕ) (r : Found) : Type 0 where
+pub record Searched (s : List ℕ) (n : ℕ) (table : List ℕ) (rows : List (List ℕ)) (roles : List ℕ) (target : ℕ) (r : Found) : Type 0 where
   pub steps : List ℕ
   pub matched : Matched s n table rows roles steps
   pub answer : Answered (graphOf n roles steps) target r
+
+-- the chain of the first anchor that has a good step to the target
+pub record Direct (s : List ℕ) (n : ℕ) (table : List ℕ) (rows : List (List ℕ)) (roles : List ℕ) (target : ℕ) (r : Found) : Type 0 where
+  pub from : ℕ
+  pub inside : from < n
+  pub anchor : getD roles from 0 ≡ 1
+  pub good : stepOf s n table rows roles from target ≡ true
+  pub first : (u : ℕ) → u < from → getD roles u 0 ≡ 1 → stepOf s n table rows roles u target ≡ false
+  pub count : r .length ≡ 2
+  pub slots : r .places ≡ (from ∷ target ∷ []) ++ replicate 94 255
+
+-- whether a chain of so many places settles a round
+unfoldable pub enoughOf : ℕ → ℕ → Bool
+enoughOf round length = cond (eqb round 4) true (cond (eqb length 0) false (leb length (round + 2)))

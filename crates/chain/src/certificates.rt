@@ -45,10 +45,12 @@ pub(crate) fn certificate_row(item: &[u8], e: IndexEntry, moment: u64) -> Row
     if f.end < moment {
         return blank_row();
     }
+    let first = f.first;
+    let second = f.second;
     Row {
         standing: kind,
-        first: f.first,
-        second: f.second,
+        first: first as usize,
+        second: second as usize,
         at: e.offset,
         size: e.length,
         issuer_at: f.issuer_at,

@@ -1,5 +1,7 @@
 // Which CRLs count.
 use crate::opened::Row;
+use crate::opened::row_at;
+use crate::opened::standing_at;
 ghost use mathlib.Core.Path.{_≡_};
 ghost use mathlib.Core.Bool.{cond};
 ghost use Prim.Native.Nat.{_≤_};
@@ -14,20 +16,22 @@ pub(crate) fn octet(table: &[u8], i: usize) -> u8
 }
 
 // 1 for each CRL that some usable anchor of its country has verdict 1 for.
-pub(crate) fn counting_lists(table: &[u8], places: usize, rows: [Row; 96]) -> [u8; 96]
+pub(crate) fn counting_lists(table: &[u8], places: usize, rows: &[[usize; 17]; 96]) -> [u8; 96]
     requires { ⌜ places ≤ 96 ⌝ }
-    ensures { λ r. ⌜ Counted places (now (table .entry)) rows r ⌝ }
+    ensures { λ r. ⌜ Counted places (now (table .entry)) (now (rows .entry)) r ⌝ }
 {
     let mut counting = [0u8; 96];
     let mut list = 0;
     while list < places {
-        let own = rows[list];
-        if own.standing == 4 {
+        if standing_at(rows, list) == 4 {
+            let own = row_at(rows, list);
             let mut vouched = 0;
             let mut anchor = 0;
             while anchor < places {
-                if octet(table, anchor * places + list) == 1 {
-                    vouched = vouched_by(rows[anchor], own, vouched);
+                if standing_at(rows, anchor) == 1 {
+                    if octet(table, anchor * places + list) == 1 {
+                        vouched = vouched_by(row_at(rows, anchor), own, vouched);
+                    }
                 }
                 anchor += 1;
             }

@@ -1,4 +1,5 @@
 // The chain from an enabled anchor to a document signer at a moment: the shortest, and of those the first.
+mod anchors;
 mod asking;
 mod certificates;
 mod counting;

@@ -20,10 +20,12 @@ pub(crate) fn list_row(item: &[u8], e: IndexEntry, moment: u64) -> Row
     if f.next_update < moment {
         return blank_row();
     }
+    let first = f.first;
+    let second = f.second;
     Row {
         standing: 4,
-        first: f.first,
-        second: f.second,
+        first: first as usize,
+        second: second as usize,
         at: e.offset,
         size: e.length,
         issuer_at: f.issuer_at,

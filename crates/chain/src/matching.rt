@@ -1,6 +1,7 @@
 // Which steps between usable places are good.
 use crate::counting::octet;
 use crate::opened::Row;
+use crate::opened::row_at;
 use crate::roles::piece;
 use elements::same;
 ghost use mathlib.Core.Path.{_≡_};
@@ -13,21 +14,21 @@ pub(crate) fn matching_steps(
     image: &[u8],
     table: &[u8],
     places: usize,
-    rows: [Row; 96],
+    rows: &[[usize; 17]; 96],
     roles: [u8; 96],
 ) -> [u8; 9216]
     requires { ⌜ places ≤ 96 ⌝ }
-    ensures { λ r. ⌜ Matched (now (image .entry)) places (now (table .entry)) rows roles r ⌝ }
+    ensures { λ r. ⌜ Matched (now (image .entry)) places (now (table .entry)) (now (rows .entry)) roles r ⌝ }
 {
     let mut steps = [0u8; 9216];
     let mut u = 0;
     while u < places {
         if leads(roles[u]) {
-            let from = rows[u];
+            let from = row_at(rows, u);
             let mut v = 0;
             while v < places {
                 if octet(table, u * places + v) == 1 {
-                    steps[u * 96 + v] = matched(image, from, rows[v], roles[v]);
+                    steps[u * 96 + v] = matched(image, from, row_at(rows, v), roles[v]);
                 }
                 v += 1;
             }
@@ -38,7 +39,7 @@ pub(crate) fn matching_steps(
 }
 
 // 1 where the second place can be led to and the two fit.
-fn matched(image: &[u8], u: Row, v: Row, role: u8) -> u8
+pub(crate) fn matched(image: &[u8], u: Row, v: Row, role: u8) -> u8
     ensures { λ r. ⌜ r ≡ flag (matchedOf (now (image .entry)) u v role) ⌝ }
 {
     if !led(role) {

@@ -82,7 +82,11 @@ fn with_signers(table: &[u8], places: usize, near: [u8; 96], roles: [u8; 96]) ->
         if led(roles[v]) {
             let mut u = 0;
             while u < places {
-                more[u] = marked(near[u], octet(table, u * places + v), more[u]);
+                if near[u] == 2 {
+                    if octet(table, u * places + v) == 1 {
+                        more[u] = 1;
+                    }
+                }
                 u += 1;
             }
         }

@@ -3,48 +3,49 @@ use crate::certificates::blank_row;
 use crate::certificates::certificate_row;
 use crate::lists::list_row;
 use crate::opened::Row;
+use crate::opened::cells_of;
 use image::IndexEntry;
 use image::entry_in;
 use image::part;
 ghost use mathlib.Core.Path.{_≡_};
 ghost use Prim.Native.Nat.{_≤_};
-ghost use mathlib.Core.Bool.{cond};
-ghost use lib.Dec.{eqb};
+ghost use lib.ListN.{length};
+ghost use Rattle.chain.specs.Near.{freshOf};
 ghost use Rattle.chain.specs.Rows.{rowOf, Opens};
-ghost use Rattle.image.specs.Index.{entryIn};
 
-// The rows of the places that are near; of those that were before they are handed on.
+// The rows of the places that were not near before; the others stay as they are.
 pub(crate) fn open_items(
     image: &[u8],
     places: usize,
     moment: u64,
     before: [u8; 96],
     near: [u8; 96],
-    rows: [Row; 96],
-) -> [Row; 96]
-    requires { ⌜ places ≤ 96 ⌝ }
-    ensures { λ r. ⌜ Opens moment (now (image .entry)) places before near rows r ⌝ }
+    rows: &mut [[usize; 17]; 96],
+)
+    requires { ⌜ (places ≤ 96) × (length (now rows) ≡ 96) ⌝ }
+    ensures { λ r. ⌜ (length (now (rows .exit)) ≡ 96) × Opens moment (now (image .entry)) places before near (now (rows .entry)) (now (rows .exit)) ⌝ }
 {
-    let none = blank_row();
-    let mut more = [none; 96];
     let mut place = 0;
     while place < places {
-        if near[place] == 1 {
-            more[place] = row_of(image, place, moment, before[place], rows[place]);
+        if fresh(before[place], near[place]) {
+            let cells = cells_of(open_item(image, entry_in(image, place), moment));
+            rows[place] = cells;
         }
         place += 1;
     }
-    more
 }
 
-// An item that was opened before is not opened again.
-fn row_of(image: &[u8], place: usize, moment: u64, before: u8, row: Row) -> Row
-    ensures { λ r. ⌜ r ≡ cond (eqb before 1) row (rowOf moment (now (image .entry)) (entryIn (now (image .entry)) place)) ⌝ }
+// Near now and not before.
+fn fresh(before: u8, near: u8) -> bool
+    ensures { λ r. ⌜ r ≡ freshOf before near ⌝ }
 {
-    if before == 1 {
-        return row;
+    if near != 1 {
+        return false;
     }
-    open_item(image, entry_in(image, place), moment)
+    if before == 1 {
+        return false;
+    }
+    true
 }
 
 // A disabled anchor is not opened.

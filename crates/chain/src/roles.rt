@@ -1,12 +1,12 @@
 // What each place may be in a chain.
 use crate::opened::Row;
+use crate::opened::row_at;
 use crl::listed;
 use elements::same;
 use image::part;
 ghost use mathlib.Core.Path.{_≡_};
-ghost use mathlib.Core.Bool.{false, cond};
-ghost use Prim.Native.Nat.{_≤_};
-ghost use lib.Dec.{eqb};
+ghost use Prim.Native.Nat.{ℕ, _≤_, _<_};
+ghost use lib.ListN.{getD};
 ghost use Rattle.chain.specs.Rows.{pieceOf, signedOf, spokenOf, roleBy, Roles};
 
 // 1 a usable anchor, 2 a usable link, 3 a usable signer, else 0; of the places that were near before the roles are handed on.
@@ -14,50 +14,51 @@ pub(crate) fn roles_of(
     image: &[u8],
     places: usize,
     before: [u8; 96],
-    rows: [Row; 96],
+    rows: &[[usize; 17]; 96],
     counting: [u8; 96],
     roles: [u8; 96],
 ) -> [u8; 96]
     requires { ⌜ places ≤ 96 ⌝ }
-    ensures { λ r. ⌜ Roles (now (image .entry)) places before rows counting roles r ⌝ }
+    ensures { λ r. ⌜ Roles (now (image .entry)) places before (now (rows .entry)) counting roles r ⌝ }
 {
+    let first = first_list(places, counting);
     let mut more = [0u8; 96];
     let mut place = 0;
     while place < places {
-        let own = rows[place];
-        let mut spoken = 0;
-        if asked(own, before[place]) {
-            let mut list = 0;
-            while list < places {
-                if counting[list] == 1 {
-                    spoken = spoken_by(image, rows[list], own, spoken);
+        if before[place] == 1 {
+            more[place] = roles[place];
+        } else {
+            let own = row_at(rows, place);
+            let mut spoken = 0;
+            if signed(own) {
+                let mut list = first;
+                while list < places {
+                    if counting[list] == 1 {
+                        spoken = spoken_by(image, row_at(rows, list), own, spoken);
+                    }
+                    list += 1;
                 }
-                list += 1;
             }
+            more[place] = role_of(own, spoken);
         }
-        more[place] = role_after(own, spoken, before[place], roles[place]);
         place += 1;
     }
     more
 }
 
-// A link or a signer that was not near before.
-fn asked(row: Row, before: u8) -> bool
-    ensures { λ r. ⌜ r ≡ cond (eqb before 1) false (signedOf row) ⌝ }
+// Where the counting CRLs begin.
+fn first_list(places: usize, counting: [u8; 96]) -> usize
+    requires { ⌜ places ≤ 96 ⌝ }
+    ensures { λ r. ⌜ (r ≤ places) × ((c : ℕ) → c < r → getD counting c 0 ≡ 1 → ⊥) ⌝ }
 {
-    if before == 1 {
-        return false;
+    let mut list = 0;
+    while list < places {
+        if counting[list] == 1 {
+            return list;
+        }
+        list += 1;
     }
-    signed(row)
-}
-
-fn role_after(row: Row, spoken: u8, before: u8, role: u8) -> u8
-    ensures { λ r. ⌜ r ≡ cond (eqb before 1) role (roleBy row spoken) ⌝ }
-{
-    if before == 1 {
-        return role;
-    }
-    role_of(row, spoken)
+    places
 }
 
 // A link or a signer.

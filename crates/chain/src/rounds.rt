@@ -1,26 +1,28 @@
 // The search over the places near the target, round by round.
-use crate::certificates::blank_row;
+use crate::anchors::begins;
+use crate::anchors::direct_chain;
 use crate::counting::counting_lists;
 use crate::matching::matching_steps;
 use crate::near::LAST;
 use crate::near::near_first;
 use crate::near::near_next;
 use crate::near::unchanged;
-use crate::opened::Row;
 use crate::opening::open_items;
 use crate::roles::roles_of;
 use graph::Found;
 use graph::chain_to;
 ghost use mathlib.Core.Path.{_≡_};
+ghost use mathlib.Core.Bool.{true};
 ghost use Prim.Native.Nat.{_≤_, _<_};
+ghost use lib.ListN.{replicate};
 ghost use Rattle.chain.specs.Answer.{goodChains};
-ghost use Rattle.chain.specs.Rows.{Searched};
+ghost use Rattle.chain.specs.Rows.{Searched, enoughOf};
 ghost use Rattle.graph.specs.Answer as search;
 ghost use Rattle.image.specs.Index.{entryCount};
 
 // Round 0 opens anchors, CRLs and the target, and each round goes a link further back from the target. So a round knows all
 // good chains of at most two places more than its number, and the last round all: a chain found that is as short is the best.
-// Where no round could open more, all good chains are known too.
+// In round 0 these are the steps from an anchor to the target. Where no round could open more, all good chains are known too.
 pub(crate) fn chain_among(
     image: &[u8],
     table: &[u8],
@@ -31,41 +33,81 @@ pub(crate) fn chain_among(
     requires { ⌜ (places ≡ entryCount (now image)) × (places ≤ 96) × (target < places) ⌝ }
     ensures { λ r. ⌜ search.Answered (goodChains (now (image .entry)) (now (table .entry)) moment) target r ⌝ }
 {
-    let none = blank_row();
     let nothing = [0u8; 96];
+    let mut rows = [[0usize; 17]; 96];
     let mut near = near_first(image, places, target);
-    let mut rows = open_items(image, places, moment, nothing, near, [none; 96]);
-    let counting = counting_lists(table, places, rows);
-    let mut roles = roles_of(image, places, nothing, rows, counting, nothing);
+    open_items(image, places, moment, nothing, near, &mut rows);
+    let counting = counting_lists(table, places, &rows);
+    let mut roles = roles_of(image, places, nothing, &rows, counting, nothing);
     if roles[target] != 3 {
-        return Found {
-            length: 0,
-            places: [255; 96],
-        };
+        return nowhere();
+    }
+    let direct = direct_chain(image, table, places, &rows, roles, target);
+    let two = direct.length;
+    if two != 0 {
+        return direct;
     }
     let mut round = 0;
     loop {
-        let found = searched(image, table, places, rows, roles, target);
-        let length = found.length;
-        if round == LAST {
-            return found;
-        }
-        if length != 0 {
-            if length <= round + 2 {
-                return found;
-            }
-        }
         round += 1;
         let wider = near_next(table, places, round, near, roles);
         if unchanged(places, near, wider) {
-            return found;
+            return searched(image, table, places, &rows, roles, target);
         }
-        let opened = open_items(image, places, moment, near, wider, rows);
-        let known = roles_of(image, places, near, opened, counting, roles);
+        open_items(image, places, moment, near, wider, &mut rows);
+        let known = roles_of(image, places, near, &rows, counting, roles);
+        if worthwhile(image, table, places, round, &rows, known) {
+            let found = searched(image, table, places, &rows, known, target);
+            let length = found.length;
+            if enough(length, round) {
+                return found;
+            }
+        }
         near = wider;
-        rows = opened;
         roles = known;
     }
+}
+
+// No chain.
+fn nowhere() -> Found
+    ensures { λ r. ⌜ (r .length ≡ 0) × (r .places ≡ replicate 96 255) ⌝ }
+{
+    Found {
+        length: 0,
+        places: [255; 96],
+    }
+}
+
+// Whether to search in a round: in the last one, and where an anchor leads to a link that is near.
+fn worthwhile(
+    image: &[u8],
+    table: &[u8],
+    places: usize,
+    round: usize,
+    rows: &[[usize; 17]; 96],
+    roles: [u8; 96],
+) -> bool
+    requires { ⌜ places ≤ 96 ⌝ }
+    ensures { λ r. ⌜ (round ≡ 4 → r ≡ true) ⌝ }
+{
+    if round == LAST {
+        return true;
+    }
+    begins(image, table, places, rows, roles)
+}
+
+// Whether a chain of so many places settles a round: any in the last one, else one that is short enough.
+fn enough(length: usize, round: usize) -> bool
+    requires { ⌜ round ≤ 4 ⌝ }
+    ensures { λ r. ⌜ r ≡ enoughOf round length ⌝ }
+{
+    if round == LAST {
+        return true;
+    }
+    if length == 0 {
+        return false;
+    }
+    length <= round + 2
 }
 
 // The search over the tables of a round.
@@ -73,12 +115,12 @@ fn searched(
     image: &[u8],
     table: &[u8],
     places: usize,
-    rows: [Row; 96],
+    rows: &[[usize; 17]; 96],
     roles: [u8; 96],
     target: usize,
 ) -> Found
     requires { ⌜ places ≤ 96 ⌝ }
-    ensures { λ r. ⌜ Searched (now (image .entry)) places (now (table .entry)) rows roles target r ⌝ }
+    ensures { λ r. ⌜ Searched (now (image .entry)) places (now (table .entry)) (now (rows .entry)) roles target r ⌝ }
 {
     let steps = matching_steps(image, table, places, rows, roles);
     chain_to(places, &roles, &steps, target)

@@ -37,6 +37,12 @@ returns-3 : tie.Need-returns-3
 unfolding certificateRow within
 returns-3 c = rw (sym (c .before .before .before .before .before .before .before .before .judge .ensures) ∙ c .before .before .before .before .before .before .f .given .1, le-leb _ _ (c .before .before .before .if1 .left), lt-leb _ _ (c .before .if2 .taken)) (c .blank-row3 .ensures)
 
+cast-t11 : tie.Need-cast-t11
+cast-t11 c = search needs
+
+cast-t12 : tie.Need-cast-t12
+cast-t12 c = search needs
+
 returns-4 : tie.Need-returns-4
 unfolding certificateRow within
 returns-4 c = rw (sym (c .before .before .before .before .before .before .before .judge .ensures) ∙ c .before .before .before .before .before .f .given .1, le-leb _ _ (c .before .before .if1 .left), le-leb _ _ (c .if2 .left))
@@ -54,4 +60,6 @@ certificate-row-spec =
     returns-2
     blank-row-requires-3
     returns-3
+    cast-t11
+    cast-t12
     returns-4)

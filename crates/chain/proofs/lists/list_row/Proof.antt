@@ -37,6 +37,12 @@ returns-3 : tie.Need-returns-3
 unfolding listRow within
 returns-3 c = rw (sym (c .before .before .before .before .before .before .before .before .judge .ensures) ∙ c .before .before .before .before .before .before .f .given .1, le-leb _ _ (c .before .before .before .if1 .left), lt-leb _ _ (c .before .if2 .taken)) (c .blank-row3 .ensures)
 
+cast-t9 : tie.Need-cast-t9
+cast-t9 c = search needs
+
+cast-t10 : tie.Need-cast-t10
+cast-t10 c = search needs
+
 returns-4 : tie.Need-returns-4
 unfolding listRow within
 returns-4 c = rw (sym (c .before .before .before .before .before .before .before .judge .ensures) ∙ c .before .before .before .before .before .f .given .1, le-leb _ _ (c .before .before .if1 .left), le-leb _ _ (c .if2 .left))
@@ -54,4 +60,6 @@ list-row-spec =
     returns-2
     blank-row-requires-3
     returns-3
+    cast-t9
+    cast-t10
     returns-4)

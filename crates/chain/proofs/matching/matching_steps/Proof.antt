@@ -9,14 +9,9 @@ use lib.ListN.{length, length-set, length-replicate}
 use Rattle.chain.specs.Rows.{flag, stepOf}
 use Rattle.chain.proofs.Slots.{empty-slots}
 use Rattle.chain.proofs.Cells.{Cells, cell-set, cell-left, row-done, row-left}
-use Rattle.chain.proofs.RowLaws.{row-read, step-asked, step-unasked, step-unled}
+use Rattle.chain.proofs.RowLaws.{step-asked, step-unasked, step-unled}
 use Rattle.chain.proofs.matching.matching_steps.Statement.{statement}
 use Rattle.chain.proofs.matching.matching_steps.Tie as tie
-use Rattle.chain.proofs.matching.matching_steps.Reads as reads
-use Rattle.chain.proofs.matching.matching_steps.Lts as lts
-use Rattle.chain.proofs.counting.octet.Reads as octet-reads
-use Rattle.chain.proofs.matching.leads.Reads as leads-reads
-use Rattle.chain.proofs.matching.matched.Reads as matched-reads
 
 abbrev Inv-loop2 : tie.InvT-loop2
 Inv-loop2 image table places rows roles steps₀ u from v₀ steps v = (v ≤ places) × (length steps ≡ 9216) × Cells (λ w x. flag (stepOf image places table rows roles w x)) places steps u v
@@ -30,95 +25,66 @@ Inv-loop image table places rows roles steps₀ u₀ steps u = (u ≤ places) ×
 abbrev μ-loop : tie.MeasureT-loop
 μ-loop image table places rows roles steps₀ u₀ steps u = places - u
 
--- src/matching.rt:23:5
 loop-holds : tie.Need-loop-holds Inv-loop2 μ-loop2 Inv-loop μ-loop
 loop-holds c = (omega arith, length-replicate {A = ℕ} 9216 0, record { before = λ w x k h. absurd (omega arith); behind = λ w x k h. empty-slots 9216 (w * 96 + x) })
 
--- src/matching.rt:24:18
 array-read-leads : tie.Need-array-read-leads Inv-loop2 μ-loop2 Inv-loop μ-loop
 array-read-leads c = omega (arith, c .before .before .before .before .pre, c .loop-test .taken)
 
--- src/matching.rt:24:12
 leads-requires : tie.Need-leads-requires Inv-loop2 μ-loop2 Inv-loop μ-loop
 leads-requires c κs = search needs
 
--- src/matching.rt:25:24
-mul-from : tie.Need-mul-from Inv-loop2 μ-loop2 Inv-loop μ-loop
-mul-from c = omega (arith, c .before .before .before .before .before .before .pre, c .before .before .loop-test .taken)
+row-at-requires : tie.Need-row-at-requires Inv-loop2 μ-loop2 Inv-loop μ-loop
+row-at-requires c κs = omega (arith, c .before .before .before .before .before .before .pre, c .before .before .loop-test .taken)
 
--- src/matching.rt:25:24
-array-copy-out-from : tie.Need-array-copy-out-from Inv-loop2 μ-loop2 Inv-loop μ-loop
-array-copy-out-from c = omega (arith, c .before .before .before .before .before .before .pre, c .before .before .loop-test .taken)
-
--- src/matching.rt:27:13
 loop2-holds : tie.Need-loop2-holds Inv-loop2 μ-loop2 Inv-loop μ-loop
 loop2-holds c = (omega arith, c .before .before .before .before .loop .inv .1, c .before .before .before .before .loop .inv .2)
 
--- src/matching.rt:28:33
 mul-octet : tie.Need-mul-octet Inv-loop2 μ-loop2 Inv-loop μ-loop
-mul-octet c = let m : c .before .before .before .before .before .before .loop .u * c .before .before .before .before .before .before .before .before .before .args .places ≤ 96 * 96 = mul-le-mul {n₂ = 96} {m₂ = 96} (omega (arith, c .before .before .before .before .before .before .before .before .before .pre, c .before .before .before .before .before .loop-test .taken)) (omega (arith, c .before .before .before .before .before .before .before .before .before .pre)) in omega (arith, m, c .before .before .before .before .before .before .before .before .before .pre, c .before .before .before .before .before .loop-test .taken, c .loop2-test .taken)
+mul-octet c = let m : c .before .before .before .before .before .before .loop .u * c .before .before .before .before .before .before .before .before .before .args .places ≤ 96 * 96 = mul-le-mul {n₂ = 96} {m₂ = 96} (omega (arith, c .before .before .before .before .before .before .before .before .before .pre, c .before .before .before .before .before .loop-test .taken, c .loop2-test .taken)) (omega (arith, c .before .before .before .before .before .before .before .before .before .pre)) in omega (arith, m, c .before .before .before .before .before .before .before .before .before .pre, c .before .before .before .before .before .loop-test .taken, c .loop2-test .taken)
 
--- src/matching.rt:28:33
 add-octet : tie.Need-add-octet Inv-loop2 μ-loop2 Inv-loop μ-loop
-add-octet c = let m : c .before .before .before .before .before .before .loop .u * c .before .before .before .before .before .before .before .before .before .args .places ≤ 96 * 96 = mul-le-mul {n₂ = 96} {m₂ = 96} (omega (arith, c .before .before .before .before .before .before .before .before .before .pre, c .before .before .before .before .before .loop-test .taken)) (omega (arith, c .before .before .before .before .before .before .before .before .before .pre)) in omega (arith, m, c .before .before .before .before .before .before .before .before .before .pre, c .before .before .before .before .before .loop-test .taken, c .loop2-test .taken)
+add-octet c = let m : c .before .before .before .before .before .before .loop .u * c .before .before .before .before .before .before .before .before .before .args .places ≤ 96 * 96 = mul-le-mul {n₂ = 96} {m₂ = 96} (omega (arith, c .before .before .before .before .before .before .before .before .before .pre, c .before .before .before .before .before .loop-test .taken, c .loop2-test .taken)) (omega (arith, c .before .before .before .before .before .before .before .before .before .pre)) in omega (arith, m, c .before .before .before .before .before .before .before .before .before .pre, c .before .before .before .before .before .loop-test .taken, c .loop2-test .taken)
 
--- src/matching.rt:28:20
 octet-requires : tie.Need-octet-requires Inv-loop2 μ-loop2 Inv-loop μ-loop
 octet-requires c κs = search needs
 
--- src/matching.rt:29:62
-mul-matched : tie.Need-mul-matched Inv-loop2 μ-loop2 Inv-loop μ-loop
-mul-matched c = omega (arith, c .before .before .before .before .before .before .before .before .before .before .before .pre, c .before .before .loop2-test .taken)
+row-at-requires-2 : tie.Need-row-at-requires-2 Inv-loop2 μ-loop2 Inv-loop μ-loop
+row-at-requires-2 c κs = omega (arith, c .before .before .before .before .before .before .before .before .before .before .before .pre, c .before .before .loop2-test .taken)
 
--- src/matching.rt:29:62
-array-copy-out-matched : tie.Need-array-copy-out-matched Inv-loop2 μ-loop2 Inv-loop μ-loop
-array-copy-out-matched c = omega (arith, c .before .before .before .before .before .before .before .before .before .before .before .pre, c .before .before .loop2-test .taken)
-
--- src/matching.rt:29:71
 array-read-matched : tie.Need-array-read-matched Inv-loop2 μ-loop2 Inv-loop μ-loop
 array-read-matched c = omega (arith, c .before .before .before .before .before .before .before .before .before .before .before .before .pre, c .before .before .before .loop2-test .taken)
 
--- src/matching.rt:29:41
 matched-requires : tie.Need-matched-requires Inv-loop2 μ-loop2 Inv-loop μ-loop
 matched-requires c κs = search needs
 
--- src/matching.rt:29:27
 mul-steps : tie.Need-mul-steps Inv-loop2 μ-loop2 Inv-loop μ-loop
 mul-steps c = omega (arith, c .before .before .before .before .before .before .before .before .before .before .before .before .before .pre, c .before .before .before .before .before .before .before .before .before .loop-test .taken, c .before .before .before .before .loop2-test .taken)
 
--- src/matching.rt:29:27
 add-steps : tie.Need-add-steps Inv-loop2 μ-loop2 Inv-loop μ-loop
 add-steps c = omega (arith, c .before .before .before .before .before .before .before .before .before .before .before .before .before .pre, c .before .before .before .before .before .before .before .before .before .loop-test .taken, c .before .before .before .before .loop2-test .taken)
 
--- src/matching.rt:29:21
 array-write-steps : tie.Need-array-write-steps Inv-loop2 μ-loop2 Inv-loop μ-loop
 array-write-steps c = omega (arith, c .before .before .before .before .before .before .before .before .before .before .before .before .before .pre, c .before .before .before .before .before .before .before .before .before .loop-test .taken, c .before .before .before .before .loop2-test .taken)
 
--- src/matching.rt:31:17
 add-v : tie.Need-add-v Inv-loop2 μ-loop2 Inv-loop μ-loop
 add-v c = omega (arith, c .before .before .before .before .before .before .before .before .before .before .before .pre, c .before .before .loop2-test .taken)
 
--- src/matching.rt:27:13
 loop2-less : tie.Need-loop2-less Inv-loop2 μ-loop2 Inv-loop μ-loop
 loop2-less c = omega (arith, c .before .before .loop2-test .taken)
 
--- src/matching.rt:27:13
 loop2-again : tie.Need-loop2-again Inv-loop2 μ-loop2 Inv-loop μ-loop
-loop2-again c = (omega (arith, c .before .before .loop2-test .taken), ⊎-elim (λ w. rw (w .3, length-set) (c .before .before .before .loop2 .inv .1)) (λ w. rw (w .1) (c .before .before .before .loop2 .inv .1)) (c .if2 .came), ⊎-elim (λ w. rw (w .3) (cell-set (c .before .before .before .before .before .before .before .before .before .before .before .pre) (c .before .before .before .loop2 .inv .2) (c .before .before .loop2-test .taken) (omega (arith, c .before .before .before .loop2 .inv .1, c .before .before .before .before .before .before .before .before .before .before .before .pre, c .before .before .before .before .before .before .before .loop-test .taken, c .before .before .loop2-test .taken)) (step-asked _ _ _ _ _ _ _ (row-read _ _) (row-read _ _) refl refl (sym (c .before .before .before .before .before .before .leads .ensures) ∙ c .before .before .before .before .before .if1 .taken) (c .before .octet .ensures) (w .0 .taken) (w .2 .ensures)))) (λ w. rw (w .1) (cell-left (c .before .before .before .before .before .before .before .before .before .before .before .pre) (c .before .before .before .loop2 .inv .2) (c .before .before .loop2-test .taken) (step-unasked _ _ _ _ _ _ _ refl (sym (c .before .before .before .before .before .before .leads .ensures) ∙ c .before .before .before .before .before .if1 .taken) (c .before .octet .ensures) (w .0 .left)))) (c .if2 .came))
+loop2-again c = (omega (arith, c .before .before .loop2-test .taken), ⊎-elim (λ w. rw (w .3, length-set) (c .before .before .before .loop2 .inv .1)) (λ w. rw (w .1) (c .before .before .before .loop2 .inv .1)) (c .if2 .came), ⊎-elim (λ w. rw (w .3) (cell-set (c .before .before .before .before .before .before .before .before .before .before .before .pre) (c .before .before .before .loop2 .inv .2) (c .before .before .loop2-test .taken) (omega (arith, c .before .before .before .loop2 .inv .1, c .before .before .before .before .before .before .before .before .before .before .before .pre, c .before .before .before .before .before .before .before .loop-test .taken, c .before .before .loop2-test .taken)) (step-asked _ _ _ _ _ _ _ (c .before .before .before .before .row-at .ensures) (w .1 .ensures) refl refl (sym (c .before .before .before .before .before .before .leads .ensures) ∙ c .before .before .before .before .before .if1 .taken) (c .before .octet .ensures) (w .0 .taken) (w .2 .ensures)))) (λ w. rw (w .1) (cell-left (c .before .before .before .before .before .before .before .before .before .before .before .pre) (c .before .before .before .loop2 .inv .2) (c .before .before .loop2-test .taken) (step-unasked _ _ _ _ _ _ _ refl (sym (c .before .before .before .before .before .before .leads .ensures) ∙ c .before .before .before .before .before .if1 .taken) (c .before .octet .ensures) (w .0 .left)))) (c .if2 .came))
 
--- src/matching.rt:34:9
 add-u : tie.Need-add-u Inv-loop2 μ-loop2 Inv-loop μ-loop
 add-u c = omega (arith, c .before .before .before .before .before .before .pre, c .before .before .loop-test .taken)
 
--- src/matching.rt:23:5
 loop-less : tie.Need-loop-less Inv-loop2 μ-loop2 Inv-loop μ-loop
 loop-less c = omega (arith, c .before .before .loop-test .taken)
 
--- src/matching.rt:23:5
 loop-again : tie.Need-loop-again Inv-loop2 μ-loop2 Inv-loop μ-loop
 loop-again c = (omega (arith, c .before .before .loop-test .taken), ⊎-elim (λ w. rw (w .4) (w .2 .inv .1)) (λ w. rw (w .1) (c .before .before .before .loop .inv .1)) (c .if1 .came), ⊎-elim (λ w. rw (w .4) (row-done (c .before .before .before .before .before .before .pre) (omega (arith, w .2 .inv .0, w .3 .left)) (w .2 .inv .2))) (λ w. rw (w .1) (row-left (c .before .before .before .before .before .before .pre) (c .before .before .before .loop .inv .2) (λ x k. step-unled _ _ _ _ _ _ x refl (sym (c .before .leads .ensures) ∙ w .0 .left)))) (c .if1 .came))
 
--- src/matching.rt:11:1
 returns : tie.Need-returns Inv-loop2 μ-loop2 Inv-loop μ-loop
 returns c = λ u v h k. c .before .loop .inv .2 .before u v k (omega (arith, c .before .before .before .before .pre, c .loop-test .left, c .before .loop .inv .0))
 
@@ -133,14 +99,12 @@ matching-steps-spec =
     loop-holds
     array-read-leads
     leads-requires
-    mul-from
-    array-copy-out-from
+    row-at-requires
     loop2-holds
     mul-octet
     add-octet
     octet-requires
-    mul-matched
-    array-copy-out-matched
+    row-at-requires-2
     array-read-matched
     matched-requires
     mul-steps

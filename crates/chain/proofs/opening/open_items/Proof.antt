@@ -1,61 +1,59 @@
 -- The rows of the places so far are told.
 use Prim.Native.Nat.{_-_, _≤_}
-use mathlib.Core.Path.{_≡_, refl}
+use mathlib.Core.Path.{_≡_, refl, sym, _∙_}
 use mathlib.Core.Logic.{⊎-elim}
 use native.Mathlib.Omega.{arith}
 use borrow.Author.Needs.{needs}
 use lib.ListN.{length, length-set}
-use Rattle.chain.specs.Rows.{blank, rowAt, rowIn}
-use Rattle.chain.proofs.Slots.{Upto, slot-set, slot-left}
-use Rattle.chain.proofs.RowLaws.{row-read, row-near, row-far, blank-slots}
+use Rattle.chain.specs.Rows.{rowIn}
+use Rattle.chain.proofs.RowLaws.{Rewritten, row-set, row-left, row-fresh, row-stays}
 use Rattle.chain.proofs.opening.open_items.Statement.{statement}
 use Rattle.chain.proofs.opening.open_items.Tie as tie
 
 abbrev Inv-loop : tie.InvT-loop
-Inv-loop image places moment before near rows more₀ place₀ more place = (place ≤ places) × (length more ≡ 96) × Upto blank (rowIn moment image before near rows) more place
+Inv-loop image places moment rows₀ before near place₀ rows place = (place ≤ places) × (length rows ≡ 96) × Rewritten (rowIn moment image before near rows₀) rows₀ rows place
 
 abbrev μ-loop : tie.MeasureT-loop
-μ-loop image places moment before near rows more₀ place₀ more place = places - place
-
-blank-row-requires : tie.Need-blank-row-requires Inv-loop μ-loop
-blank-row-requires c κs = search needs
+μ-loop image places moment rows₀ before near place₀ rows place = places - place
 
 loop-holds : tie.Need-loop-holds Inv-loop μ-loop
-loop-holds c = (omega arith, refl, record { before = λ c h. absurd (omega arith); behind = λ k h. blank-slots (c .blank-row .ensures) 96 k })
+loop-holds c = (omega arith, c .before .pre .1, record { before = λ k h. absurd (omega arith); behind = λ k h. refl })
 
-array-read-if1 : tie.Need-array-read-if1 Inv-loop μ-loop
-array-read-if1 c = omega (arith, c .before .before .before .before .pre, c .loop-test .taken)
+array-read-fresh : tie.Need-array-read-fresh Inv-loop μ-loop
+array-read-fresh c = omega (arith, c .before .before .before .pre .0, c .loop-test .taken)
 
-array-read-row-of : tie.Need-array-read-row-of Inv-loop μ-loop
-array-read-row-of c = omega (arith, c .before .before .before .before .before .pre, c .before .loop-test .taken)
+array-read-fresh-2 : tie.Need-array-read-fresh-2 Inv-loop μ-loop
+array-read-fresh-2 c = omega (arith, c .before .before .before .pre .0, c .loop-test .taken)
 
-mul-row-of : tie.Need-mul-row-of Inv-loop μ-loop
-mul-row-of c = omega (arith, c .before .before .before .before .before .pre, c .before .loop-test .taken)
+fresh-requires : tie.Need-fresh-requires Inv-loop μ-loop
+fresh-requires c κs = search needs
 
-array-copy-out-row-of : tie.Need-array-copy-out-row-of Inv-loop μ-loop
-array-copy-out-row-of c = omega (arith, c .before .before .before .before .before .pre, c .before .loop-test .taken)
+entry-in-requires : tie.Need-entry-in-requires Inv-loop μ-loop
+entry-in-requires c κs = search needs
 
-row-of-requires : tie.Need-row-of-requires Inv-loop μ-loop
-row-of-requires c κs = search needs
+open-item-requires : tie.Need-open-item-requires Inv-loop μ-loop
+open-item-requires c κs = search needs
 
-mul-more : tie.Need-mul-more Inv-loop μ-loop
-mul-more c = omega (arith, c .before .before .before .before .before .before .before .pre, c .before .before .before .loop-test .taken)
+cells-of-requires : tie.Need-cells-of-requires Inv-loop μ-loop
+cells-of-requires c κs = search needs
 
-array-set-from-more : tie.Need-array-set-from-more Inv-loop μ-loop
-array-set-from-more c = omega (arith, c .before .before .before .before .before .before .before .pre, c .before .before .before .loop-test .taken)
+mul-cells : tie.Need-mul-cells Inv-loop μ-loop
+mul-cells c = omega (arith, c .before .before .before .before .before .before .before .before .pre .0, c .before .before .before .before .before .loop-test .taken)
+
+element-set-from-cells : tie.Need-element-set-from-cells Inv-loop μ-loop
+element-set-from-cells c = omega (arith, c .before .before .before .before .before .before .before .before .pre .0, c .before .before .before .before .before .loop-test .taken, c .before .before .before .before .before .before .loop .inv .1)
 
 add-place : tie.Need-add-place Inv-loop μ-loop
-add-place c = omega (arith, c .before .before .before .before .before .pre, c .before .loop-test .taken)
+add-place c = omega (arith, c .before .before .before .before .before .pre .0, c .before .before .loop-test .taken)
 
 loop-less : tie.Need-loop-less Inv-loop μ-loop
-loop-less c = omega (arith, c .before .loop-test .taken)
+loop-less c = omega (arith, c .before .before .loop-test .taken)
 
 loop-again : tie.Need-loop-again Inv-loop μ-loop
-loop-again c = (omega (arith, c .before .loop-test .taken), ⊎-elim (λ w. rw (w .3, length-set) (c .before .before .loop .inv .1)) (λ w. rw (w .1) (c .before .before .loop .inv .1)) (c .if1 .came), ⊎-elim (λ w. rw (w .3) (slot-set (c .before .before .loop .inv .2) (omega (arith, c .before .before .loop .inv .1, c .before .before .before .before .before .pre, c .before .loop-test .taken)) (row-near _ _ _ _ _ _ (row-read _ _) (w .0 .taken) (w .2 .ensures)))) (λ w. rw (w .1) (slot-left (c .before .before .loop .inv .2) (row-far _ _ _ _ _ _ (w .0 .left)))) (c .if1 .came))
+loop-again c = (omega (arith, c .before .before .loop-test .taken), ⊎-elim (λ w. rw (w .4, length-set) (c .before .before .before .loop .inv .1)) (λ w. rw (w .1) (c .before .before .before .loop .inv .1)) (c .if1 .came), ⊎-elim (λ w. rw (w .4) (row-set _ (c .before .before .before .loop .inv .2) (omega (arith, c .before .before .before .loop .inv .1, c .before .before .before .before .before .pre .0, c .before .before .loop-test .taken)) (w .3 .ensures ∙ row-fresh _ _ _ _ _ _ (sym (c .before .fresh .ensures) ∙ w .0 .taken) (w .1 .ensures) (w .2 .ensures)))) (λ w. rw (w .1) (row-left (c .before .before .before .loop .inv .2) (row-stays _ _ _ _ _ _ (sym (c .before .fresh .ensures) ∙ w .0 .left)))) (c .if1 .came))
 
 returns : tie.Need-returns Inv-loop μ-loop
-unfolding rowAt
-returns c = let all : c .before .loop .place ≡ c .before .before .before .before .args .places = omega (arith, c .loop-test .left, c .before .loop .inv .0) in λ k h. c .before .loop .inv .2 .before k (omega arith)
+returns c = (c .before .loop .inv .1, λ k h. c .before .loop .inv .2 .before k (omega (arith, c .loop-test .left)))
 
 pub open-items-spec : {M : Type 1} → statement M
 open-items-spec =
@@ -63,15 +61,15 @@ open-items-spec =
     (tie.spec
     Inv-loop
     μ-loop
-    blank-row-requires
     loop-holds
-    array-read-if1
-    array-read-row-of
-    mul-row-of
-    array-copy-out-row-of
-    row-of-requires
-    mul-more
-    array-set-from-more
+    array-read-fresh
+    array-read-fresh-2
+    fresh-requires
+    entry-in-requires
+    open-item-requires
+    cells-of-requires
+    mul-cells
+    element-set-from-cells
     add-place
     loop-less
     loop-again

@@ -1,0 +1,85 @@
+// The steps from an anchor, looked at before a search.
+use crate::counting::octet;
+use crate::matching::matched;
+use crate::opened::row_at;
+use graph::Found;
+ghost use mathlib.Core.Path.{_≡_};
+ghost use mathlib.Core.Bool.{true};
+ghost use mathlib.Core.List.{[], _∷_, _++_};
+ghost use Prim.Native.Nat.{ℕ, _≤_, _<_};
+ghost use lib.ListN.{replicate};
+ghost use Rattle.chain.specs.Rows.{stepOf, Direct};
+
+// The chain of the first anchor that has a good step to the target; length 0 where none has.
+pub(crate) fn direct_chain(
+    image: &[u8],
+    table: &[u8],
+    places: usize,
+    rows: &[[usize; 17]; 96],
+    roles: [u8; 96],
+    target: usize,
+) -> Found
+    requires { ⌜ (places ≤ 96) × (target < places) ⌝ }
+    ensures { λ r. ⌜ ((r .length ≡ 0 → ⊥) → Direct (now (image .entry)) places (now (table .entry)) (now (rows .entry)) roles target r) ⌝ }
+{
+    let mut u = 0;
+    while u < places {
+        if roles[u] == 1 {
+            if octet(table, u * places + target) == 1 {
+                if matched(image, row_at(rows, u), row_at(rows, target), roles[target]) == 1 {
+                    return pair(u, target);
+                }
+            }
+        }
+        u += 1;
+    }
+    Found {
+        length: 0,
+        places: [255; 96],
+    }
+}
+
+// A chain of two places.
+fn pair(u: usize, v: usize) -> Found
+    requires { ⌜ (u < 96) × (v < 96) ⌝ }
+    ensures { λ r. ⌜ (r .length ≡ 2) × (r .places ≡ (u ∷ v ∷ []) ++ replicate 94 255) ⌝ }
+{
+    let mut slots = [255u8; 96];
+    slots[0] = u as u8;
+    slots[1] = v as u8;
+    Found {
+        length: 2,
+        places: slots,
+    }
+}
+
+// Whether an anchor has a good step to a link.
+pub(crate) fn begins(
+    image: &[u8],
+    table: &[u8],
+    places: usize,
+    rows: &[[usize; 17]; 96],
+    roles: [u8; 96],
+) -> bool
+    requires { ⌜ places ≤ 96 ⌝ }
+    ensures { λ r. ⌜ (r ≡ true → (u : ℕ) × (v : ℕ) × (stepOf (now (image .entry)) places (now (table .entry)) (now (rows .entry)) roles u v ≡ true)) ⌝ }
+{
+    let mut u = 0;
+    while u < places {
+        if roles[u] == 1 {
+            let mut v = 0;
+            while v < places {
+                if roles[v] == 2 {
+                    if octet(table, u * places + v) == 1 {
+                        if matched(image, row_at(rows, u), row_at(rows, v), 2) == 1 {
+                            return true;
+                        }
+                    }
+                }
+                v += 1;
+            }
+        }
+        u += 1;
+    }
+    false
+}
