@@ -122,7 +122,8 @@ fn outermost(item: &[u8]) -> usize
 }
 
 // The count of elements when those that fill `s` have been read, the contents of the outermost, if nothing is wrong with
-// any; else 0. `ends` has the end of each element that is open, the innermost at `top`.
+// any; else 0. `ends` has the end of each element that is open, the innermost at `top`. An item of 4,032 elements or more,
+// or with more than 13 open at once, is left to `element`, so that `flat` meets no limit.
 fn sound(s: &[u8]) -> usize
     requires { ⌜ length (now s) ≤ 16384 ⌝ }
     ensures { λ r. ⌜ (0 < r → (base fuel : ℕ) → 2 * length (now (s .entry)) + 2 ≤ fuel → Passed r ≡ listAt fuel paper (now (s .entry)) base 2 1) ⌝ }
