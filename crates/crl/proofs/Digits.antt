@@ -18,7 +18,7 @@ use Rattle.times.proofs.Years.{short-read, in-two-thousands, in-nineteen-hundre
 use Rattle.calendar.specs.Days.{leap, monthLength}
 use Rattle.calendar.proofs.Days.{by-test, length-two, length-rule, february-leap, february-common}
 use Rattle.crl.specs.Entries.{isTime}
-use Rattle.crl.specs.Plain.{valueOf, PlainDate, PlainClock}
+use Rattle.crl.specs.Plain.{valueOf, PlainDate}
 use Rattle.crl.proofs.Words.{word, Each, ands, upper, below, plus, word-plus, each, word-most, takeOff, word-off, pairsOf, word-pairs, word-tail, word-third, word-fifth}
 
 pub never : {A : Type 0} → false ≡ true → A
@@ -167,6 +167,15 @@ module _
         → p ≡ (x + y * 0x100000000 - 0x3030303030303030) * 10 + (x + y * 0x100000000 - 0x3030303030303030) / 256
         → bitAnd (p + 0x0068006300730000) 0x0080008000800080 ≡ 0 → (p / 0x10000 % 256 ≡ 0 → ⊥) → (p / 0x100000000 % 256 ≡ 0 → ⊥) → PlainDate c
     date-told more p-is = plain-date c (digits _ _ _ _ _ _ _ _ date-uppers (rw date-is at more)) _ _ date-is p-is
+
+-- minute and second
+pub record PlainClock (c : List ℕ) : Type 0 where
+  pub minute-tens : Digit (getD c 8 0)
+  pub minute-ones : Digit (getD c 9 0)
+  pub second-tens : Digit (getD c 10 0)
+  pub second-ones : Digit (getD c 11 0)
+  pub minute-high : valueOf (getD c 8 0) (getD c 9 0) ≤ 59
+  pub second-high : valueOf (getD c 10 0) (getD c 11 0) ≤ 59
 
 -- the four octets of minute and second
 abbrev pub clockOf : List ℕ → List ℕ

@@ -105,32 +105,42 @@ module _ {s : List ℕ} {at end time : ℕ} (tag : getD s time 0 ≡ 0x17) (size
   pub usual : {next : ℕ} → next ≡ time + 15 → Short s at end 0x30 next → Short s (at + 2) next 0x02 time → Usual s at end time
   usual long entry first = usual-at (rw long at entry) (rw long at first)
 
+own-size : (at n : ℕ) → at + 4 + n - at - 4 ≡ n
+own-size at n = omega arith
+
 -- tag and length in one number
 pub header-told : {a b r : ℕ} → a < 256 → r ≡ ((0 * 256 + 0) * 256 + b) * 256 + a → r ≡ 0x0d17 → (a ≡ 0x17) × (b ≡ 13)
 header-told h e f = (omega arith, omega arith)
 
-pub left-told : (size at end : ℕ) → 19 ≤ end → at ≤ end - 19 → leb size (end - at - 2) ≡ true → at + 2 + size ≤ end
-left-told size at end h g e = omega (arith, h, g, leb-true size (end - at - 2) e)
+pub left-told : (size at end : ℕ) → at + 4 ≤ end → leb size (end - at - 2) ≡ true → at + 2 + size ≤ end
+left-told size at end h e = omega (arith, h, leb-true size (end - at - 2) e)
 
--- an entry that opens so, with the UTCTime after its serial
+-- an entry that opens so, and a serial that it has room for
 module _ {s : List ℕ} {at end : ℕ} (o : Opening s at end) where
-  -- its time ends with it
-  pub opened-ends : at + 2 + getD s (at + 1) 0 ≡ at + 4 + getD s (at + 3) 0 + 15
-  opened-ends = omega (arith, o .size)
-
-  opened : Short s at end 0x30 (at + 2 + getD s (at + 1) 0)
+  pub opened : Short s at end 0x30 (at + 2 + getD s (at + 1) 0)
   unfolding identifierGood
   opened = short 0x30 refl (short-there s at end 0x30 (o .inside) (omega (arith, o .fits)) (o .tag) (o .brief) (o .fits)) (omega arith)
 
-  serial-first : Short s (at + 2) (at + 2 + getD s (at + 1) 0) 0x02 (at + 4 + getD s (at + 3) 0)
+  pub serial-first : getD s (at + 3) 0 + 2 ≤ getD s (at + 1) 0 → Short s (at + 2) (at + 2 + getD s (at + 1) 0) 0x02 (at + 4 + getD s (at + 3) 0)
   unfolding identifierGood
-  serial-first =
+  serial-first h =
       let three : getD s (at + 2 + 1) 0 ≡ getD s (at + 3) 0 = ap (λ (i : ℕ). getD s i 0) (omega arith) in
       let ends : at + 4 + getD s (at + 3) 0 ≡ at + 2 + 2 + getD s (at + 2 + 1) 0 = omega (arith, three) in
       short 0x02 refl
-      (ends ∙ short-there s (at + 2) (at + 2 + getD s (at + 1) 0) 0x02 (omega (arith, o .fits, o .inside)) (omega (arith, o .size)) (o .first)
-      (omega (arith, three, o .size, o .brief)) (omega (arith, three, o .size)))
+      (ends ∙ short-there s (at + 2) (at + 2 + getD s (at + 1) 0) 0x02 (omega (arith, o .fits, o .inside)) (omega (arith, h)) (o .first)
+      (omega (arith, three, h, o .brief)) (omega (arith, three, h)))
       (omega arith)
 
-  pub opened-usual : getD s (at + 4 + getD s (at + 3) 0) 0 ≡ 0x17 → getD s (at + 4 + getD s (at + 3) 0 + 1) 0 ≡ 13 → Usual s at end (at + 4 + getD s (at + 3) 0)
-  opened-usual tag size = usual tag size opened-ends opened serial-first
+  -- with the UTCTime after the serial, which ends with the entry
+  pub opened-usual : getD s (at + 1) 0 ≡ getD s (at + 3) 0 + 17 → getD s (at + 4 + getD s (at + 3) 0) 0 ≡ 0x17 → getD s (at + 4 + getD s (at + 3) 0 + 1) 0 ≡ 13
+      → Usual s at end (at + 4 + getD s (at + 3) 0)
+  opened-usual long tag size = usual tag size (omega (arith, long)) opened (serial-first (omega (arith, long)))
+
+  -- with another serial
+  module _ (room : getD s (at + 3) 0 + 2 ≤ getD s (at + 1) 0) {serial : List ℕ} where
+    pub passed-length : (getD s (at + 3) 0 ≡ length serial → ⊥) → Another s at end serial (at + 2 + getD s (at + 1) 0)
+    passed-length h = other-length serial opened (serial-first room) (λ e. h (sym (own-size at (getD s (at + 3) 0)) ∙ e))
+
+    pub passed-last : (getD s (at + 3) 0 ≡ 0 → ⊥) → (getD s (at + 4 + getD s (at + 3) 0 - 1) 0 ≡ getD serial (getD s (at + 3) 0 - 1) 0 → ⊥)
+        → Another s at end serial (at + 2 + getD s (at + 1) 0)
+    passed-last some differ = other-last serial opened (serial-first room) (getD s (at + 3) 0) (own-size at (getD s (at + 3) 0)) some differ

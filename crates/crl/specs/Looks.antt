@@ -15,13 +15,13 @@ use Rattle.crl.specs.Listed.{lists, someLists}
 abbrev pub utcAt : ℕ → Element
 utcAt at = record { tag = 0x17; at = at; contents = at + 2; end = at + 15 }
 
--- an entry opens at `at` with a serial that leaves 15 octets of it, each length in the short form
+-- a SEQUENCE with a length in the short form stands at `at`, and an INTEGER opens it
 pub record Opening (s : List ℕ) (at end : ℕ) : Type 0 where
   pub inside : end ≤ length s
+  pub room : at + 4 ≤ end
   pub tag : getD s at 0 ≡ 0x30
   pub first : getD s (at + 2) 0 ≡ 0x02
   pub brief : getD s (at + 1) 0 < 128
-  pub size : getD s (at + 1) 0 ≡ getD s (at + 3) 0 + 17
   pub fits : at + 2 + getD s (at + 1) 0 ≤ end
 
 -- the entry that stands at `at` is a serial and such a UTCTime, at r

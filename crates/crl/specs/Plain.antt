@@ -1,4 +1,4 @@
--- What a quick look at the 13 octets of a UTCTime can tell: they are digits, and their pairs are in ranges that every month has.
+-- What a quick look at the first eight octets of a UTCTime can tell: they are digits, and their pairs are in ranges that every month has.
 use Prim.Native.Nat.{ℕ, _+_, _*_, _-_, _≤_}
 use mathlib.Core.List.{List}
 use lib.ListN.{getD}
@@ -23,12 +23,3 @@ pub record PlainDate (c : List ℕ) : Type 0 where
   pub day-low : 1 ≤ valueOf (getD c 4 0) (getD c 5 0)
   pub day-high : valueOf (getD c 4 0) (getD c 5 0) ≤ 28
   pub hour-high : valueOf (getD c 6 0) (getD c 7 0) ≤ 23
-
--- minute and second
-pub record PlainClock (c : List ℕ) : Type 0 where
-  pub minute-tens : Digit (getD c 8 0)
-  pub minute-ones : Digit (getD c 9 0)
-  pub second-tens : Digit (getD c 10 0)
-  pub second-ones : Digit (getD c 11 0)
-  pub minute-high : valueOf (getD c 8 0) (getD c 9 0) ≤ 59
-  pub second-high : valueOf (getD c 10 0) (getD c 11 0) ≤ 59

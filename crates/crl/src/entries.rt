@@ -99,24 +99,28 @@ fn usual_time(item: &[u8], at: usize, end: usize) -> usize
     if !opens(item, at, end) {
         return 0;
     }
-    let time = at + 4 + item[at + 3] as usize;
+    let size = item[at + 3] as usize;
+    if item[at + 1] as usize != size + 17 {
+        return 0;
+    }
+    let time = at + 4 + size;
     if four(item[time], item[time + 1], 0, 0) != 0x0d17 {
         return 0;
     }
     time
 }
 
-// Whether an entry of 19 octets or more opens at `at` with a serial that leaves 15 of them, each length in the short form.
-fn opens(item: &[u8], at: usize, end: usize) -> bool
+// Whether a SEQUENCE with a length in the short form stands at `at`, and an INTEGER opens it.
+pub(crate) fn opens(item: &[u8], at: usize, end: usize) -> bool
     ensures { λ r. ⌜ (r ≡ true → Opening (now (item .entry)) at end) ⌝ }
 {
     if item.len() < end {
         return false;
     }
-    if end < 19 {
+    if end < 4 {
         return false;
     }
-    if end - 19 < at {
+    if end - 4 < at {
         return false;
     }
     if item[at] != 0x30 {
@@ -127,9 +131,6 @@ fn opens(item: &[u8], at: usize, end: usize) -> bool
     }
     let size = item[at + 1] as usize;
     if 128 <= size {
-        return false;
-    }
-    if size != item[at + 3] as usize + 17 {
         return false;
     }
     size <= end - at - 2

@@ -1,11 +1,11 @@
 // Whether a serial is listed.
+use crate::entries::opens;
 use elements::Element;
 use elements::Found;
 use elements::contents;
 use elements::element_at;
 use elements::element_tagged;
 use elements::same;
-use elements::short_end;
 ghost use mathlib.Core.Path.{_≡_};
 ghost use Prim.Native.Nat.{_<_};
 ghost use Rattle.crl.specs.Listed.{lists, listedOf};
@@ -47,15 +47,16 @@ fn first_like(item: &[u8], from: usize, end: usize, serial: &[u8]) -> usize
 fn passed_by(item: &[u8], at: usize, end: usize, serial: &[u8]) -> usize
     ensures { λ r. ⌜ (0 < r → Another (now (item .entry)) at end (now (serial .entry)) r) ⌝ }
 {
-    let next = short_end(item, at, end, 0x30);
-    if next == 0 {
+    if !opens(item, at, end) {
         return 0;
     }
-    let after = short_end(item, at + 2, next, 0x02);
-    if after == 0 {
+    let whole = item[at + 1] as usize;
+    let size = item[at + 3] as usize;
+    if whole < size + 2 {
         return 0;
     }
-    let size = after - at - 4;
+    let next = at + 2 + whole;
+    let after = at + 4 + size;
     if size != serial.len() {
         return next;
     }

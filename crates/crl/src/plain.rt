@@ -4,10 +4,11 @@ ghost use mathlib.Core.Bool.{true};
 ghost use Prim.Native.Nat.{_+_, _*_};
 ghost use lib.ListN.{length};
 ghost use Rattle.crl.specs.Entries.{isTime};
-ghost use Rattle.crl.specs.Plain.{PlainDate, PlainClock};
+ghost use Rattle.crl.specs.Plain.{PlainDate};
 ghost use Rattle.times.specs.Times.{timeIn};
 
-// Whether 13 octets are a UTCTime with a day to 28, as most are; false where the look does not tell.
+// Whether 13 octets are a UTCTime with a day to 28, as most are; false where the look does not tell. Minute and second
+// are looked at as the date is, and their tens are held to 5 by adding 10.
 pub(crate) fn plain_utc(c: &[u8]) -> bool
     requires { ⌜ length (now c) ≡ 13 ⌝ }
     ensures { λ r. ⌜ (r ≡ true → isTime (timeIn 0x17 (now (c .entry))) ≡ true) ⌝ }
@@ -15,7 +16,11 @@ pub(crate) fn plain_utc(c: &[u8]) -> bool
     if !plain_date(c) {
         return false;
     }
-    if !plain_clock(c) {
+    let octets = four(c[8], c[9], c[10], c[11]);
+    if octets & 0xf0f0_f0f0 != 0x3030_3030 {
+        return false;
+    }
+    if (octets + 0x060a_060a) & 0xf0f0_f0f0 != 0x3030_3030 {
         return false;
     }
     c[12] == 90
@@ -43,18 +48,6 @@ fn plain_date(c: &[u8]) -> bool
         return false;
     }
     pairs / 0x1_0000_0000 % 256 != 0
-}
-
-// Whether the next four write minute and second: the tens are held to 5 by adding 10.
-fn plain_clock(c: &[u8]) -> bool
-    requires { ⌜ length (now c) ≡ 13 ⌝ }
-    ensures { λ r. ⌜ (r ≡ true → PlainClock (now (c .entry))) ⌝ }
-{
-    let octets = four(c[8], c[9], c[10], c[11]);
-    if octets & 0xf0f0_f0f0 != 0x3030_3030 {
-        return false;
-    }
-    (octets + 0x060a_060a) & 0xf0f0_f0f0 == 0x3030_3030
 }
 
 // Four octets as one number, the first lowest.

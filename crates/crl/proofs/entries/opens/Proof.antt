@@ -38,25 +38,10 @@ shared-slice-read-size : tie.Need-shared-slice-read-size
 shared-slice-read-size c = search needs
 
 cast-size : tie.Need-cast-size
-cast-size c = omega (arith, c .shared-slice-known3 .given (c .before .before .before .before .before .before .before .before .args .at + 1))
+cast-size c = omega (arith, c .before .before .before .before .shared-slice-known .given (c .before .before .before .before .before .before .before .before .args .at + 1))
 
 returns-6 : tie.Need-returns-6
 returns-6 c = λ no. never no
-
-add-if7 : tie.Need-add-if7
-add-if7 c = search needs
-
-shared-slice-read-if7 : tie.Need-shared-slice-read-if7
-shared-slice-read-if7 c = search needs
-
-cast-if7 : tie.Need-cast-if7
-cast-if7 c = omega (arith, c .shared-slice-known4 .given (c .before .before .before .before .before .before .before .before .before .before .args .at + 3))
-
-add-if7-2 : tie.Need-add-if7-2
-add-if7-2 c = omega (arith, c .shared-slice-known4 .given (c .before .before .before .before .before .before .before .before .before .before .args .at + 3))
-
-returns-7 : tie.Need-returns-7
-returns-7 c = λ no. never no
 
 sub-result : tie.Need-sub-result
 sub-result c = search needs
@@ -64,15 +49,15 @@ sub-result c = search needs
 sub-result-2 : tie.Need-sub-result-2
 sub-result-2 c = search needs
 
-returns-8 : tie.Need-returns-8
-returns-8 c = λ some.
+returns-7 : tie.Need-returns-7
+returns-7 c = λ some.
     record {
-      inside = c .before .before .before .before .before .before .before .before .before .before .if1 .left;
-      tag = c .before .before .before .before .before .before .if4 .left;
-      first = c .before .before .before .before .if5 .left;
-      brief = c .before .before .if6 .left;
-      size = c .if7 .left;
-      fits = left-told _ _ _ (c .before .before .before .before .before .before .before .before .before .if2 .left) (c .before .before .before .before .before .before .before .before .if3 .left) some;
+      inside = c .before .before .before .before .before .before .before .before .if1 .left;
+      room = omega (arith, c .before .before .before .before .before .before .before .if2 .left, c .before .before .before .before .before .before .if3 .left);
+      tag = c .before .before .before .before .if4 .left;
+      first = c .before .before .if5 .left;
+      brief = c .if6 .left;
+      fits = left-told _ _ _ (omega (arith, c .before .before .before .before .before .before .before .if2 .left, c .before .before .before .before .before .before .if3 .left)) some;
     }
 
 pub opens-spec : {M : Type 1} → statement M
@@ -91,11 +76,6 @@ opens-spec =
     shared-slice-read-size
     cast-size
     returns-6
-    add-if7
-    shared-slice-read-if7
-    cast-if7
-    add-if7-2
-    returns-7
     sub-result
     sub-result-2
-    returns-8)
+    returns-7)

@@ -13,41 +13,55 @@ opens-requires c κs = search needs
 returns : tie.Need-returns
 returns c = λ some. absurd (omega arith)
 
-add-time : tie.Need-add-time
-add-time c = let o = c .before .opens .ensures (not-false _ (c .if1 .left)) in omega (arith, o .fits, o .inside, o .size)
+add-size : tie.Need-add-size
+add-size c = let o = c .before .opens .ensures (not-false _ (c .if1 .left)) in omega (arith, o .room, o .inside)
 
-add-time-2 : tie.Need-add-time-2
-add-time-2 c = let o = c .before .opens .ensures (not-false _ (c .if1 .left)) in omega (arith, o .fits, o .inside, o .size)
+shared-slice-read-size : tie.Need-shared-slice-read-size
+shared-slice-read-size c = let o = c .before .before .opens .ensures (not-false _ (c .before .if1 .left)) in omega (arith, o .room, o .inside)
 
-shared-slice-read-time : tie.Need-shared-slice-read-time
-shared-slice-read-time c = let o = c .before .before .opens .ensures (not-false _ (c .before .if1 .left)) in omega (arith, o .fits, o .inside, o .size)
+cast-size : tie.Need-cast-size
+cast-size c = omega (arith, c .before .before .before .shared-slice-known .given (c .before .before .before .before .args .at + 3))
 
-cast-time : tie.Need-cast-time
-cast-time c = omega (arith, c .shared-slice-known2 .given (c .before .before .before .before .args .at + 3))
+add-if2 : tie.Need-add-if2
+add-if2 c = let o = c .before .before .opens .ensures (not-false _ (c .before .if1 .left)) in omega (arith, o .room, o .inside)
 
-add-time-3 : tie.Need-add-time-3
-add-time-3 c = let o = c .before .before .opens .ensures (not-false _ (c .before .if1 .left)) in omega (arith, o .fits, o .inside, o .size)
+shared-slice-read-if2 : tie.Need-shared-slice-read-if2
+shared-slice-read-if2 c = let o = c .before .before .before .opens .ensures (not-false _ (c .before .before .if1 .left)) in omega (arith, o .room, o .inside)
 
-shared-slice-read-four : tie.Need-shared-slice-read-four
-shared-slice-read-four c = let o = c .before .before .before .opens .ensures (not-false _ (c .before .before .if1 .left)) in omega (arith, o .fits, o .inside, o .size)
+cast-if2 : tie.Need-cast-if2
+cast-if2 c = omega (arith, c .before .before .before .before .shared-slice-known .given (c .before .before .before .before .before .args .at + 1))
 
-add-four : tie.Need-add-four
-add-four c = let o = c .before .before .before .opens .ensures (not-false _ (c .before .before .if1 .left)) in omega (arith, o .fits, o .inside, o .size)
-
-shared-slice-read-four-2 : tie.Need-shared-slice-read-four-2
-shared-slice-read-four-2 c = let o = c .before .before .before .before .opens .ensures (not-false _ (c .before .before .before .if1 .left)) in omega (arith, o .fits, o .inside, o .size)
-
-four-requires : tie.Need-four-requires
-four-requires c κs = search needs
+add-if2-2 : tie.Need-add-if2-2
+add-if2-2 c = omega (arith, c .before .before .before .before .shared-slice-known .given (c .before .before .before .before .before .args .at + 3))
 
 returns-2 : tie.Need-returns-2
 returns-2 c = λ some. absurd (omega arith)
 
+add-time : tie.Need-add-time
+add-time c = let o = c .before .before .before .before .opens .ensures (not-false _ (c .before .before .before .if1 .left)) in omega (arith, o .fits, o .inside, c .if2 .left)
+
+add-time-2 : tie.Need-add-time-2
+add-time-2 c = let o = c .before .before .before .before .opens .ensures (not-false _ (c .before .before .before .if1 .left)) in omega (arith, o .fits, o .inside, c .if2 .left)
+
+shared-slice-read-four : tie.Need-shared-slice-read-four
+shared-slice-read-four c = let o = c .before .before .before .before .before .opens .ensures (not-false _ (c .before .before .before .before .if1 .left)) in omega (arith, o .fits, o .inside, c .before .if2 .left)
+
+add-four : tie.Need-add-four
+add-four c = let o = c .before .before .before .before .before .opens .ensures (not-false _ (c .before .before .before .before .if1 .left)) in omega (arith, o .fits, o .inside, c .before .if2 .left)
+
+shared-slice-read-four-2 : tie.Need-shared-slice-read-four-2
+shared-slice-read-four-2 c = let o = c .before .before .before .before .before .before .opens .ensures (not-false _ (c .before .before .before .before .before .if1 .left)) in omega (arith, o .fits, o .inside, c .before .before .if2 .left)
+
+four-requires : tie.Need-four-requires
+four-requires c κs = search needs
+
 returns-3 : tie.Need-returns-3
-returns-3 c = λ some.
-    let o = c .before .before .before .before .before .before .opens .ensures (not-false _ (c .before .before .before .before .before .if1 .left)) in
-    let told = header-told (c .before .before .before .shared-slice-known3 .given _ .fits) (c .before .four .ensures) (c .if2 .left) in
-    opened-usual o (told .0) (told .1)
+returns-3 c = λ some. absurd (omega arith)
+
+returns-4 : tie.Need-returns-4
+returns-4 c = λ some.
+    let told = header-told (c .before .before .before .before .before .before .before .before .before .shared-slice-known .given _ .fits) (c .before .four .ensures) (c .if3 .left) in
+    opened-usual (c .before .before .before .before .before .before .before .before .opens .ensures (not-false _ (c .before .before .before .before .before .before .before .if1 .left))) (c .before .before .before .before .if2 .left) (told .0) (told .1)
 
 pub usual-time-spec : {M : Type 1} → statement M
 usual-time-spec =
@@ -55,14 +69,19 @@ usual-time-spec =
     (tie.spec
     opens-requires
     returns
+    add-size
+    shared-slice-read-size
+    cast-size
+    add-if2
+    shared-slice-read-if2
+    cast-if2
+    add-if2-2
+    returns-2
     add-time
     add-time-2
-    shared-slice-read-time
-    cast-time
-    add-time-3
     shared-slice-read-four
     add-four
     shared-slice-read-four-2
     four-requires
-    returns-2
-    returns-3)
+    returns-3
+    returns-4)

@@ -1,39 +1,56 @@
 -- The entry and its serial have short headers, so its length and last octet are those of its contents.
-use mathlib.Core.Path.{refl}
+use Prim.Native.Nat.{_+_}
 use native.Mathlib.Omega.{arith}
-use Rattle.der.specs.Heading.{identifierGood}
-use Rattle.crl.proofs.Looks.{short, other-length, other-last}
+use borrow.Author.Tests.{not-false}
+use Rattle.crl.proofs.Looks.{passed-length, passed-last}
 use borrow.Author.Needs.{needs}
 use Rattle.crl.proofs.listing.passed_by.Statement.{statement}
 use Rattle.crl.proofs.listing.passed_by.Tie as tie
 
-short-end-requires : tie.Need-short-end-requires
-short-end-requires c κs = search needs
+opens-requires : tie.Need-opens-requires
+opens-requires c κs = search needs
 
 returns : tie.Need-returns
 returns c = λ some. absurd (omega arith)
 
-add-short-end : tie.Need-add-short-end
-unfolding identifierGood
-add-short-end c = let entry = short 0x30 refl (c .before .short-end .ensures) (omega arith) in omega (arith, entry .low)
+add-whole : tie.Need-add-whole
+add-whole c = let o = c .before .opens .ensures (not-false _ (c .if1 .left)) in omega (arith, o .room, o .inside)
 
-short-end-requires-2 : tie.Need-short-end-requires-2
-short-end-requires-2 c κs = search needs
+shared-slice-read-whole : tie.Need-shared-slice-read-whole
+shared-slice-read-whole c = let o = c .before .before .opens .ensures (not-false _ (c .before .if1 .left)) in omega (arith, o .room, o .inside)
+
+cast-whole : tie.Need-cast-whole
+cast-whole c = omega (arith, c .before .before .before .before .shared-slice-known .given (c .before .before .before .before .before .args .at + 1))
+
+add-size : tie.Need-add-size
+add-size c = let o = c .before .before .opens .ensures (not-false _ (c .before .if1 .left)) in omega (arith, o .room, o .inside)
+
+shared-slice-read-size : tie.Need-shared-slice-read-size
+shared-slice-read-size c = let o = c .before .before .before .opens .ensures (not-false _ (c .before .before .if1 .left)) in omega (arith, o .room, o .inside)
+
+cast-size : tie.Need-cast-size
+cast-size c = omega (arith, c .before .before .before .before .before .shared-slice-known .given (c .before .before .before .before .before .before .args .at + 3))
+
+add-if2 : tie.Need-add-if2
+add-if2 c = omega (arith, c .before .before .before .before .before .shared-slice-known .given (c .before .before .before .before .before .before .args .at + 3))
 
 returns-2 : tie.Need-returns-2
 returns-2 c = λ some. absurd (omega arith)
 
-sub-size : tie.Need-sub-size
-unfolding identifierGood
-sub-size c = let first = short 0x02 refl (c .before .short-end2 .ensures) (omega arith) in omega (arith, first .low)
+add-next : tie.Need-add-next
+add-next c = let o = c .before .before .before .before .opens .ensures (not-false _ (c .before .before .before .if1 .left)) in omega (arith, o .room, o .fits, o .inside, c .if2 .left)
 
-sub-size-2 : tie.Need-sub-size-2
-unfolding identifierGood
-sub-size-2 c = let first = short 0x02 refl (c .before .short-end2 .ensures) (omega arith) in omega (arith, first .low)
+add-next-2 : tie.Need-add-next-2
+add-next-2 c = let o = c .before .before .before .before .opens .ensures (not-false _ (c .before .before .before .if1 .left)) in omega (arith, o .room, o .fits, o .inside, c .if2 .left)
+
+add-after : tie.Need-add-after
+add-after c = let o = c .before .before .before .before .opens .ensures (not-false _ (c .before .before .before .if1 .left)) in omega (arith, o .room, o .fits, o .inside, c .if2 .left)
+
+add-after-2 : tie.Need-add-after-2
+add-after-2 c = let o = c .before .before .before .before .opens .ensures (not-false _ (c .before .before .before .if1 .left)) in omega (arith, o .room, o .fits, o .inside, c .if2 .left)
 
 returns-3 : tie.Need-returns-3
-unfolding identifierGood
-returns-3 c = λ some. let first = short 0x02 refl (c .before .before .short-end2 .ensures) (omega arith) in other-length _ (short 0x30 refl (c .before .before .before .before .short-end .ensures) some) first (c .if3 .taken)
+returns-3 c = λ some. passed-length (c .before .before .before .before .before .opens .ensures (not-false _ (c .before .before .before .before .if1 .left))) (c .before .if2 .left) (c .if3 .taken)
 
 returns-4 : tie.Need-returns-4
 returns-4 c = λ some. absurd (omega arith)
@@ -42,8 +59,7 @@ sub-if5 : tie.Need-sub-if5
 sub-if5 c = search needs
 
 shared-slice-read-if5 : tie.Need-shared-slice-read-if5
-unfolding identifierGood
-shared-slice-read-if5 c = let entry = short 0x30 refl (c .before .before .before .before .before .before .short-end .ensures) (omega arith) in let first = short 0x02 refl (c .before .before .before .before .short-end2 .ensures) (omega arith) in omega (arith, entry .inside, entry .high, first .high, first .low)
+shared-slice-read-if5 c = let o = c .before .before .before .before .before .before .before .opens .ensures (not-false _ (c .before .before .before .before .before .before .if1 .left)) in omega (arith, o .room, o .fits, o .inside, c .before .before .before .if2 .left)
 
 sub-if5-2 : tie.Need-sub-if5-2
 sub-if5-2 c = search needs
@@ -52,8 +68,7 @@ shared-slice-read-if5-2 : tie.Need-shared-slice-read-if5-2
 shared-slice-read-if5-2 c = search needs
 
 returns-5 : tie.Need-returns-5
-unfolding identifierGood
-returns-5 c = λ some. let first = short 0x02 refl (c .before .before .before .before .before .before .short-end2 .ensures) (omega arith) in other-last _ (short 0x30 refl (c .before .before .before .before .before .before .before .before .short-end .ensures) some) first _ refl (c .before .before .before .if4 .left) (c .if5 .taken)
+returns-5 c = λ some. passed-last (c .before .before .before .before .before .before .before .before .before .opens .ensures (not-false _ (c .before .before .before .before .before .before .before .before .if1 .left))) (c .before .before .before .before .before .if2 .left) (c .before .before .before .if4 .left) (c .if5 .taken)
 
 returns-6 : tie.Need-returns-6
 returns-6 c = λ some. absurd (omega arith)
@@ -62,13 +77,20 @@ pub passed-by-spec : {M : Type 1} → statement M
 passed-by-spec =
     tie.close
     (tie.spec
-    short-end-requires
+    opens-requires
     returns
-    add-short-end
-    short-end-requires-2
+    add-whole
+    shared-slice-read-whole
+    cast-whole
+    add-size
+    shared-slice-read-size
+    cast-size
+    add-if2
     returns-2
-    sub-size
-    sub-size-2
+    add-next
+    add-next-2
+    add-after
+    add-after-2
     returns-3
     returns-4
     sub-if5

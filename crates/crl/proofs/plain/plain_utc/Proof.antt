@@ -1,7 +1,8 @@
--- A date and a clock that are plain, and a Z after them.
+-- A plain date, then four octets as one number and what its bits tell, then a Z.
+use native.Mathlib.Omega.{arith}
 use borrow.Author.Tests.{eqb-true, not-false}
 use borrow.Author.Needs.{needs}
-use Rattle.crl.proofs.Digits.{never, utc-time}
+use Rattle.crl.proofs.Digits.{never, clock-told, utc-time}
 use Rattle.crl.proofs.plain.plain_utc.Statement.{statement}
 use Rattle.crl.proofs.plain.plain_utc.Tie as tie
 
@@ -11,17 +12,39 @@ plain-date-requires c κs = search needs
 returns : tie.Need-returns
 returns c = λ no. never no
 
-plain-clock-requires : tie.Need-plain-clock-requires
-plain-clock-requires c κs = search needs
+shared-slice-read-four : tie.Need-shared-slice-read-four
+shared-slice-read-four c = search needs
+
+shared-slice-read-four-2 : tie.Need-shared-slice-read-four-2
+shared-slice-read-four-2 c = search needs
+
+shared-slice-read-four-3 : tie.Need-shared-slice-read-four-3
+shared-slice-read-four-3 c = search needs
+
+shared-slice-read-four-4 : tie.Need-shared-slice-read-four-4
+shared-slice-read-four-4 c = search needs
+
+four-requires : tie.Need-four-requires
+four-requires c κs = search needs
 
 returns-2 : tie.Need-returns-2
 returns-2 c = λ no. never no
 
+add-if3 : tie.Need-add-if3
+add-if3 c =
+    let octet = c .before .before .before .before .before .before .before .before .shared-slice-known .given in
+    omega (arith, c .before .four .ensures, octet 8 .fits, octet 9 .fits, octet 10 .fits, octet 11 .fits)
+
+returns-3 : tie.Need-returns-3
+returns-3 c = λ no. never no
+
 shared-slice-read-result : tie.Need-shared-slice-read-result
 shared-slice-read-result c = search needs
 
-returns-3 : tie.Need-returns-3
-returns-3 c = λ some. utc-time (c .before .before .before .before .before .before .args .c .now) (c .before .before .before .before .before .before .pre) (c .before .before .before .before .plain-date .ensures (not-false _ (c .before .before .before .if1 .left))) (c .before .before .plain-clock .ensures (not-false _ (c .before .if2 .left))) (eqb-true _ _ some)
+returns-4 : tie.Need-returns-4
+returns-4 c = λ some.
+    let clock = clock-told (c .before .before .before .before .before .before .before .before .before .before .before .args .c .now) (λ i. c .before .before .before .before .before .before .before .before .before .before .shared-slice-known .given i .fits) (c .before .before .before .four .ensures) (c .before .before .if2 .left) (c .before .if3 .left) in
+    utc-time (c .before .before .before .before .before .before .before .before .before .before .before .args .c .now) (c .before .before .before .before .before .before .before .before .before .before .before .pre) (c .before .before .before .before .before .before .before .before .before .plain-date .ensures (not-false _ (c .before .before .before .before .before .before .before .before .if1 .left))) clock (eqb-true _ _ some)
 
 pub plain-utc-spec : {M : Type 1} → statement M
 plain-utc-spec =
@@ -29,7 +52,13 @@ plain-utc-spec =
     (tie.spec
     plain-date-requires
     returns
-    plain-clock-requires
+    shared-slice-read-four
+    shared-slice-read-four-2
+    shared-slice-read-four-3
+    shared-slice-read-four-4
+    four-requires
     returns-2
+    add-if3
+    returns-3
     shared-slice-read-result
-    returns-3)
+    returns-4)
