@@ -68,14 +68,21 @@ module _ {f : ℕ → ℕ → ℕ} {n : ℕ} {l : List ℕ} {u : ℕ} (small : n
         behind = λ w x k h. c .behind w x k (omega arith);
       }
 
-  -- one row more, filled or left at 0
-  pub row-done : {v : ℕ} → v ≡ n → Cells f n l u v → Cells f n l (u + 1) 0
-  row-done {v} all c =
+  -- one row more, of which the cells behind are 0
+  pub row-rest : {v : ℕ} → v ≤ n → Cells f n l u v → ((x : ℕ) → v ≤ x → x < n → 0 ≡ f u x) → Cells f n l (u + 1) 0
+  row-rest {v} few c e =
       record {
-        before = λ w x k h. c .before w x k (omega arith);
+        before = λ w x k h.
+            ⊎-elim (λ (q : w * 96 + x < u * 96 + v). c .before w x k q)
+            (λ (q : u * 96 + v ≤ w * 96 + x).
+            let a : w ≡ u = omega arith in
+            let b : v ≤ x = omega arith in
+            c .behind w x k q ∙ rw a (e x b k))
+            (below-or-not (w * 96 + x) (u * 96 + v));
         behind = λ w x k h. c .behind w x k (omega arith);
       }
 
+  -- or left at 0
   pub row-left : Cells f n l u 0 → ((x : ℕ) → x < n → 0 ≡ f u x) → Cells f n l (u + 1) 0
   row-left c e =
       record {

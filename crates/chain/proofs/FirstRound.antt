@@ -26,7 +26,7 @@ no-slots : (p : ℕ) → isNear (replicate 96 0) p ≡ true → ⊥
 unfolding isNear
 no-slots p e = false-true (rw (empty-slots {A = ℕ} 96 p) at e)
 
-module _ (s table : List ℕ) (moment target n : ℕ) (same : n ≡ entryCount s) (near : List ℕ) (firsts : (p : ℕ) → p < n → getD near p 0 ≡ firstOf target p (entryIn s p)) where
+module _ (s table : List ℕ) (moment target n : ℕ) (same : n ≡ entryCount s) (near : List ℕ) (firsts : (p : ℕ) → p < n → getD near p 0 ≡ firstOf target p (entryIn s p .kind)) where
   first-based : Based s n near
   unfolding isNear firstOf
   first-based p h e = go (eqb p target) (eqb (entryIn s p .kind) 2) refl (eqb (entryIn s p .kind) 3) refl (rw (firsts p h) at e)

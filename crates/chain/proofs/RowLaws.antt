@@ -2,7 +2,7 @@
 use Prim.Native.Nat.{ℕ, zero, suc, _+_, _*_, _<_, _≤_}
 use mathlib.Core.Path.{_≡_, refl, sym, ap, _∙_}
 use mathlib.Core.Bool.{Bool, true, false, cond, _||_}
-use mathlib.Core.List.{List, []}
+use mathlib.Core.List.{List, [], _∷_}
 use mathlib.Core.Logic.{⊎-elim}
 use native.Mathlib.Nat.{eq-or-lt-of-le}
 use native.Mathlib.Numerals.{add-one}
@@ -10,8 +10,8 @@ use native.Mathlib.Omega.{arith}
 use borrow.Author.Tests.{eq-eqb, ne-eqb}
 use borrow.Author.Count.{below-more}
 use lib.Dec.{eqb}
-use lib.ListN.{length, getD, set, take, drop, replicate}
-use lib.Seq.{getD-set-same, getD-set-other}
+use lib.ListN.{length, getD, set, take, drop, replicate, length-take}
+use lib.Seq.{getD-set-same, getD-set-other, getD-take, getD-drop}
 use Rattle.crl.specs.Listed.{listedOf}
 use Rattle.elements.specs.Octets.{alike}
 use Rattle.image.specs.declared.IndexEntry.{IndexEntry}
@@ -323,6 +323,25 @@ module _ (s : List ℕ) (n : ℕ) (table : List ℕ) (rows : List (List ℕ)) (r
   step-unled h lead =
       let not-leading : leadsOf (getD roles u 0) ≡ false = ap leadsOf (sym h) ∙ lead in
       rw not-leading
+
+-- the verdicts of a signer are a line of the table, 0 beyond its end
+pub line-read :
+    (table : List ℕ) (n u v : ℕ) {line : List ℕ} → line ≡ take n (drop (u * n) table) → v < n → getD line v 0 ≡ getD table (u * n + v) 0
+line-read table n u v e h = rw e (getD-take n (drop (u * n) table) v 0 h ∙ getD-drop (u * n) table v 0)
+
+pub line-short : (table : List ℕ) (n u : ℕ) {line : List ℕ} → line ≡ take n (drop (u * n) table) → length line ≤ n
+line-short table n u e = rw (e, length-take) (omega arith)
+
+beyond : (l : List ℕ) (i : ℕ) → length l ≤ i → getD l i 0 ≡ 0
+beyond [] i h = refl
+beyond (x ∷ l) zero h = absurd (omega arith)
+beyond (x ∷ l) (suc i) h = beyond l i (omega arith)
+
+pub line-past :
+    (table : List ℕ) (n u v : ℕ) {line : List ℕ} → line ≡ take n (drop (u * n) table) → v < n → length line ≤ v
+    → getD table (u * n + v) 0 ≡ 1 → ⊥
+line-past table n u v {line} e h past one =
+    let k : _≡_ {A = ℕ} 0 1 = sym (beyond line v past) ∙ line-read table n u v e h ∙ one in omega arith
 
 -- one anchor more that has no good step to the target
 pub none-more :

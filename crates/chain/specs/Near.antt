@@ -7,7 +7,6 @@ use mathlib.Core.List.{List}
 use mathlib.Core.Logic.{_⊎_}
 use lib.Dec.{eqb}
 use lib.ListN.{getD}
-use Rattle.image.specs.declared.IndexEntry.{IndexEntry}
 use Rattle.chain.specs.Table.{verdictIn}
 
 unfoldable pub isNear : List ℕ → ℕ → Bool
@@ -18,8 +17,8 @@ unfoldable pub freshOf : ℕ → ℕ → Bool
 freshOf before near = cond (eqb near 1) (cond (eqb before 1) false true) false
 
 -- at first the target, the anchors and the CRLs
-unfoldable pub firstOf : ℕ → ℕ → IndexEntry → ℕ
-firstOf target place e = cond (eqb place target) 1 (cond (eqb (e .kind) 2) 2 (cond (eqb (e .kind) 3) 0 1))
+unfoldable pub firstOf : ℕ → ℕ → ℕ → ℕ
+firstOf target place kind = cond (eqb place target) 1 (cond (eqb kind 2) 2 (cond (eqb kind 3) 0 1))
 
 -- a link with verdict 1 is near
 unfoldable pub markedOf : ℕ → ℕ → ℕ → ℕ

@@ -52,15 +52,18 @@ fn table_good(places: usize, table: &[u8]) -> bool
     all_bits(table)
 }
 
-// With no exit before the last octet.
+// By the largest, with no exit before the last octet.
 fn all_bits(table: &[u8]) -> bool
     ensures { λ r. ⌜ r ≡ bits (now (table .entry)) ⌝ }
 {
-    let mut good = true;
+    let mut most = 0;
     let mut i = 0;
     while i < table.len() {
-        good = good & (table[i] <= 1);
+        let octet = table[i];
+        if most < octet {
+            most = octet;
+        }
         i += 1;
     }
-    good
+    most <= 1
 }

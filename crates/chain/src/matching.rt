@@ -1,9 +1,9 @@
 // Which steps between usable places are good.
-use crate::counting::octet;
 use crate::opened::Row;
 use crate::opened::row_at;
 use crate::roles::piece;
 use elements::same;
+use image::part;
 ghost use mathlib.Core.Path.{_≡_};
 ghost use Prim.Native.Nat.{_≤_};
 ghost use Rattle.chain.specs.Near.{ledOf};
@@ -25,9 +25,10 @@ pub(crate) fn matching_steps(
     while u < places {
         if leads(roles[u]) {
             let from = row_at(rows, u);
+            let line = part(table, u * places, places);
             let mut v = 0;
-            while v < places {
-                if octet(table, u * places + v) == 1 {
+            while v < line.len() {
+                if line[v] == 1 {
                     steps[u * 96 + v] = matched(image, from, row_at(rows, v), roles[v]);
                 }
                 v += 1;

@@ -1,8 +1,7 @@
 // Which places a round opens: 1 for these, 2 for a link that is not among them, else 0.
 use crate::counting::octet;
 use crate::matching::led;
-use image::IndexEntry;
-use image::entry_in;
+use image::kind_in;
 ghost use mathlib.Core.Path.{_≡_};
 ghost use mathlib.Core.Bool.{true};
 ghost use Prim.Native.Nat.{ℕ, _≤_, _<_};
@@ -16,27 +15,27 @@ pub(crate) const LAST: usize = 4;
 // At first the target, the anchors and the CRLs. Other signers are in no chain to the target.
 pub(crate) fn near_first(image: &[u8], places: usize, target: usize) -> [u8; 96]
     requires { ⌜ places ≤ 96 ⌝ }
-    ensures { λ r. ⌜ ((p : ℕ) → p < places → getD r p 0 ≡ firstOf target p (entryIn (now (image .entry)) p)) ⌝ }
+    ensures { λ r. ⌜ ((p : ℕ) → p < places → getD r p 0 ≡ firstOf target p (entryIn (now (image .entry)) p .kind)) ⌝ }
 {
     let mut near = [0u8; 96];
     let mut place = 0;
     while place < places {
-        near[place] = first(entry_in(image, place), place, target);
+        near[place] = first(kind_in(image, place), place, target);
         place += 1;
     }
     near
 }
 
-fn first(e: IndexEntry, place: usize, target: usize) -> u8
-    ensures { λ r. ⌜ r ≡ firstOf target place e ⌝ }
+fn first(kind: usize, place: usize, target: usize) -> u8
+    ensures { λ r. ⌜ r ≡ firstOf target place kind ⌝ }
 {
     if place == target {
         return 1;
     }
-    if e.kind == 2 {
+    if kind == 2 {
         return 2;
     }
-    if e.kind == 3 {
+    if kind == 3 {
         return 0;
     }
     1

@@ -136,6 +136,21 @@ pub fn entry_in(image: &[u8], place: usize) -> IndexEntry
     entry_at(image, at)
 }
 
+// The kind in the entry of a place.
+pub fn kind_in(image: &[u8], place: usize) -> usize
+    ensures { λ r. ⌜ r ≡ entryIn (now (image .entry)) place .kind ⌝ }
+{
+    let n = image.len();
+    if place <= n / 8 {
+        let kind_at = index_start(image) + 8 * place;
+        if kind_at < n {
+            return image[kind_at] as usize;
+        }
+    }
+    let e = entry_in(image, place);
+    e.kind
+}
+
 fn index_start(image: &[u8]) -> usize
     ensures { λ r. ⌜ (r ≡ indexStart (now (image .entry))) × (r < 2 ^ 32) ⌝ }
 {

@@ -1,5 +1,5 @@
 -- The inner loop fills one cell more, the outer one a row more.
-use Prim.Native.Nat.{ℕ, _-_, _*_, _+_, _≤_}
+use Prim.Native.Nat.{ℕ, _-_, _*_, _+_, _≤_, _<_}
 use mathlib.Core.Path.{_≡_, refl, sym, _∙_}
 use mathlib.Core.Logic.{⊎-elim}
 use native.Mathlib.Nat.{mul-le-mul}
@@ -8,16 +8,16 @@ use borrow.Author.Needs.{needs}
 use lib.ListN.{length, length-set, length-replicate}
 use Rattle.chain.specs.Rows.{flag, stepOf}
 use Rattle.chain.proofs.Slots.{empty-slots}
-use Rattle.chain.proofs.Cells.{Cells, cell-set, cell-left, row-done, row-left}
-use Rattle.chain.proofs.RowLaws.{step-asked, step-unasked, step-unled}
+use Rattle.chain.proofs.Cells.{Cells, cell-set, cell-left, row-rest, row-left}
+use Rattle.chain.proofs.RowLaws.{line-read, line-short, line-past, step-asked, step-unasked, step-unled}
 use Rattle.chain.proofs.matching.matching_steps.Statement.{statement}
 use Rattle.chain.proofs.matching.matching_steps.Tie as tie
 
 abbrev Inv-loop2 : tie.InvT-loop2
-Inv-loop2 image table places rows roles steps₀ u from v₀ steps v = (v ≤ places) × (length steps ≡ 9216) × Cells (λ w x. flag (stepOf image places table rows roles w x)) places steps u v
+Inv-loop2 image table places rows roles steps₀ u from line v₀ steps v = (v ≤ length line) × (length steps ≡ 9216) × Cells (λ w x. flag (stepOf image places table rows roles w x)) places steps u v
 
 abbrev μ-loop2 : tie.MeasureT-loop2
-μ-loop2 image table places rows roles steps₀ u from v₀ steps v = places - v
+μ-loop2 image table places rows roles steps₀ u from line v₀ steps v = length line - v
 
 abbrev Inv-loop : tie.InvT-loop
 Inv-loop image table places rows roles steps₀ u₀ steps u = (u ≤ places) × (length steps ≡ 9216) × Cells (λ w x. flag (stepOf image places table rows roles w x)) places steps u 0
@@ -37,44 +37,44 @@ leads-requires c κs = search needs
 row-at-requires : tie.Need-row-at-requires Inv-loop2 μ-loop2 Inv-loop μ-loop
 row-at-requires c κs = omega (arith, c .before .before .before .before .before .before .pre, c .before .before .loop-test .taken)
 
+mul-part : tie.Need-mul-part Inv-loop2 μ-loop2 Inv-loop μ-loop
+mul-part c = let m : c .before .before .before .before .loop .u * c .before .before .before .before .before .before .before .args .places ≤ 96 * 96 = mul-le-mul {n₂ = 96} {m₂ = 96} (omega (arith, c .before .before .before .before .before .before .before .pre, c .before .before .before .loop-test .taken)) (omega (arith, c .before .before .before .before .before .before .before .pre)) in omega (arith, m)
+
+part-requires : tie.Need-part-requires Inv-loop2 μ-loop2 Inv-loop μ-loop
+part-requires c κs = search needs
+
 loop2-holds : tie.Need-loop2-holds Inv-loop2 μ-loop2 Inv-loop μ-loop
-loop2-holds c = (omega arith, c .before .before .before .before .loop .inv .1, c .before .before .before .before .loop .inv .2)
+loop2-holds c = (omega arith, c .before .before .before .before .before .loop .inv .1, c .before .before .before .before .before .loop .inv .2)
 
-mul-octet : tie.Need-mul-octet Inv-loop2 μ-loop2 Inv-loop μ-loop
-mul-octet c = let m : c .before .before .before .before .before .before .loop .u * c .before .before .before .before .before .before .before .before .before .args .places ≤ 96 * 96 = mul-le-mul {n₂ = 96} {m₂ = 96} (omega (arith, c .before .before .before .before .before .before .before .before .before .pre, c .before .before .before .before .before .loop-test .taken, c .loop2-test .taken)) (omega (arith, c .before .before .before .before .before .before .before .before .before .pre)) in omega (arith, m, c .before .before .before .before .before .before .before .before .before .pre, c .before .before .before .before .before .loop-test .taken, c .loop2-test .taken)
-
-add-octet : tie.Need-add-octet Inv-loop2 μ-loop2 Inv-loop μ-loop
-add-octet c = let m : c .before .before .before .before .before .before .loop .u * c .before .before .before .before .before .before .before .before .before .args .places ≤ 96 * 96 = mul-le-mul {n₂ = 96} {m₂ = 96} (omega (arith, c .before .before .before .before .before .before .before .before .before .pre, c .before .before .before .before .before .loop-test .taken, c .loop2-test .taken)) (omega (arith, c .before .before .before .before .before .before .before .before .before .pre)) in omega (arith, m, c .before .before .before .before .before .before .before .before .before .pre, c .before .before .before .before .before .loop-test .taken, c .loop2-test .taken)
-
-octet-requires : tie.Need-octet-requires Inv-loop2 μ-loop2 Inv-loop μ-loop
-octet-requires c κs = search needs
+shared-slice-read-if2 : tie.Need-shared-slice-read-if2 Inv-loop2 μ-loop2 Inv-loop μ-loop
+shared-slice-read-if2 c = omega (arith, c .before .loop2-test .taken)
 
 row-at-requires-2 : tie.Need-row-at-requires-2 Inv-loop2 μ-loop2 Inv-loop μ-loop
-row-at-requires-2 c κs = omega (arith, c .before .before .before .before .before .before .before .before .before .before .before .pre, c .before .before .loop2-test .taken)
+row-at-requires-2 c κs = let k = line-short (c .before .before .before .before .before .before .before .before .before .before .before .before .args .table .now) (c .before .before .before .before .before .before .before .before .before .before .before .before .args .places) (c .before .before .before .before .before .before .before .before .before .loop .u) (c .before .before .before .before .part .ensures) in omega (arith, k, c .before .before .before .before .before .before .before .before .before .before .before .before .pre, c .before .before .loop2-test .taken)
 
 array-read-matched : tie.Need-array-read-matched Inv-loop2 μ-loop2 Inv-loop μ-loop
-array-read-matched c = omega (arith, c .before .before .before .before .before .before .before .before .before .before .before .before .pre, c .before .before .before .loop2-test .taken)
+array-read-matched c = let k = line-short (c .before .before .before .before .before .before .before .before .before .before .before .before .before .args .table .now) (c .before .before .before .before .before .before .before .before .before .before .before .before .before .args .places) (c .before .before .before .before .before .before .before .before .before .before .loop .u) (c .before .before .before .before .before .part .ensures) in omega (arith, k, c .before .before .before .before .before .before .before .before .before .before .before .before .before .pre, c .before .before .before .loop2-test .taken)
 
 matched-requires : tie.Need-matched-requires Inv-loop2 μ-loop2 Inv-loop μ-loop
 matched-requires c κs = search needs
 
 mul-steps : tie.Need-mul-steps Inv-loop2 μ-loop2 Inv-loop μ-loop
-mul-steps c = omega (arith, c .before .before .before .before .before .before .before .before .before .before .before .before .before .pre, c .before .before .before .before .before .before .before .before .before .loop-test .taken, c .before .before .before .before .loop2-test .taken)
+mul-steps c = let k = line-short (c .before .before .before .before .before .before .before .before .before .before .before .before .before .before .args .table .now) (c .before .before .before .before .before .before .before .before .before .before .before .before .before .before .args .places) (c .before .before .before .before .before .before .before .before .before .before .before .loop .u) (c .before .before .before .before .before .before .part .ensures) in omega (arith, k, c .before .before .before .before .before .before .before .before .before .before .before .before .before .before .pre, c .before .before .before .before .before .before .before .before .before .before .loop-test .taken, c .before .before .before .before .loop2-test .taken)
 
 add-steps : tie.Need-add-steps Inv-loop2 μ-loop2 Inv-loop μ-loop
-add-steps c = omega (arith, c .before .before .before .before .before .before .before .before .before .before .before .before .before .pre, c .before .before .before .before .before .before .before .before .before .loop-test .taken, c .before .before .before .before .loop2-test .taken)
+add-steps c = let k = line-short (c .before .before .before .before .before .before .before .before .before .before .before .before .before .before .args .table .now) (c .before .before .before .before .before .before .before .before .before .before .before .before .before .before .args .places) (c .before .before .before .before .before .before .before .before .before .before .before .loop .u) (c .before .before .before .before .before .before .part .ensures) in omega (arith, k, c .before .before .before .before .before .before .before .before .before .before .before .before .before .before .pre, c .before .before .before .before .before .before .before .before .before .before .loop-test .taken, c .before .before .before .before .loop2-test .taken)
 
 array-write-steps : tie.Need-array-write-steps Inv-loop2 μ-loop2 Inv-loop μ-loop
-array-write-steps c = omega (arith, c .before .before .before .before .before .before .before .before .before .before .before .before .before .pre, c .before .before .before .before .before .before .before .before .before .loop-test .taken, c .before .before .before .before .loop2-test .taken)
+array-write-steps c = let k = line-short (c .before .before .before .before .before .before .before .before .before .before .before .before .before .before .args .table .now) (c .before .before .before .before .before .before .before .before .before .before .before .before .before .before .args .places) (c .before .before .before .before .before .before .before .before .before .before .before .loop .u) (c .before .before .before .before .before .before .part .ensures) in omega (arith, k, c .before .before .before .before .before .before .before .before .before .before .before .before .before .before .pre, c .before .before .before .before .before .before .before .before .before .before .loop-test .taken, c .before .before .before .before .loop2-test .taken)
 
 add-v : tie.Need-add-v Inv-loop2 μ-loop2 Inv-loop μ-loop
-add-v c = omega (arith, c .before .before .before .before .before .before .before .before .before .before .before .pre, c .before .before .loop2-test .taken)
+add-v c = let k = line-short (c .before .before .before .before .before .before .before .before .before .before .before .before .args .table .now) (c .before .before .before .before .before .before .before .before .before .before .before .before .args .places) (c .before .before .before .before .before .before .before .before .before .loop .u) (c .before .before .before .before .part .ensures) in omega (arith, k, c .before .before .before .before .before .before .before .before .before .before .before .before .pre, c .before .before .loop2-test .taken)
 
 loop2-less : tie.Need-loop2-less Inv-loop2 μ-loop2 Inv-loop μ-loop
 loop2-less c = omega (arith, c .before .before .loop2-test .taken)
 
 loop2-again : tie.Need-loop2-again Inv-loop2 μ-loop2 Inv-loop μ-loop
-loop2-again c = (omega (arith, c .before .before .loop2-test .taken), ⊎-elim (λ w. rw (w .3, length-set) (c .before .before .before .loop2 .inv .1)) (λ w. rw (w .1) (c .before .before .before .loop2 .inv .1)) (c .if2 .came), ⊎-elim (λ w. rw (w .3) (cell-set (c .before .before .before .before .before .before .before .before .before .before .before .pre) (c .before .before .before .loop2 .inv .2) (c .before .before .loop2-test .taken) (omega (arith, c .before .before .before .loop2 .inv .1, c .before .before .before .before .before .before .before .before .before .before .before .pre, c .before .before .before .before .before .before .before .loop-test .taken, c .before .before .loop2-test .taken)) (step-asked _ _ _ _ _ _ _ (c .before .before .before .before .row-at .ensures) (w .1 .ensures) refl refl (sym (c .before .before .before .before .before .before .leads .ensures) ∙ c .before .before .before .before .before .if1 .taken) (c .before .octet .ensures) (w .0 .taken) (w .2 .ensures)))) (λ w. rw (w .1) (cell-left (c .before .before .before .before .before .before .before .before .before .before .before .pre) (c .before .before .before .loop2 .inv .2) (c .before .before .loop2-test .taken) (step-unasked _ _ _ _ _ _ _ refl (sym (c .before .before .before .before .before .before .leads .ensures) ∙ c .before .before .before .before .before .if1 .taken) (c .before .octet .ensures) (w .0 .left)))) (c .if2 .came))
+loop2-again c = let inside : c .before .before .before .loop2 .v < c .before .before .before .before .before .before .before .before .before .before .before .before .args .places = (let k = line-short (c .before .before .before .before .before .before .before .before .before .before .before .before .args .table .now) (c .before .before .before .before .before .before .before .before .before .before .before .before .args .places) (c .before .before .before .before .before .before .before .before .before .loop .u) (c .before .before .before .before .part .ensures) in omega (arith, k, c .before .before .loop2-test .taken)) in (omega (arith, c .before .before .loop2-test .taken), ⊎-elim (λ w. rw (w .3, length-set) (c .before .before .before .loop2 .inv .1)) (λ w. rw (w .1) (c .before .before .before .loop2 .inv .1)) (c .if2 .came), ⊎-elim (λ w. rw (w .3) (cell-set (c .before .before .before .before .before .before .before .before .before .before .before .before .pre) (c .before .before .before .loop2 .inv .2) inside (omega (arith, c .before .before .before .loop2 .inv .1, c .before .before .before .before .before .before .before .before .before .before .before .before .pre, c .before .before .before .before .before .before .before .before .loop-test .taken, inside)) (step-asked _ _ _ _ _ _ _ (c .before .before .before .before .before .row-at .ensures) (w .1 .ensures) refl refl (sym (c .before .before .before .before .before .before .before .leads .ensures) ∙ c .before .before .before .before .before .before .if1 .taken) (line-read (c .before .before .before .before .before .before .before .before .before .before .before .before .args .table .now) (c .before .before .before .before .before .before .before .before .before .before .before .before .args .places) (c .before .before .before .before .before .before .before .before .before .loop .u) (c .before .before .before .loop2 .v) (c .before .before .before .before .part .ensures) inside) (w .0 .taken) (w .2 .ensures)))) (λ w. rw (w .1) (cell-left (c .before .before .before .before .before .before .before .before .before .before .before .before .pre) (c .before .before .before .loop2 .inv .2) inside (step-unasked _ _ _ _ _ _ _ refl (sym (c .before .before .before .before .before .before .before .leads .ensures) ∙ c .before .before .before .before .before .before .if1 .taken) (line-read (c .before .before .before .before .before .before .before .before .before .before .before .before .args .table .now) (c .before .before .before .before .before .before .before .before .before .before .before .before .args .places) (c .before .before .before .before .before .before .before .before .before .loop .u) (c .before .before .before .loop2 .v) (c .before .before .before .before .part .ensures) inside) (w .0 .left)))) (c .if2 .came))
 
 add-u : tie.Need-add-u Inv-loop2 μ-loop2 Inv-loop μ-loop
 add-u c = omega (arith, c .before .before .before .before .before .before .pre, c .before .before .loop-test .taken)
@@ -83,7 +83,7 @@ loop-less : tie.Need-loop-less Inv-loop2 μ-loop2 Inv-loop μ-loop
 loop-less c = omega (arith, c .before .before .loop-test .taken)
 
 loop-again : tie.Need-loop-again Inv-loop2 μ-loop2 Inv-loop μ-loop
-loop-again c = (omega (arith, c .before .before .loop-test .taken), ⊎-elim (λ w. rw (w .4) (w .2 .inv .1)) (λ w. rw (w .1) (c .before .before .before .loop .inv .1)) (c .if1 .came), ⊎-elim (λ w. rw (w .4) (row-done (c .before .before .before .before .before .before .pre) (omega (arith, w .2 .inv .0, w .3 .left)) (w .2 .inv .2))) (λ w. rw (w .1) (row-left (c .before .before .before .before .before .before .pre) (c .before .before .before .loop .inv .2) (λ x k. step-unled _ _ _ _ _ _ x refl (sym (c .before .leads .ensures) ∙ w .0 .left)))) (c .if1 .came))
+loop-again c = (omega (arith, c .before .before .loop-test .taken), ⊎-elim (λ w. rw (w .5) (w .3 .inv .1)) (λ w. rw (w .1) (c .before .before .before .loop .inv .1)) (c .if1 .came), ⊎-elim (λ w. rw (w .5) (row-rest (c .before .before .before .before .before .before .pre) (let k = line-short (c .before .before .before .before .before .before .args .table .now) (c .before .before .before .before .before .before .args .places) (c .before .before .before .loop .u) (w .2 .ensures) in omega (arith, k, w .3 .inv .0)) (w .3 .inv .2) (λ x h k. step-unasked _ _ _ _ _ _ x refl (sym (c .before .leads .ensures) ∙ w .0 .taken) refl (line-past (c .before .before .before .before .before .before .args .table .now) (c .before .before .before .before .before .before .args .places) (c .before .before .before .loop .u) x (w .2 .ensures) k (omega (arith, h, w .4 .left)))))) (λ w. rw (w .1) (row-left (c .before .before .before .before .before .before .pre) (c .before .before .before .loop .inv .2) (λ x k. step-unled _ _ _ _ _ _ x refl (sym (c .before .leads .ensures) ∙ w .0 .left)))) (c .if1 .came))
 
 returns : tie.Need-returns Inv-loop2 μ-loop2 Inv-loop μ-loop
 returns c = λ u v h k. c .before .loop .inv .2 .before u v k (omega (arith, c .before .before .before .before .pre, c .loop-test .left, c .before .loop .inv .0))
@@ -100,10 +100,10 @@ matching-steps-spec =
     array-read-leads
     leads-requires
     row-at-requires
+    mul-part
+    part-requires
     loop2-holds
-    mul-octet
-    add-octet
-    octet-requires
+    shared-slice-read-if2
     row-at-requires-2
     array-read-matched
     matched-requires

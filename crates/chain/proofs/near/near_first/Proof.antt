@@ -11,7 +11,7 @@ use Rattle.chain.proofs.near.near_first.Statement.{statement}
 use Rattle.chain.proofs.near.near_first.Tie as tie
 
 abbrev Inv-loop : tie.InvT-loop
-Inv-loop image places target near₀ place₀ near place = (place ≤ places) × (length near ≡ 96) × Upto 0 (λ p. firstOf target p (entryIn image p)) near place
+Inv-loop image places target near₀ place₀ near place = (place ≤ places) × (length near ≡ 96) × Upto 0 (λ p. firstOf target p (entryIn image p .kind)) near place
 
 abbrev μ-loop : tie.MeasureT-loop
 μ-loop image places target near₀ place₀ near place = places - place
@@ -19,8 +19,8 @@ abbrev μ-loop : tie.MeasureT-loop
 loop-holds : tie.Need-loop-holds Inv-loop μ-loop
 loop-holds c = (omega arith, refl, record { before = λ c h. absurd (omega arith); behind = λ c h. empty-slots 96 c })
 
-entry-in-requires : tie.Need-entry-in-requires Inv-loop μ-loop
-entry-in-requires c κs = search needs
+kind-in-requires : tie.Need-kind-in-requires Inv-loop μ-loop
+kind-in-requires c κs = search needs
 
 first-requires : tie.Need-first-requires Inv-loop μ-loop
 first-requires c κs = search needs
@@ -35,7 +35,7 @@ loop-less : tie.Need-loop-less Inv-loop μ-loop
 loop-less c = omega (arith, c .before .before .loop-test .taken)
 
 loop-again : tie.Need-loop-again Inv-loop μ-loop
-loop-again c = let inv = c .before .before .before .loop .inv in (omega (arith, c .before .before .loop-test .taken), rw length-set (inv .1), slot-set (inv .2) (omega (arith, inv .1, c .before .before .before .before .before .pre, c .before .before .loop-test .taken)) (rw (c .before .entry-in .ensures) at (c .first .ensures)))
+loop-again c = let inv = c .before .before .before .loop .inv in (omega (arith, c .before .before .loop-test .taken), rw length-set (inv .1), slot-set (inv .2) (omega (arith, inv .1, c .before .before .before .before .before .pre, c .before .before .loop-test .taken)) (rw (c .before .kind-in .ensures) at (c .first .ensures)))
 
 returns : tie.Need-returns Inv-loop μ-loop
 returns c = let all : c .before .loop .place ≡ c .before .before .before .args .places = omega (arith, c .loop-test .left, c .before .loop .inv .0) in λ k h. c .before .loop .inv .2 .before k (omega arith)
@@ -47,7 +47,7 @@ near-first-spec =
     Inv-loop
     μ-loop
     loop-holds
-    entry-in-requires
+    kind-in-requires
     first-requires
     array-write-near
     add-place
