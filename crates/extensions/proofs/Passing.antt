@@ -76,7 +76,7 @@ module _ {s : List ℕ} {x : Element} {shaped marked critical twice strange unsu
     unfolding doubledOf inside
     end-twice t = t ∙ sym (p .apart .told t)
 
-  module _ {e : Element} {slot : ℕ} {mark told : Bool} (f : foundAt s at (x .end) ≡ One e) (h : Slotted s (extensionOf s e) slot) (m : mark ≡ refusedCritical s false (extensionOf s e)) (u : told ≡ refusedCritical s true (extensionOf s e)) where
+  module _ {e : Element} {slot next : ℕ} {mark told : Bool} (f : foundAt s at (x .end) ≡ One e) (ends : next ≡ e .end) (h : Slotted s (extensionOf s e) slot) (m : mark ≡ refusedCritical s false (extensionOf s e)) (u : told ≡ refusedCritical s true (extensionOf s e)) where
     shape-next : extensionsShaped s x ≡ ((shaped && not (eqb slot 24)) && allShaped s (membersOf s (e .end) (x .end)))
     unfolding allShaped
     shape-next = p .shape ∙ rw (members-more s at (x .end) f, h .there) (go shaped (not (eqb slot 24)) (allShaped s (membersOf s (e .end) (x .end))))
@@ -98,10 +98,10 @@ module _ {s : List ℕ} {x : Element} {shaped marked critical twice strange unsu
         go false false c = refl
 
     abbrev Next : Bool → Bool → Bool → List Held → Type 0
-    Next twice strange unsure slots = Far s x (shaped && not (eqb slot 24)) (marked || mark) (critical || told) twice strange unsure slots (e .end)
+    Next twice strange unsure slots = Far s x (shaped && not (eqb slot 24)) (marked || mark) (critical || told) twice strange unsure slots next
 
     far-next : {after : List Held} {doubled stranger doubt : Bool} → Open s (x .contents) (x .end) after (e .end) → Apart s (x .contents) (x .end) after doubled stranger doubt (e .end) → Next doubled stranger doubt after
-    far-next o a = record { shape = shape-next; marks = critical-next false marked mark (p .marks) m; harsh = critical-next true critical told (p .harsh) u; table = o; apart = a }
+    far-next o a = rw ends (record { shape = shape-next; marks = critical-next false marked mark (p .marks) m; harsh = critical-next true critical told (p .harsh) u; table = o; apart = a })
 
     pub far-new : {held : Held} → held ≡ heldOf (extensionOf s e) → slot < 23 → getD slots slot (heldOf Absent) .there ≡ false → Next twice strange unsure (set slots slot held)
     far-new {held} new l g = far-next (open-set (p .table) f h new l g) (apart-new (p .apart) f h held there (p .table .long) l g)

@@ -1,39 +1,22 @@
-// Extensions whose headers have two octets each, found and taken apart at a look.
+// An extension whose headers have two octets each, taken apart at a look.
 use crate::Extension;
 use elements::Element;
-use elements::Found;
-use elements::element_at;
 use elements::short_end;
 ghost use mathlib.Core.Path.{_≡_};
 ghost use mathlib.Core.Bool.{true};
-ghost use Rattle.elements.specs.Elements.{foundAt};
-ghost use Rattle.extensions.specs.Extensions.{extensionOf, present};
+ghost use Rattle.extensions.specs.Extensions.{present};
+ghost use Rattle.extensions.specs.Looks.{endOf, Member};
 
-// The element that starts at `from`, before `end`; most are SEQUENCEs.
-pub(crate) fn sequence_at(item: &[u8], from: usize, end: usize) -> Found
-    ensures { λ r. ⌜ r ≡ foundAt (now (item .entry)) from end ⌝ }
-{
-    let next = short_end(item, from, end, 0x30);
-    if 0 < next {
-        return Found::One(Element {
-            tag: 0x30,
-            at: from,
-            contents: from + 2,
-            end: next,
-        });
-    }
-    element_at(item, from, end)
-}
 
-// The extension, or `Absent` for any that is not of that kind.
-pub(crate) fn brief_extension(item: &[u8], e: Element) -> Extension
-    ensures { λ r. ⌜ (present r ≡ true → r ≡ extensionOf (now (item .entry)) e) ⌝ }
+// The extension that starts at `from`, before `stop`, or `Absent` for any that is not of that kind.
+pub(crate) fn brief_at(item: &[u8], from: usize, stop: usize) -> Extension
+    ensures { λ r. ⌜ (present r ≡ true → Member (now (item .entry)) from stop (endOf r) r) ⌝ }
 {
-    if e.tag != 0x30 {
+    let end = short_end(item, from, stop, 0x30);
+    if end == 0 {
         return Extension::Absent;
     }
-    let at = e.contents;
-    let end = e.end;
+    let at = from + 2;
     let next = short_end(item, at, end, 0x06);
     if next == 0 {
         return Extension::Absent;

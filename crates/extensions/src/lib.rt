@@ -1,8 +1,7 @@
 // Extensions: what one pass tells of all of them, and the look-up by OID.
 mod brief;
 
-use brief::brief_extension;
-use brief::sequence_at;
+use brief::brief_at;
 use elements::Element;
 use elements::Found;
 use elements::contents;
@@ -15,6 +14,7 @@ ghost use mathlib.Core.List.{List, [], _∷_};
 ghost use Prim.Native.Nat.{ℕ, _<_};
 ghost use lib.Dec.{eqb};
 ghost use Rattle.extensions.specs.Extensions.{holdingOf, extensionOf, lookupOf, placeIn, doubledOf, hasOid, sameOids, refusedCritical, oidOf, heldOf, Slotted, Viewed};
+ghost use Rattle.extensions.specs.Looks.{Meets};
 ghost use Rattle.elements.specs.Elements.{membersOf};
 ghost use Rattle.elements.specs.Octets.{alike};
 
@@ -28,24 +28,6 @@ pub enum Extension {
 }
 
 // SEQUENCE {OID, optional BOOLEAN which is then TRUE, OCTET STRING}.
-fn extension_of(item: &[u8], e: Element) -> Extension
-    ensures { λ r. ⌜ r ≡ extensionOf (now (item .entry)) e ⌝ }
-{
-    match brief_extension(item, e) {
-        Extension::Is {
-            oid,
-            critical,
-            value,
-        } => Extension::Is {
-            oid,
-            critical,
-            value,
-        },
-        Extension::Absent => any_extension(item, e),
-    }
-}
-
-// The same with headers of any kind.
 fn any_extension(item: &[u8], e: Element) -> Extension
     ensures { λ r. ⌜ r ≡ extensionOf (now (item .entry)) e ⌝ }
 {
@@ -106,8 +88,8 @@ pub fn lookup(item: &[u8], extensions: Element, oid: &[u8]) -> Extension
 // Of an extension: whether it is there, whether it is critical, and where the contents of its value start and end.
 pub struct Held {
     pub there: bool,
-    pub critical: bool,
     pub start: usize,
+    pub critical: bool,
     pub end: usize,
 }
 
@@ -137,10 +119,11 @@ pub fn one_pass(item: &[u8], extensions: Element) -> Overview
     let mut slots = [none; 23];
     let mut at = extensions.contents;
     loop {
-        let Found::One(e) = sequence_at(item, at, extensions.end) else {
+        let met = met_at(item, at, extensions.end);
+        if !met.found {
             break;
-        };
-        let own = extension_of(item, e);
+        }
+        let own = met.own;
         let slot = slot_of(item, own);
         shaped = shaped & (slot != 24);
         marked = marked | is_critical(own);
@@ -156,7 +139,7 @@ pub fn one_pass(item: &[u8], extensions: Element) -> Overview
             unsure = unsure | strange;
             strange = true;
         }
-        at = e.end;
+        at = met.next;
     }
     if !repeated {
         if unsure {
@@ -169,6 +152,53 @@ pub fn one_pass(item: &[u8], extensions: Element) -> Overview
         critical,
         doubled: repeated,
         slots,
+    }
+}
+
+// The member of a list that starts at an offset: whether there is one, the offset after it, and the extension that it is.
+pub struct Met {
+    pub found: bool,
+    pub next: usize,
+    pub own: Extension,
+}
+
+// Most are told at a look.
+fn met_at(item: &[u8], at: usize, end: usize) -> Met
+    ensures { λ r. ⌜ Meets (now (item .entry)) at end r ⌝ }
+{
+    match brief_at(item, at, end) {
+        Extension::Is {
+            oid,
+            critical,
+            value,
+        } => Met {
+            found: true,
+            next: value.end,
+            own: Extension::Is {
+                oid,
+                critical,
+                value,
+            },
+        },
+        Extension::Absent => any_at(item, at, end),
+    }
+}
+
+// The same with headers of any kind.
+fn any_at(item: &[u8], at: usize, end: usize) -> Met
+    ensures { λ r. ⌜ Meets (now (item .entry)) at end r ⌝ }
+{
+    let Found::One(e) = element_at(item, at, end) else {
+        return Met {
+            found: false,
+            next: at,
+            own: Extension::Absent,
+        };
+    };
+    Met {
+        found: true,
+        next: e.end,
+        own: any_extension(item, e),
     }
 }
 
@@ -281,13 +311,13 @@ fn doubled(item: &[u8], extensions: Element) -> bool
     let mut at = extensions.contents;
     let mut twice = false;
     'each: loop {
-        let Found::One(e) = sequence_at(item, at, end) else {
+        let Found::One(e) = element_at(item, at, end) else {
             break 'each;
         };
         let own = any_extension(item, e);
         let mut later = e.end;
         loop {
-            let Found::One(other) = sequence_at(item, later, end) else {
+            let Found::One(other) = element_at(item, later, end) else {
                 break;
             };
             if doubles(item, own, other) {
@@ -307,7 +337,7 @@ fn place_of(item: &[u8], from: usize, end: usize, oid: &[u8]) -> usize
 {
     let mut at = from;
     loop {
-        let Found::One(e) = sequence_at(item, at, end) else {
+        let Found::One(e) = element_at(item, at, end) else {
             break end;
         };
         if has_oid(item, oid, any_extension(item, e)) {

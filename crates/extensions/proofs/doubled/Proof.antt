@@ -25,8 +25,8 @@ abbrev μ-each : tie.MeasureT-each
 each-holds : tie.Need-each-holds Inv-loop μ-loop Inv-each μ-each
 each-holds c = (refl, refl)
 
-sequence-at-requires : tie.Need-sequence-at-requires Inv-loop μ-loop Inv-each μ-each
-sequence-at-requires c κs = search needs
+element-at-requires : tie.Need-element-at-requires Inv-loop μ-loop Inv-each μ-each
+element-at-requires c κs = search needs
 
 enum-known-e : tie.Need-enum-known-e Inv-loop μ-loop Inv-each μ-each
 enum-known-e c = search needs
@@ -40,8 +40,8 @@ any-extension-requires c κs = search needs
 loop-holds : tie.Need-loop-holds Inv-loop μ-loop Inv-each μ-each
 loop-holds c = (c .before .before .before .before .before .each .inv .0, refl)
 
-sequence-at-requires-2 : tie.Need-sequence-at-requires-2 Inv-loop μ-loop Inv-each μ-each
-sequence-at-requires-2 c κs = search needs
+element-at-requires-2 : tie.Need-element-at-requires-2 Inv-loop μ-loop Inv-each μ-each
+element-at-requires-2 c κs = search needs
 
 enum-known-other : tie.Need-enum-known-other Inv-loop μ-loop Inv-each μ-each
 enum-known-other c = search needs
@@ -53,26 +53,26 @@ doubles-requires : tie.Need-doubles-requires Inv-loop μ-loop Inv-each μ-each
 doubles-requires c κs = search needs
 
 loop-less : tie.Need-loop-less Inv-loop μ-loop Inv-each μ-each
-loop-less c = omega (arith, found-within _ _ _ (sym (c .before .before .before .before .before .sequence-at2 .ensures) ∙ c .before .before .before .other .given .1))
+loop-less c = omega (arith, found-within _ _ _ (sym (c .before .before .before .before .before .element-at2 .ensures) ∙ c .before .before .before .other .given .1))
 
 loop-again : tie.Need-loop-again Inv-loop μ-loop Inv-each μ-each
 unfolding standsIn
-loop-again c = (c .before .before .before .before .before .before .loop .inv .0, c .before .before .before .before .before .before .loop .inv .1 ∙ rw (members-more _ _ _ (sym (c .before .before .before .before .before .sequence-at2 .ensures) ∙ c .before .before .before .other .given .1), ← c .before .doubles .ensures, c .if1 .left))
+loop-again c = (c .before .before .before .before .before .before .loop .inv .0, c .before .before .before .before .before .before .loop .inv .1 ∙ rw (members-more _ _ _ (sym (c .before .before .before .before .before .element-at2 .ensures) ∙ c .before .before .before .other .given .1), ← c .before .doubles .ensures, c .if1 .left))
 
 each-less : tie.Need-each-less Inv-loop μ-loop Inv-each μ-each
-each-less c = omega (arith, found-within _ _ _ (sym (c .before .before .before .before .before .before .before .before .sequence-at .ensures) ∙ c .before .before .before .before .before .before .e .given .1))
+each-less c = omega (arith, found-within _ _ _ (sym (c .before .before .before .before .before .before .before .before .element-at .ensures) ∙ c .before .before .before .before .before .before .e .given .1))
 
 each-again : tie.Need-each-again Inv-loop μ-loop Inv-each μ-each
 unfolding doubledIn standsIn
-each-again c = (c .before .before .before .loop .inv .0, c .before .before .before .before .before .before .before .before .before .each .inv .1 ∙ rw (members-more _ _ _ (sym (c .before .before .before .before .before .before .before .before .sequence-at .ensures) ∙ c .before .before .before .before .before .before .e .given .1), ← c .before .before .before .before .any-extension .ensures, c .before .before .before .loop .inv .1, members-none _ _ _ (sym (c .before .before .sequence-at2 .ensures) ∙ c .enum-told2 .given .1)))
+each-again c = (c .before .before .before .loop .inv .0, c .before .before .before .before .before .before .before .before .before .each .inv .1 ∙ rw (members-more _ _ _ (sym (c .before .before .before .before .before .before .before .before .element-at .ensures) ∙ c .before .before .before .before .before .before .e .given .1), ← c .before .before .before .before .any-extension .ensures, c .before .before .before .loop .inv .1, members-none _ _ _ (sym (c .before .before .element-at2 .ensures) ∙ c .enum-told2 .given .1)))
 
 returns : tie.Need-returns Inv-loop μ-loop Inv-each μ-each
 unfolding doubledOf inside doubledIn
-returns c = c .before .before .before .each .inv .0 ∙ sym (c .before .before .before .each .inv .1 ∙ rw (members-none _ _ _ (sym (c .before .before .sequence-at .ensures) ∙ c .enum-told .given .1)))
+returns c = c .before .before .before .each .inv .0 ∙ sym (c .before .before .before .each .inv .1 ∙ rw (members-none _ _ _ (sym (c .before .before .element-at .ensures) ∙ c .enum-told .given .1)))
 
 returns-2 : tie.Need-returns-2 Inv-loop μ-loop Inv-each μ-each
 unfolding doubledOf inside doubledIn standsIn
-returns-2 c = sym (c .before .before .before .before .before .before .before .before .before .before .before .before .each .inv .1 ∙ rw (members-more _ _ _ (sym (c .before .before .before .before .before .before .before .before .before .before .before .sequence-at .ensures) ∙ c .before .before .before .before .before .before .before .before .before .e .given .1), ← c .before .before .before .before .before .before .before .any-extension .ensures, c .before .before .before .before .before .before .loop .inv .1, members-more _ _ _ (sym (c .before .before .before .before .before .sequence-at2 .ensures) ∙ c .before .before .before .other .given .1), ← c .before .doubles .ensures, c .if1 .taken))
+returns-2 c = sym (c .before .before .before .before .before .before .before .before .before .before .before .before .each .inv .1 ∙ rw (members-more _ _ _ (sym (c .before .before .before .before .before .before .before .before .before .before .before .element-at .ensures) ∙ c .before .before .before .before .before .before .before .before .before .e .given .1), ← c .before .before .before .before .before .before .before .any-extension .ensures, c .before .before .before .before .before .before .loop .inv .1, members-more _ _ _ (sym (c .before .before .before .before .before .element-at2 .ensures) ∙ c .before .before .before .other .given .1), ← c .before .doubles .ensures, c .if1 .taken))
 
 pub doubled-spec : {M : Type 1} → statement M
 doubled-spec =
@@ -83,12 +83,12 @@ doubled-spec =
     Inv-each
     μ-each
     each-holds
-    sequence-at-requires
+    element-at-requires
     enum-known-e
     enum-told
     any-extension-requires
     loop-holds
-    sequence-at-requires-2
+    element-at-requires-2
     enum-known-other
     enum-told-2
     doubles-requires

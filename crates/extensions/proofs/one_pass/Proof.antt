@@ -24,17 +24,8 @@ held-of-requires c κs = search needs
 loop-holds : tie.Need-loop-holds Inv-loop μ-loop
 loop-holds c = rw (c .held-of .ensures) (far-start _ _)
 
-sequence-at-requires : tie.Need-sequence-at-requires Inv-loop μ-loop
-sequence-at-requires c κs = search needs
-
-enum-known-e : tie.Need-enum-known-e Inv-loop μ-loop
-enum-known-e c = search needs
-
-enum-told : tie.Need-enum-told Inv-loop μ-loop
-enum-told c = search needs
-
-extension-of-requires : tie.Need-extension-of-requires Inv-loop μ-loop
-extension-of-requires c κs = search needs
+met-at-requires : tie.Need-met-at-requires Inv-loop μ-loop
+met-at-requires c κs = search needs
 
 slot-of-requires : tie.Need-slot-of-requires Inv-loop μ-loop
 slot-of-requires c κs = search needs
@@ -49,7 +40,7 @@ mul-first : tie.Need-mul-first Inv-loop μ-loop
 mul-first c = search needs
 
 array-copy-out-first : tie.Need-array-copy-out-first Inv-loop μ-loop
-array-copy-out-first c = omega (arith, c .before .before .before .before .before .before .before .before .before .loop .inv .table .long, c .if1 .taken)
+array-copy-out-first c = omega (arith, c .before .before .before .before .before .before .before .loop .inv .table .long, c .if2 .taken)
 
 held-of-requires-2 : tie.Need-held-of-requires-2 Inv-loop μ-loop
 held-of-requires-2 c κs = search needs
@@ -58,45 +49,45 @@ mul-slots : tie.Need-mul-slots Inv-loop μ-loop
 mul-slots c = search needs
 
 array-set-from-slots : tie.Need-array-set-from-slots Inv-loop μ-loop
-array-set-from-slots c = omega (arith, c .before .before .before .before .before .before .before .before .before .before .before .before .loop .inv .table .long, c .before .before .before .if1 .taken)
+array-set-from-slots c = omega (arith, c .before .before .before .before .before .before .before .before .before .before .loop .inv .table .long, c .before .before .before .if2 .taken)
 
 loop-less : tie.Need-loop-less Inv-loop μ-loop
-loop-less c = omega (arith, found-within _ _ _ (sym (c .before .before .before .before .before .before .before .before .before .before .sequence-at .ensures) ∙ c .before .before .before .before .before .before .before .before .e .given .1))
+loop-less c = omega (arith, (c .before .before .before .before .before .before .before .before .met-at .ensures .some (not-false _ (c .before .before .before .before .before .before .if1 .left))) .ends, found-within _ _ _ ((c .before .before .before .before .before .before .before .before .met-at .ensures .some (not-false _ (c .before .before .before .before .before .before .if1 .left))) .found))
 
 loop-again : tie.Need-loop-again Inv-loop μ-loop
 unfolding heldOf
-loop-again c = far-again (c .before .before .before .before .before .before .before .before .before .before .before .loop .inv) (sym (c .before .before .before .before .before .before .before .before .before .before .sequence-at .ensures) ∙ c .before .before .before .before .before .before .before .before .e .given .1) (rw (← c .before .before .before .before .before .before .extension-of .ensures) (c .before .before .before .before .before .slot-of .ensures)) (rw (← c .before .before .before .before .before .before .extension-of .ensures) (c .before .before .before .before .is-critical .ensures _)) (rw (← c .before .before .before .before .before .before .extension-of .ensures) (c .before .before .before .unusual .ensures _ (c .before .before .before .before .before .slot-of .ensures))) (c .before .before .if1 .taken) (c .if2 .taken)
+loop-again c = far-again (c .before .before .before .before .before .before .before .before .before .loop .inv) ((c .before .before .before .before .before .before .before .before .met-at .ensures .some (not-false _ (c .before .before .before .before .before .before .if1 .left))) .found) ((c .before .before .before .before .before .before .before .before .met-at .ensures .some (not-false _ (c .before .before .before .before .before .before .if1 .left))) .ends) (rw ((c .before .before .before .before .before .before .before .before .met-at .ensures .some (not-false _ (c .before .before .before .before .before .before .if1 .left))) .is) at (c .before .before .before .before .before .slot-of .ensures)) (rw (← (c .before .before .before .before .before .before .before .before .met-at .ensures .some (not-false _ (c .before .before .before .before .before .before .if1 .left))) .is) (c .before .before .before .before .is-critical .ensures _)) (rw (← (c .before .before .before .before .before .before .before .before .met-at .ensures .some (not-false _ (c .before .before .before .before .before .before .if1 .left))) .is) (c .before .before .before .unusual .ensures _ (c .before .before .before .before .before .slot-of .ensures))) (c .before .before .if2 .taken) (c .if3 .taken)
 
 loop-less-2 : tie.Need-loop-less-2 Inv-loop μ-loop
-loop-less-2 c = omega (arith, found-within _ _ _ (sym (c .before .before .before .before .before .before .before .before .before .before .before .sequence-at .ensures) ∙ c .before .before .before .before .before .before .before .before .before .e .given .1))
+loop-less-2 c = omega (arith, (c .before .before .before .before .before .before .before .before .before .met-at .ensures .some (not-false _ (c .before .before .before .before .before .before .before .if1 .left))) .ends, found-within _ _ _ ((c .before .before .before .before .before .before .before .before .before .met-at .ensures .some (not-false _ (c .before .before .before .before .before .before .before .if1 .left))) .found))
 
 loop-again-2 : tie.Need-loop-again-2 Inv-loop μ-loop
 unfolding heldOf
-loop-again-2 c = far-new (c .before .before .before .before .before .before .before .before .before .before .before .before .loop .inv) (sym (c .before .before .before .before .before .before .before .before .before .before .before .sequence-at .ensures) ∙ c .before .before .before .before .before .before .before .before .before .e .given .1) (rw (← c .before .before .before .before .before .before .before .extension-of .ensures) (c .before .before .before .before .before .before .slot-of .ensures)) (rw (← c .before .before .before .before .before .before .before .extension-of .ensures) (c .before .before .before .before .before .is-critical .ensures _)) (rw (← c .before .before .before .before .before .before .before .extension-of .ensures) (c .before .before .before .before .unusual .ensures _ (c .before .before .before .before .before .before .slot-of .ensures))) (rw (← c .before .before .before .before .before .before .before .extension-of .ensures) (c .held-of2 .ensures)) (c .before .before .before .if1 .taken) (c .before .if2 .left)
+loop-again-2 c = far-new (c .before .before .before .before .before .before .before .before .before .before .loop .inv) ((c .before .before .before .before .before .before .before .before .before .met-at .ensures .some (not-false _ (c .before .before .before .before .before .before .before .if1 .left))) .found) ((c .before .before .before .before .before .before .before .before .before .met-at .ensures .some (not-false _ (c .before .before .before .before .before .before .before .if1 .left))) .ends) (rw ((c .before .before .before .before .before .before .before .before .before .met-at .ensures .some (not-false _ (c .before .before .before .before .before .before .before .if1 .left))) .is) at (c .before .before .before .before .before .before .slot-of .ensures)) (rw (← (c .before .before .before .before .before .before .before .before .before .met-at .ensures .some (not-false _ (c .before .before .before .before .before .before .before .if1 .left))) .is) (c .before .before .before .before .before .is-critical .ensures _)) (rw (← (c .before .before .before .before .before .before .before .before .before .met-at .ensures .some (not-false _ (c .before .before .before .before .before .before .before .if1 .left))) .is) (c .before .before .before .before .unusual .ensures _ (c .before .before .before .before .before .before .slot-of .ensures))) (rw (← (c .before .before .before .before .before .before .before .before .before .met-at .ensures .some (not-false _ (c .before .before .before .before .before .before .before .if1 .left))) .is) (c .held-of2 .ensures)) (c .before .before .before .if2 .taken) (c .before .if3 .left)
 
 loop-less-3 : tie.Need-loop-less-3 Inv-loop μ-loop
-loop-less-3 c = omega (arith, found-within _ _ _ (sym (c .before .before .before .before .before .before .before .before .before .sequence-at .ensures) ∙ c .before .before .before .before .before .before .before .e .given .1))
+loop-less-3 c = omega (arith, (c .before .before .before .before .before .before .before .met-at .ensures .some (not-false _ (c .before .before .before .before .before .if1 .left))) .ends, found-within _ _ _ ((c .before .before .before .before .before .before .before .met-at .ensures .some (not-false _ (c .before .before .before .before .before .if1 .left))) .found))
 
 loop-again-3 : tie.Need-loop-again-3 Inv-loop μ-loop
-loop-again-3 c = far-stranger (c .before .before .before .before .before .before .before .before .before .before .loop .inv) (sym (c .before .before .before .before .before .before .before .before .before .sequence-at .ensures) ∙ c .before .before .before .before .before .before .before .e .given .1) (rw (← c .before .before .before .before .before .extension-of .ensures) (c .before .before .before .before .slot-of .ensures)) (rw (← c .before .before .before .before .before .extension-of .ensures) (c .before .before .before .is-critical .ensures _)) (rw (← c .before .before .before .before .before .extension-of .ensures) (c .before .before .unusual .ensures _ (c .before .before .before .before .slot-of .ensures))) (c .before .if1 .left)
+loop-again-3 c = far-stranger (c .before .before .before .before .before .before .before .before .loop .inv) ((c .before .before .before .before .before .before .before .met-at .ensures .some (not-false _ (c .before .before .before .before .before .if1 .left))) .found) ((c .before .before .before .before .before .before .before .met-at .ensures .some (not-false _ (c .before .before .before .before .before .if1 .left))) .ends) (rw ((c .before .before .before .before .before .before .before .met-at .ensures .some (not-false _ (c .before .before .before .before .before .if1 .left))) .is) at (c .before .before .before .before .slot-of .ensures)) (rw (← (c .before .before .before .before .before .before .before .met-at .ensures .some (not-false _ (c .before .before .before .before .before .if1 .left))) .is) (c .before .before .before .is-critical .ensures _)) (rw (← (c .before .before .before .before .before .before .before .met-at .ensures .some (not-false _ (c .before .before .before .before .before .if1 .left))) .is) (c .before .before .unusual .ensures _ (c .before .before .before .before .slot-of .ensures))) (c .before .if2 .left)
 
 loop-less-4 : tie.Need-loop-less-4 Inv-loop μ-loop
-loop-less-4 c = omega (arith, found-within _ _ _ (sym (c .before .before .before .before .before .before .before .before .before .sequence-at .ensures) ∙ c .before .before .before .before .before .before .before .e .given .1))
+loop-less-4 c = omega (arith, (c .before .before .before .before .before .before .before .met-at .ensures .some (not-false _ (c .before .before .before .before .before .if1 .left))) .ends, found-within _ _ _ ((c .before .before .before .before .before .before .before .met-at .ensures .some (not-false _ (c .before .before .before .before .before .if1 .left))) .found))
 
 loop-again-4 : tie.Need-loop-again-4 Inv-loop μ-loop
-loop-again-4 c = far-none (c .before .before .before .before .before .before .before .before .before .before .loop .inv) (sym (c .before .before .before .before .before .before .before .before .before .sequence-at .ensures) ∙ c .before .before .before .before .before .before .before .e .given .1) (rw (← c .before .before .before .before .before .extension-of .ensures) (c .before .before .before .before .slot-of .ensures)) (rw (← c .before .before .before .before .before .extension-of .ensures) (c .before .before .before .is-critical .ensures _)) (rw (← c .before .before .before .before .before .extension-of .ensures) (c .before .before .unusual .ensures _ (c .before .before .before .before .slot-of .ensures))) (c .if3 .left)
+loop-again-4 c = far-none (c .before .before .before .before .before .before .before .before .loop .inv) ((c .before .before .before .before .before .before .before .met-at .ensures .some (not-false _ (c .before .before .before .before .before .if1 .left))) .found) ((c .before .before .before .before .before .before .before .met-at .ensures .some (not-false _ (c .before .before .before .before .before .if1 .left))) .ends) (rw ((c .before .before .before .before .before .before .before .met-at .ensures .some (not-false _ (c .before .before .before .before .before .if1 .left))) .is) at (c .before .before .before .before .slot-of .ensures)) (rw (← (c .before .before .before .before .before .before .before .met-at .ensures .some (not-false _ (c .before .before .before .before .before .if1 .left))) .is) (c .before .before .before .is-critical .ensures _)) (rw (← (c .before .before .before .before .before .before .before .met-at .ensures .some (not-false _ (c .before .before .before .before .before .if1 .left))) .is) (c .before .before .unusual .ensures _ (c .before .before .before .before .slot-of .ensures))) (c .if4 .left)
 
 doubled-requires : tie.Need-doubled-requires Inv-loop μ-loop
 doubled-requires c κs = search needs
 
 returns : tie.Need-returns Inv-loop μ-loop
-returns c = record { shaped = end-shape (c .before .before .before .before .before .before .loop .inv) (sym (c .before .before .before .before .before .sequence-at .ensures) ∙ c .before .before .before .enum-told .given .1); marked = end-marks (c .before .before .before .before .before .before .loop .inv) (sym (c .before .before .before .before .before .sequence-at .ensures) ∙ c .before .before .before .enum-told .given .1); critical = end-harsh (c .before .before .before .before .before .before .loop .inv) (sym (c .before .before .before .before .before .sequence-at .ensures) ∙ c .before .before .before .enum-told .given .1); doubled = c .doubled .ensures; placed = end-placed (c .before .before .before .before .before .before .loop .inv) (sym (c .before .before .before .before .before .sequence-at .ensures) ∙ c .before .before .before .enum-told .given .1) }
+returns c = record { shaped = end-shape (c .before .before .before .before .before .before .loop .inv) (c .before .before .before .before .before .met-at .ensures .none (not-true _ (c .before .before .before .if1 .taken))); marked = end-marks (c .before .before .before .before .before .before .loop .inv) (c .before .before .before .before .before .met-at .ensures .none (not-true _ (c .before .before .before .if1 .taken))); critical = end-harsh (c .before .before .before .before .before .before .loop .inv) (c .before .before .before .before .before .met-at .ensures .none (not-true _ (c .before .before .before .if1 .taken))); doubled = c .doubled .ensures; placed = end-placed (c .before .before .before .before .before .before .loop .inv) (c .before .before .before .before .before .met-at .ensures .none (not-true _ (c .before .before .before .if1 .taken))) }
 
 returns-2 : tie.Need-returns-2 Inv-loop μ-loop
-returns-2 c = record { shaped = end-shape (c .before .before .before .before .before .loop .inv) (sym (c .before .before .before .before .sequence-at .ensures) ∙ c .before .before .enum-told .given .1); marked = end-marks (c .before .before .before .before .before .loop .inv) (sym (c .before .before .before .before .sequence-at .ensures) ∙ c .before .before .enum-told .given .1); critical = end-harsh (c .before .before .before .before .before .loop .inv) (sym (c .before .before .before .before .sequence-at .ensures) ∙ c .before .before .enum-told .given .1); doubled = end-apart (c .before .before .before .before .before .loop .inv) (sym (c .before .before .before .before .sequence-at .ensures) ∙ c .before .before .enum-told .given .1) (not-true _ (c .before .if4 .taken)) (c .if5 .left); placed = end-placed (c .before .before .before .before .before .loop .inv) (sym (c .before .before .before .before .sequence-at .ensures) ∙ c .before .before .enum-told .given .1) }
+returns-2 c = record { shaped = end-shape (c .before .before .before .before .before .loop .inv) (c .before .before .before .before .met-at .ensures .none (not-true _ (c .before .before .if1 .taken))); marked = end-marks (c .before .before .before .before .before .loop .inv) (c .before .before .before .before .met-at .ensures .none (not-true _ (c .before .before .if1 .taken))); critical = end-harsh (c .before .before .before .before .before .loop .inv) (c .before .before .before .before .met-at .ensures .none (not-true _ (c .before .before .if1 .taken))); doubled = end-apart (c .before .before .before .before .before .loop .inv) (c .before .before .before .before .met-at .ensures .none (not-true _ (c .before .before .if1 .taken))) (not-true _ (c .before .if5 .taken)) (c .if6 .left); placed = end-placed (c .before .before .before .before .before .loop .inv) (c .before .before .before .before .met-at .ensures .none (not-true _ (c .before .before .if1 .taken))) }
 
 returns-3 : tie.Need-returns-3 Inv-loop μ-loop
-returns-3 c = record { shaped = end-shape (c .before .before .before .before .loop .inv) (sym (c .before .before .before .sequence-at .ensures) ∙ c .before .enum-told .given .1); marked = end-marks (c .before .before .before .before .loop .inv) (sym (c .before .before .before .sequence-at .ensures) ∙ c .before .enum-told .given .1); critical = end-harsh (c .before .before .before .before .loop .inv) (sym (c .before .before .before .sequence-at .ensures) ∙ c .before .enum-told .given .1); doubled = end-twice (c .before .before .before .before .loop .inv) (sym (c .before .before .before .sequence-at .ensures) ∙ c .before .enum-told .given .1) (not-false _ (c .if4 .left)); placed = end-placed (c .before .before .before .before .loop .inv) (sym (c .before .before .before .sequence-at .ensures) ∙ c .before .enum-told .given .1) }
+returns-3 c = record { shaped = end-shape (c .before .before .before .before .loop .inv) (c .before .before .before .met-at .ensures .none (not-true _ (c .before .if1 .taken))); marked = end-marks (c .before .before .before .before .loop .inv) (c .before .before .before .met-at .ensures .none (not-true _ (c .before .if1 .taken))); critical = end-harsh (c .before .before .before .before .loop .inv) (c .before .before .before .met-at .ensures .none (not-true _ (c .before .if1 .taken))); doubled = end-twice (c .before .before .before .before .loop .inv) (c .before .before .before .met-at .ensures .none (not-true _ (c .before .if1 .taken))) (not-false _ (c .if5 .left)); placed = end-placed (c .before .before .before .before .loop .inv) (c .before .before .before .met-at .ensures .none (not-true _ (c .before .if1 .taken))) }
 
 pub one-pass-spec : {M : Type 1} → statement M
 one-pass-spec =
@@ -106,10 +97,7 @@ one-pass-spec =
     μ-loop
     held-of-requires
     loop-holds
-    sequence-at-requires
-    enum-known-e
-    enum-told
-    extension-of-requires
+    met-at-requires
     slot-of-requires
     is-critical-requires
     unusual-requires

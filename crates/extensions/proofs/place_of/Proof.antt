@@ -18,8 +18,8 @@ abbrev μ-loop : tie.MeasureT-loop
 loop-holds : tie.Need-loop-holds Inv-loop μ-loop
 loop-holds c = refl
 
-sequence-at-requires : tie.Need-sequence-at-requires Inv-loop μ-loop
-sequence-at-requires c κs = search needs
+element-at-requires : tie.Need-element-at-requires Inv-loop μ-loop
+element-at-requires c κs = search needs
 
 enum-known-e : tie.Need-enum-known-e Inv-loop μ-loop
 enum-known-e c = search needs
@@ -34,19 +34,19 @@ has-oid-requires : tie.Need-has-oid-requires Inv-loop μ-loop
 has-oid-requires c κs = search needs
 
 loop-less : tie.Need-loop-less Inv-loop μ-loop
-loop-less c = omega (arith, found-within _ _ _ (sym (c .before .before .before .before .before .before .sequence-at .ensures) ∙ c .before .before .before .before .e .given .1))
+loop-less c = omega (arith, found-within _ _ _ (sym (c .before .before .before .before .before .before .element-at .ensures) ∙ c .before .before .before .before .e .given .1))
 
 loop-again : tie.Need-loop-again Inv-loop μ-loop
 unfolding placeIn
-loop-again c = c .before .before .before .before .before .before .before .loop .inv ∙ rw (members-more _ _ _ (sym (c .before .before .before .before .before .before .sequence-at .ensures) ∙ c .before .before .before .before .e .given .1), ← c .before .before .any-extension .ensures, ← c .before .has-oid .ensures, c .if1 .left)
+loop-again c = c .before .before .before .before .before .before .before .loop .inv ∙ rw (members-more _ _ _ (sym (c .before .before .before .before .before .before .element-at .ensures) ∙ c .before .before .before .before .e .given .1), ← c .before .before .any-extension .ensures, ← c .before .has-oid .ensures, c .if1 .left)
 
 returns : tie.Need-returns Inv-loop μ-loop
 unfolding placeIn
-returns c = sym (c .before .before .before .loop .inv ∙ rw (members-none _ _ _ (sym (c .before .before .sequence-at .ensures) ∙ c .enum-told .given .1)))
+returns c = sym (c .before .before .before .loop .inv ∙ rw (members-none _ _ _ (sym (c .before .before .element-at .ensures) ∙ c .enum-told .given .1)))
 
 returns-2 : tie.Need-returns-2 Inv-loop μ-loop
 unfolding placeIn
-returns-2 c = sym (c .before .before .before .before .before .before .before .loop .inv ∙ rw (members-more _ _ _ (sym (c .before .before .before .before .before .before .sequence-at .ensures) ∙ c .before .before .before .before .e .given .1), ← c .before .before .any-extension .ensures, ← c .before .has-oid .ensures, c .if1 .taken) (found-within _ _ _ (sym (c .before .before .before .before .before .before .sequence-at .ensures) ∙ c .before .before .before .before .e .given .1) .0))
+returns-2 c = sym (c .before .before .before .before .before .before .before .loop .inv ∙ rw (members-more _ _ _ (sym (c .before .before .before .before .before .before .element-at .ensures) ∙ c .before .before .before .before .e .given .1), ← c .before .before .any-extension .ensures, ← c .before .has-oid .ensures, c .if1 .taken) (found-within _ _ _ (sym (c .before .before .before .before .before .before .element-at .ensures) ∙ c .before .before .before .before .e .given .1) .0))
 
 pub place-of-spec : {M : Type 1} → statement M
 place-of-spec =
@@ -55,7 +55,7 @@ place-of-spec =
     Inv-loop
     μ-loop
     loop-holds
-    sequence-at-requires
+    element-at-requires
     enum-known-e
     enum-told
     any-extension-requires

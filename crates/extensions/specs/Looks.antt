@@ -1,0 +1,29 @@
+-- What the pass over extensions is told of one member. No public promise cites this.
+use Prim.Native.Nat.{ℕ}
+use mathlib.Core.Bool.{true, false}
+use mathlib.Core.List.{List}
+use mathlib.Core.Path.{_≡_}
+use Rattle.elements.specs.declared.elements.Element.{Element}
+use Rattle.elements.specs.declared.elements.Found.the-variants.{One, Missing}
+use Rattle.elements.specs.Elements.{foundAt}
+use Rattle.extensions.specs.declared.Extension.{Extension}
+use Rattle.extensions.specs.declared.Extension.the-variants.{Is, Absent}
+use Rattle.extensions.specs.declared.Met.{Met}
+use Rattle.extensions.specs.Extensions.{extensionOf}
+
+-- where an extension ends: with its value
+unfoldable pub endOf : Extension → ℕ
+endOf (Is oid critical value) = value .end
+endOf Absent = 0
+
+-- the member at an offset, and the extension that it is
+pub record Member (s : List ℕ) (at end next : ℕ) (own : Extension) : Type 0 where
+  pub e : Element
+  pub found : foundAt s at end ≡ One e
+  pub ends : next ≡ e .end
+  pub is : own ≡ extensionOf s e
+
+-- what is met at an offset: a member, or none
+pub record Meets (s : List ℕ) (at end : ℕ) (m : Met) : Type 0 where
+  pub some : m .found ≡ true → Member s at end (m .next) (m .own)
+  pub none : m .found ≡ false → foundAt s at end ≡ Missing
