@@ -7,7 +7,6 @@ ghost use mathlib.Core.Bool.{true};
 ghost use Rattle.extensions.specs.Extensions.{present};
 ghost use Rattle.extensions.specs.Looks.{endOf, Member};
 
-
 // The extension that starts at `from`, before `stop`, or `Absent` for any that is not of that kind.
 pub(crate) fn brief_at(item: &[u8], from: usize, stop: usize) -> Extension
     ensures { λ r. ⌜ (present r ≡ true → Member (now (item .entry)) from stop (endOf r) r) ⌝ }

@@ -1,0 +1,66 @@
+-- Of the extensions, those from `at` on are left: the place among all is the place among them.
+use Prim.Native.Nat.{_-_}
+use mathlib.Core.Path.{_≡_, refl, sym, _∙_}
+use borrow.Author.Needs.{needs}
+use native.Mathlib.Omega.{arith}
+use Rattle.elements.specs.Elements.{membersOf}
+use Rattle.extensions.specs.Extensions.{placeIn}
+use Rattle.elements.proofs.Members.{found-within, members-none, members-more}
+use Rattle.extensions.proofs.finding.place_of.Statement.{statement}
+use Rattle.extensions.proofs.finding.place_of.Tie as tie
+
+abbrev Inv-loop : tie.InvT-loop
+Inv-loop item from end oid at₀ at = placeIn item oid (membersOf item from end) end ≡ placeIn item oid (membersOf item at end) end
+
+abbrev μ-loop : tie.MeasureT-loop
+μ-loop item from end oid at₀ at = end - at
+
+loop-holds : tie.Need-loop-holds Inv-loop μ-loop
+loop-holds c = refl
+
+element-at-requires : tie.Need-element-at-requires Inv-loop μ-loop
+element-at-requires c κs = search needs
+
+enum-known-e : tie.Need-enum-known-e Inv-loop μ-loop
+enum-known-e c = search needs
+
+enum-told : tie.Need-enum-told Inv-loop μ-loop
+enum-told c = search needs
+
+any-extension-requires : tie.Need-any-extension-requires Inv-loop μ-loop
+any-extension-requires c κs = search needs
+
+has-oid-requires : tie.Need-has-oid-requires Inv-loop μ-loop
+has-oid-requires c κs = search needs
+
+loop-less : tie.Need-loop-less Inv-loop μ-loop
+loop-less c = omega (arith, found-within _ _ _ (sym (c .before .before .before .before .before .before .element-at .ensures) ∙ c .before .before .before .before .e .given .1))
+
+loop-again : tie.Need-loop-again Inv-loop μ-loop
+unfolding placeIn
+loop-again c = c .before .before .before .before .before .before .before .loop .inv ∙ rw (members-more _ _ _ (sym (c .before .before .before .before .before .before .element-at .ensures) ∙ c .before .before .before .before .e .given .1), ← c .before .before .any-extension .ensures, ← c .before .has-oid .ensures, c .if1 .left)
+
+returns : tie.Need-returns Inv-loop μ-loop
+unfolding placeIn
+returns c = sym (c .before .before .before .loop .inv ∙ rw (members-none _ _ _ (sym (c .before .before .element-at .ensures) ∙ c .enum-told .given .1)))
+
+returns-2 : tie.Need-returns-2 Inv-loop μ-loop
+unfolding placeIn
+returns-2 c = sym (c .before .before .before .before .before .before .before .loop .inv ∙ rw (members-more _ _ _ (sym (c .before .before .before .before .before .before .element-at .ensures) ∙ c .before .before .before .before .e .given .1), ← c .before .before .any-extension .ensures, ← c .before .has-oid .ensures, c .if1 .taken) (found-within _ _ _ (sym (c .before .before .before .before .before .before .element-at .ensures) ∙ c .before .before .before .before .e .given .1) .0))
+
+pub place-of-spec : {M : Type 1} → statement M
+place-of-spec =
+    tie.close
+    (tie.spec
+    Inv-loop
+    μ-loop
+    loop-holds
+    element-at-requires
+    enum-known-e
+    enum-told
+    any-extension-requires
+    has-oid-requires
+    loop-less
+    loop-again
+    returns
+    returns-2)

@@ -1,0 +1,100 @@
+-- Of the extensions, those from `at` on are left, and of those to be compared with this one, those from `later` on.
+use Prim.Native.Nat.{_-_}
+use mathlib.Core.Path.{_≡_, refl, sym, _∙_}
+use mathlib.Core.Bool.{false}
+use borrow.Author.Needs.{needs}
+use native.Mathlib.Omega.{arith}
+use Rattle.elements.specs.Elements.{membersOf, inside}
+use Rattle.extensions.specs.Extensions.{standsIn, doubledIn, doubledOf}
+use Rattle.elements.proofs.Members.{found-within, members-none, members-more}
+use Rattle.extensions.proofs.twice.doubled.Statement.{statement}
+use Rattle.extensions.proofs.twice.doubled.Tie as tie
+
+abbrev Inv-loop : tie.InvT-loop
+Inv-loop item end at twice₀ e own later₀ twice later = (twice ≡ false) × (standsIn item own (membersOf item later₀ end) ≡ standsIn item own (membersOf item later end))
+
+abbrev μ-loop : tie.MeasureT-loop
+μ-loop item end at twice₀ e own later₀ twice later = end - later
+
+abbrev Inv-each : tie.InvT-each
+Inv-each item end at₀ twice₀ at twice = (twice ≡ false) × (doubledIn item (membersOf item at₀ end) ≡ doubledIn item (membersOf item at end))
+
+abbrev μ-each : tie.MeasureT-each
+μ-each item end at₀ twice₀ at twice = end - at
+
+each-holds : tie.Need-each-holds Inv-loop μ-loop Inv-each μ-each
+each-holds c = (refl, refl)
+
+element-at-requires : tie.Need-element-at-requires Inv-loop μ-loop Inv-each μ-each
+element-at-requires c κs = search needs
+
+enum-known-e : tie.Need-enum-known-e Inv-loop μ-loop Inv-each μ-each
+enum-known-e c = search needs
+
+enum-told : tie.Need-enum-told Inv-loop μ-loop Inv-each μ-each
+enum-told c = search needs
+
+any-extension-requires : tie.Need-any-extension-requires Inv-loop μ-loop Inv-each μ-each
+any-extension-requires c κs = search needs
+
+loop-holds : tie.Need-loop-holds Inv-loop μ-loop Inv-each μ-each
+loop-holds c = (c .before .before .before .before .before .each .inv .0, refl)
+
+element-at-requires-2 : tie.Need-element-at-requires-2 Inv-loop μ-loop Inv-each μ-each
+element-at-requires-2 c κs = search needs
+
+enum-known-other : tie.Need-enum-known-other Inv-loop μ-loop Inv-each μ-each
+enum-known-other c = search needs
+
+enum-told-2 : tie.Need-enum-told-2 Inv-loop μ-loop Inv-each μ-each
+enum-told-2 c = search needs
+
+doubles-requires : tie.Need-doubles-requires Inv-loop μ-loop Inv-each μ-each
+doubles-requires c κs = search needs
+
+loop-less : tie.Need-loop-less Inv-loop μ-loop Inv-each μ-each
+loop-less c = omega (arith, found-within _ _ _ (sym (c .before .before .before .before .before .element-at2 .ensures) ∙ c .before .before .before .other .given .1))
+
+loop-again : tie.Need-loop-again Inv-loop μ-loop Inv-each μ-each
+unfolding standsIn
+loop-again c = (c .before .before .before .before .before .before .loop .inv .0, c .before .before .before .before .before .before .loop .inv .1 ∙ rw (members-more _ _ _ (sym (c .before .before .before .before .before .element-at2 .ensures) ∙ c .before .before .before .other .given .1), ← c .before .doubles .ensures, c .if1 .left))
+
+each-less : tie.Need-each-less Inv-loop μ-loop Inv-each μ-each
+each-less c = omega (arith, found-within _ _ _ (sym (c .before .before .before .before .before .before .before .before .element-at .ensures) ∙ c .before .before .before .before .before .before .e .given .1))
+
+each-again : tie.Need-each-again Inv-loop μ-loop Inv-each μ-each
+unfolding doubledIn standsIn
+each-again c = (c .before .before .before .loop .inv .0, c .before .before .before .before .before .before .before .before .before .each .inv .1 ∙ rw (members-more _ _ _ (sym (c .before .before .before .before .before .before .before .before .element-at .ensures) ∙ c .before .before .before .before .before .before .e .given .1), ← c .before .before .before .before .any-extension .ensures, c .before .before .before .loop .inv .1, members-none _ _ _ (sym (c .before .before .element-at2 .ensures) ∙ c .enum-told2 .given .1)))
+
+returns : tie.Need-returns Inv-loop μ-loop Inv-each μ-each
+unfolding doubledOf inside doubledIn
+returns c = c .before .before .before .each .inv .0 ∙ sym (c .before .before .before .each .inv .1 ∙ rw (members-none _ _ _ (sym (c .before .before .element-at .ensures) ∙ c .enum-told .given .1)))
+
+returns-2 : tie.Need-returns-2 Inv-loop μ-loop Inv-each μ-each
+unfolding doubledOf inside doubledIn standsIn
+returns-2 c = sym (c .before .before .before .before .before .before .before .before .before .before .before .before .each .inv .1 ∙ rw (members-more _ _ _ (sym (c .before .before .before .before .before .before .before .before .before .before .before .element-at .ensures) ∙ c .before .before .before .before .before .before .before .before .before .e .given .1), ← c .before .before .before .before .before .before .before .any-extension .ensures, c .before .before .before .before .before .before .loop .inv .1, members-more _ _ _ (sym (c .before .before .before .before .before .element-at2 .ensures) ∙ c .before .before .before .other .given .1), ← c .before .doubles .ensures, c .if1 .taken))
+
+pub doubled-spec : {M : Type 1} → statement M
+doubled-spec =
+    tie.close
+    (tie.spec
+    Inv-loop
+    μ-loop
+    Inv-each
+    μ-each
+    each-holds
+    element-at-requires
+    enum-known-e
+    enum-told
+    any-extension-requires
+    loop-holds
+    element-at-requires-2
+    enum-known-other
+    enum-told-2
+    doubles-requires
+    loop-less
+    loop-again
+    each-less
+    each-again
+    returns
+    returns-2)

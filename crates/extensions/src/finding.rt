@@ -1,0 +1,38 @@
+// The look-up of an extension by its OID.
+use crate::Extension;
+use crate::shape::any_extension;
+use crate::twice::has_oid;
+use elements::Element;
+use elements::Found;
+use elements::element_at;
+ghost use mathlib.Core.Path.{_≡_};
+ghost use Rattle.elements.specs.Elements.{membersOf};
+ghost use Rattle.extensions.specs.Extensions.{lookupOf, placeIn};
+
+// The extension with that OID, the first of them.
+pub fn lookup(item: &[u8], extensions: Element, oid: &[u8]) -> Extension
+    ensures { λ r. ⌜ r ≡ lookupOf (now (item .entry)) extensions (now (oid .entry)) ⌝ }
+{
+    let end = extensions.end;
+    let at = place_of(item, extensions.contents, end, oid);
+    let Found::One(e) = element_at(item, at, end) else {
+        return Extension::Absent;
+    };
+    any_extension(item, e)
+}
+
+// The offset of the first extension with that OID, or the end where there is none.
+fn place_of(item: &[u8], from: usize, end: usize, oid: &[u8]) -> usize
+    ensures { λ r. ⌜ r ≡ placeIn (now (item .entry)) (now (oid .entry)) (membersOf (now (item .entry)) from end) end ⌝ }
+{
+    let mut at = from;
+    loop {
+        let Found::One(e) = element_at(item, at, end) else {
+            break end;
+        };
+        if has_oid(item, oid, any_extension(item, e)) {
+            break at;
+        }
+        at = e.end;
+    }
+}
