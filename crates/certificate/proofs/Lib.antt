@@ -3,3 +3,4 @@ pub mod Inside
 pub mod Chains
 pub mod Runs
 pub mod Theorems
+pub mod Lone

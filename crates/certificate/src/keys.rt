@@ -7,8 +7,10 @@ use elements::contents;
 use elements::element_at;
 use elements::element_tagged;
 use elements::same;
+use elements::short_end;
 use extensions::Held;
 ghost use mathlib.Core.Path.{_≡_};
+ghost use mathlib.Core.Bool.{true};
 ghost use Rattle.extensions.specs.declared.Extension.{Extension};
 ghost use Rattle.extensions.specs.Extensions.{heldOf};
 ghost use Rattle.certificate.specs.Keys.{walks, octetString, firstOf, keyIn, valueOf, typesIn, listGood, documentsIn};
@@ -68,10 +70,32 @@ pub(crate) fn value_of(held: Held) -> Element
 fn walks_alone(item: &[u8], value: Element) -> bool
     ensures { λ r. ⌜ r ≡ walks (now (item .entry)) value ⌝ }
 {
+    if lone(item, value) {
+        return true;
+    }
     if let Walked::Refused(_) = walk(contents(item, value)) {
         return false;
     }
     true
+}
+
+// Whether they are an OCTET STRING, or a SEQUENCE of one element with tag 80, all headers short, as in most key
+// identifiers.
+fn lone(item: &[u8], value: Element) -> bool
+    ensures { λ r. ⌜ (r ≡ true → walks (now (item .entry)) value ≡ true) ⌝ }
+{
+    let at = value.contents;
+    let end = value.end;
+    if end == 0 {
+        return false;
+    }
+    if short_end(item, at, end, 0x04) == end {
+        return true;
+    }
+    if short_end(item, at, end, 0x30) != end {
+        return false;
+    }
+    short_end(item, at + 2, end, 0x80) == end
 }
 
 // One OCTET STRING.
