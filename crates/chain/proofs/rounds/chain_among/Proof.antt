@@ -19,16 +19,16 @@ abbrev μ-loop : tie.MeasureT-loop
 μ-loop image table places moment target rows₀ near₀ counting roles₀ two round₀ rows near roles round = 4 - round
 
 near-first-requires : tie.Need-near-first-requires Inv-loop μ-loop
-near-first-requires c κs = search needs
+near-first-requires c κs = c .before .before .pre .1
 
 open-items-requires : tie.Need-open-items-requires Inv-loop μ-loop
 open-items-requires c κs = (c .before .before .before .before .pre .1, refl)
 
 counting-lists-requires : tie.Need-counting-lists-requires Inv-loop μ-loop
-counting-lists-requires c κs = search needs
+counting-lists-requires c κs = c .before .before .before .before .before .before .pre .1
 
 roles-of-requires : tie.Need-roles-of-requires Inv-loop μ-loop
-roles-of-requires c κs = search needs
+roles-of-requires c κs = c .before .before .before .before .before .before .before .before .pre .1
 
 array-read-if1 : tie.Need-array-read-if1 Inv-loop μ-loop
 array-read-if1 c = omega arith
@@ -52,7 +52,7 @@ add-round : tie.Need-add-round Inv-loop μ-loop
 add-round c = omega arith
 
 near-next-requires : tie.Need-near-next-requires Inv-loop μ-loop
-near-next-requires c κs = search needs
+near-next-requires c κs = c .before .before .before .before .before .before .before .before .before .before .before .before .before .before .pre .1
 
 unchanged-requires : tie.Need-unchanged-requires Inv-loop μ-loop
 unchanged-requires c κs = c .before .before .before .before .before .before .before .before .before .before .before .before .before .before .before .pre .1
