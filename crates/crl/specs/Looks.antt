@@ -1,4 +1,4 @@
--- What a quick look at an entry can tell.
+-- What a quick look at an entry can tell. No public promise cites this.
 use Prim.Native.Nat.{ℕ, _+_, _-_, _<_, _≤_}
 use mathlib.Core.Bool.{false}
 use mathlib.Core.List.{List}

@@ -1,4 +1,5 @@
--- What a quick look at the first eight octets of a UTCTime can tell: they are digits, and their pairs are in ranges that every month has.
+-- What a quick look at the first eight octets of a UTCTime can tell: they are digits, and their pairs are in ranges that every
+-- month has. No public promise cites this.
 use Prim.Native.Nat.{ℕ, _+_, _*_, _-_, _≤_}
 use mathlib.Core.List.{List}
 use lib.ListN.{getD}

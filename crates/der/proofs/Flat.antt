@@ -12,12 +12,12 @@ use Rattle.der.specs.declared.walking.Walked.the-variants.{Passed}
 use Rattle.der.specs.Forms.{paper}
 use Rattle.der.specs.Heading.{identifierGood, headingOf, constructed}
 use Rattle.der.specs.Contents.{booleanGood, integerGood, oidGood, contentsGood}
-use Rattle.der.specs.Looks.{Reads, Fills, Double, Plain}
+use Rattle.der.specs.Looks.{stretch, Reads, Fills, Double, Plain}
 use Rattle.der.specs.Walk.{filled}
 use Rattle.der.proofs.Laws.{short-header}
 use Rattle.der.proofs.Bounds.{element-within}
 use Rattle.der.proofs.Enough.{ListIs, leaf-is, node-is}
-use Rattle.der.proofs.Stacks.{part, part-length, part-drop, part-inner, passes-none, passes-more}
+use Rattle.der.proofs.Stacks.{part-length, part-drop, part-inner, passes-none, passes-more}
 
 -- a primitive and its contents that nothing is wrong with
 pub record Leaf (tag : ℕ) (c : List ℕ) : Type 0 where
@@ -45,58 +45,58 @@ module _ {tag : ℕ} {c : List ℕ} where
   unfolding identifierGood constructed contentsGood
   leaf-oid e g = rw e (record { known = refl; primitive = refl; good = g })
 
-getD-part : (s : List ℕ) (i e k : ℕ) → i + k < e → getD (part s i e) k 0 ≡ getD s (i + k) 0
+getD-part : (s : List ℕ) (i e k : ℕ) → i + k < e → getD (stretch s i e) k 0 ≡ getD s (i + k) 0
 getD-part s i e k h = getD-take (e - i) (drop i s) k 0 (omega arith) ∙ getD-drop i s k 0
 
 module _ (s : List ℕ) (i e : ℕ) (two : i + 2 ≤ e) (inside : e ≤ length s) where
-  long : length (part s i e) ≡ e - i
+  long : length (stretch s i e) ≡ e - i
   long = part-length s i e inside
 
   module _ {after : ℕ} (ends : after ≡ i + 2 + getD s (i + 1) 0) (fits : after ≤ e) (short : getD s (i + 1) 0 < 128) (known : identifierGood (getD s i 0) ≡ true) where
-    heads : headingOf paper (part s i e) ≡ Header (getD s i 0) 2 (getD s (i + 1) 0)
+    heads : headingOf paper (stretch s i e) ≡ Header (getD s i 0) 2 (getD s (i + 1) 0)
     heads =
         let z : i + 0 ≡ i = omega arith in
-        let tag : getD (part s i e) 0 0 ≡ getD s i 0 = getD-part s i e 0 (omega arith) ∙ rw z refl in
-        let size : getD (part s i e) 1 0 ≡ getD s (i + 1) 0 = getD-part s i e 1 (omega arith) in
-        subst (λ n. headingOf paper (part s i e) ≡ Header n 2 (getD s (i + 1) 0)) tag (subst (λ n. headingOf paper (part s i e) ≡ Header (getD (part s i e) 0 0) 2 n) size (short-header paper (part s i e) (omega (arith, long)) (rw tag known) (rw size short) (rw size (omega (arith, long)))))
+        let tag : getD (stretch s i e) 0 0 ≡ getD s i 0 = getD-part s i e 0 (omega arith) ∙ rw z refl in
+        let size : getD (stretch s i e) 1 0 ≡ getD s (i + 1) 0 = getD-part s i e 1 (omega arith) in
+        subst (λ n. headingOf paper (stretch s i e) ≡ Header n 2 (getD s (i + 1) 0)) tag (subst (λ n. headingOf paper (stretch s i e) ≡ Header (getD (stretch s i e) 0 0) 2 n) size (short-header paper (stretch s i e) (omega (arith, long)) (rw tag known) (rw size short) (rw size (omega (arith, long)))))
 
-    same : part s (i + 2) after ≡ take (2 + getD s (i + 1) 0 - 2) (drop 2 (part s i e))
+    same : stretch s (i + 2) after ≡ take (2 + getD s (i + 1) 0 - 2) (drop 2 (stretch s i e))
     same = part-inner s i 2 (getD s (i + 1) 0) e refl ends fits
 
     module _ (depth count : ℕ) (shallow : depth ≤ 16) (few : count < 4096) where
-      pub leaf-reads : constructed (getD s i 0) ≡ false → contentsGood (getD s i 0) (part s (i + 2) after) ≡ true → Reads (part s i e) depth count (after - i) (count + 1)
+      pub leaf-reads : constructed (getD s i 0) ≡ false → contentsGood (getD s i 0) (stretch s (i + 2) after) ≡ true → Reads (stretch s i e) depth count (after - i) (count + 1)
       leaf-reads primitive good base =
           let used : after - i ≡ 2 + getD s (i + 1) 0 = omega arith in
-          rw used (leaf-is paper (part s i e) base depth count heads shallow few primitive (subst (λ (l : List ℕ). contentsGood (getD s i 0) l ≡ true) same good))
+          rw used (leaf-is paper (stretch s i e) base depth count heads shallow few primitive (subst (λ (l : List ℕ). contentsGood (getD s i 0) l ≡ true) same good))
 
-      pub node-reads : {m : ℕ} → constructed (getD s i 0) ≡ true → Fills (part s (i + 2) after) (depth + 1) (count + 1) m → Reads (part s i e) depth count (2 + getD s (i + 1) 0) m
+      pub node-reads : {m : ℕ} → constructed (getD s i 0) ≡ true → Fills (stretch s (i + 2) after) (depth + 1) (count + 1) m → Reads (stretch s i e) depth count (2 + getD s (i + 1) 0) m
       unfolding filled
-      node-reads {m} node f base = node-is paper (part s i e) base depth count heads shallow few node (subst (λ (l : List ℕ). ListIs paper l (base + 2) (depth + 1) (count + 1) (Passed m)) same (f (base + 2)))
+      node-reads {m} node f base = node-is paper (stretch s i e) base depth count heads shallow few node (subst (λ (l : List ℕ). ListIs paper l (base + 2) (depth + 1) (count + 1) (Passed m)) same (f (base + 2)))
 
   -- one element more
-  pub reads-on : (depth count r m n : ℕ) → Reads (part s i e) depth count (r - i) m → Fills (part s r e) depth m n → Fills (part s i e) depth count n
+  pub reads-on : (depth count r m n : ℕ) → Reads (stretch s i e) depth count (r - i) m → Fills (stretch s r e) depth m n → Fills (stretch s i e) depth count n
   reads-on depth count r m n f g =
-      let w : (2 ≤ r - i) × (r - i ≤ length (part s i e)) × (m ≤ 4096) = element-within paper (2 * length (part s i e) + 1) (part s i e) 0 depth count (r - i) m (sym (f 0 (2 * length (part s i e) + 1) (omega arith))) in
+      let w : (2 ≤ r - i) × (r - i ≤ length (stretch s i e)) × (m ≤ 4096) = element-within paper (2 * length (stretch s i e) + 1) (stretch s i e) 0 depth count (r - i) m (sym (f 0 (2 * length (stretch s i e) + 1) (omega arith))) in
       let on : i + (r - i) ≡ r = omega (arith, w) in
-      passes-more (part s i e) depth count f (omega (arith, long)) (w .0) (w .1) (rw (part-drop s i (r - i) e, on) g)
+      passes-more (stretch s i e) depth count f (omega (arith, long)) (w .0) (w .1) (rw (part-drop s i (r - i) e, on) g)
 
-pub fills-none : (s : List ℕ) (e depth count : ℕ) → e ≤ length s → Fills (part s e e) depth count count
-fills-none s e depth count inside = passes-none (part s e e) depth count (omega (arith, part-length s e e inside))
+pub fills-none : (s : List ℕ) (e depth count : ℕ) → e ≤ length s → Fills (stretch s e e) depth count count
+fills-none s e depth count inside = passes-none (stretch s e e) depth count (omega (arith, part-length s e e inside))
 
 -- a SEQUENCE, and a SET that one fills, by the members of the SEQUENCE
 module _ (s : List ℕ) (i e after : ℕ) (two : i + 2 ≤ e) (inside : e ≤ length s) (ends : after ≡ i + 2 + getD s (i + 1) 0) (fits : after ≤ e) (short : getD s (i + 1) 0 < 128) where
-  module _ (depth count from read m : ℕ) (shallow : depth ≤ 14) (few : count < 4032) (f : (d : ℕ) → d ≤ 16 → Fills (part s from after) d read m) where
-    pub sequence-reads : getD s i 0 ≡ 48 → from ≡ i + 2 → read ≡ count + 1 → Reads (part s i e) depth count (2 + getD s (i + 1) 0) m
+  module _ (depth count from read m : ℕ) (shallow : depth ≤ 14) (few : count < 4032) (f : (d : ℕ) → d ≤ 16 → Fills (stretch s from after) d read m) where
+    pub sequence-reads : getD s i 0 ≡ 48 → from ≡ i + 2 → read ≡ count + 1 → Reads (stretch s i e) depth count (2 + getD s (i + 1) 0) m
     unfolding identifierGood constructed
     sequence-reads tag starts counts =
         node-reads s i e two inside ends fits short (rw tag refl) depth count (omega arith) (omega arith) (rw tag refl)
-        (subst (λ n. Fills (part s (i + 2) after) (depth + 1) n m) counts (subst (λ n. Fills (part s n after) (depth + 1) read m) starts (f (depth + 1) (omega arith))))
+        (subst (λ n. Fills (stretch s (i + 2) after) (depth + 1) n m) counts (subst (λ n. Fills (stretch s n after) (depth + 1) read m) starts (f (depth + 1) (omega arith))))
 
-    pub set-reads : Double s i → from ≡ i + 4 → read ≡ count + 2 → Reads (part s i e) depth count (2 + getD s (i + 1) 0) m
+    pub set-reads : Double s i → from ≡ i + 4 → read ≡ count + 2 → Reads (stretch s i e) depth count (2 + getD s (i + 1) 0) m
     unfolding identifierGood constructed
     set-reads d starts counts =
         node-reads s i e two inside ends fits short (rw (d .outer) refl) depth count (omega arith) (omega arith) (rw (d .outer) refl)
-        (reads-on s (i + 2) after (omega (arith, d .fills)) (omega arith) (depth + 1) (count + 1) after m m (subst (λ n. Reads (part s (i + 2) after) (depth + 1) (count + 1) n m) (sym used) inner) (fills-none s after (depth + 1) m (omega arith)))
+        (reads-on s (i + 2) after (omega (arith, d .fills)) (omega arith) (depth + 1) (count + 1) after m m (subst (λ n. Reads (stretch s (i + 2) after) (depth + 1) (count + 1) n m) (sym used) inner) (fills-none s after (depth + 1) m (omega arith)))
       where
         next : i + 2 + 1 ≡ i + 3
         next = omega arith
@@ -107,12 +107,12 @@ module _ (s : List ℕ) (i e after : ℕ) (two : i + 2 ≤ e) (inside : e ≤ le
         used : after - (i + 2) ≡ 2 + getD s (i + 2 + 1) 0
         used = rw size (omega (arith, d .fills))
 
-        members : Fills (part s (i + 2 + 2) after) (depth + 1 + 1) (count + 1 + 1) m
+        members : Fills (stretch s (i + 2 + 2) after) (depth + 1 + 1) (count + 1 + 1) m
         members =
             let from-is : from ≡ i + 2 + 2 = omega arith in
             let read-is : read ≡ count + 1 + 1 = omega arith in
-            subst (λ n. Fills (part s (i + 2 + 2) after) (depth + 1 + 1) n m) read-is (subst (λ n. Fills (part s n after) (depth + 1 + 1) read m) from-is (f (depth + 1 + 1) (omega arith)))
+            subst (λ n. Fills (stretch s (i + 2 + 2) after) (depth + 1 + 1) n m) read-is (subst (λ n. Fills (stretch s n after) (depth + 1 + 1) read m) from-is (f (depth + 1 + 1) (omega arith)))
 
-        inner : Reads (part s (i + 2) after) (depth + 1) (count + 1) (2 + getD s (i + 2 + 1) 0) m
+        inner : Reads (stretch s (i + 2) after) (depth + 1) (count + 1) (2 + getD s (i + 2 + 1) 0) m
         inner =
             node-reads s (i + 2) after (omega (arith, d .fills)) (omega arith) {after = after} (rw size (omega (arith, d .fills))) (omega arith) (rw size (omega (arith, d .fills))) (rw (d .inner) refl) (depth + 1) (count + 1) (omega arith) (omega arith) (rw (d .inner) refl) members

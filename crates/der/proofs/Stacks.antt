@@ -16,26 +16,19 @@ use Rattle.der.specs.declared.walking.Walked.the-variants.{Passed}
 use Rattle.der.specs.Forms.{paper}
 use Rattle.der.specs.Heading.{headingOf, constructed}
 use Rattle.der.specs.Contents.{contentsGood}
+use Rattle.der.specs.Looks.{stretch, Fills}
 use Rattle.der.specs.Walk.{filled, elementAt, listAt}
 use Rattle.der.proofs.Laws.{list-done, list-more}
 use Rattle.der.proofs.Bounds.{heading-within, element-within}
 use Rattle.der.proofs.Enough.{ElementIs, ListIs, leaf-is, node-is}
 
--- the octets from one offset to another
-abbrev pub part : List ℕ → ℕ → ℕ → List ℕ
-part s i e = take (e - i) (drop i s)
-
--- the elements that fill some octets pass, wherever these stand
-abbrev pub Passes : List ℕ → ℕ → ℕ → ℕ → Type 0
-Passes s depth count n = (base : ℕ) → ListIs paper s base depth count (Passed n)
-
-pub passes-none : (s : List ℕ) (depth count : ℕ) → length s ≡ 0 → Passes s depth count count
+pub passes-none : (s : List ℕ) (depth count : ℕ) → length s ≡ 0 → Fills s depth count count
 passes-none s depth count h base zero enough = absurd (omega arith)
 passes-none s depth count h base (suc fuel) enough = sym (list-done paper fuel s base depth count h)
 
 pub passes-more :
     (s : List ℕ) (depth count : ℕ) {used m n : ℕ} → ((base : ℕ) → ElementIs paper s base depth count (Past used m)) → 0 < length s → 2 ≤ used
-    → used ≤ length s → Passes (drop used s) depth m n → Passes s depth count n
+    → used ≤ length s → Fills (drop used s) depth m n → Fills s depth count n
 passes-more s depth count f some wide within g base zero enough = absurd (omega arith)
 passes-more s depth count {used} {m} {n} f some wide within g base (suc fuel) enough =
     g (base + used) fuel (omega (arith, length-drop used s))
@@ -52,7 +45,7 @@ drop-taken (suc k) (suc n) [] = nothing (suc n - suc k)
     nothing (suc m) = refl
 drop-taken (suc k) (suc n) (x ∷ xs) = let z : suc n - suc k ≡ n - k = omega arith in drop-taken k n xs ∙ rw z refl
 
-pub part-drop : (s : List ℕ) (i k e : ℕ) → drop k (part s i e) ≡ part s (i + k) e
+pub part-drop : (s : List ℕ) (i k e : ℕ) → drop k (stretch s i e) ≡ stretch s (i + k) e
 part-drop s i k e =
     let n : e - i - k ≡ e - (i + k) = omega arith in
     drop-taken k (e - i) (drop i s) ∙ rw (drop-drop k i s, n) refl
@@ -60,18 +53,18 @@ part-drop s i k e =
 -- the contents of an element, as a part of the item and as a part of the stretch that it stands in
 pub part-inner :
     (s : List ℕ) (i skip size e : ℕ) {from stop : ℕ} → from ≡ i + skip → stop ≡ from + size → stop ≤ e
-    → part s from stop ≡ take (skip + size - skip) (drop skip (part s i e))
+    → stretch s from stop ≡ take (skip + size - skip) (drop skip (stretch s i e))
 part-inner s i skip size e {from} {stop} starts ends h =
     let wide : stop - from ≡ skip + size - skip = omega arith in
     rw (part-drop s i skip e, ← starts, wide) (sym (take-take (skip + size - skip) (e - from) (drop from s) (omega arith)))
 
-pub part-length : (s : List ℕ) (i e : ℕ) → e ≤ length s → length (part s i e) ≡ e - i
+pub part-length : (s : List ℕ) (i e : ℕ) → e ≤ length s → length (stretch s i e) ≡ e - i
 part-length s i e h = omega (arith, length-take (e - i) (drop i s), length-drop i s)
 
 -- what is left when the innermost has been read and `m` elements counted, until `n`
 unfoldable pub Rest : List ℕ → List ℕ → ℕ → ℕ → ℕ → Type 0
 Rest s ends zero m n = m ≡ n
-Rest s ends (suc t) m n = (k : ℕ) × Passes (part s (getD ends (suc t) 0) (getD ends t 0)) (t + 2) m k × Rest s ends t k n
+Rest s ends (suc t) m n = (k : ℕ) × Fills (stretch s (getD ends (suc t) 0) (getD ends t 0)) (t + 2) m k × Rest s ends t k n
 
 -- an end above the innermost is not asked for
 rest-set : (s ends : List ℕ) (t j x m n : ℕ) → t < j → Rest s (set ends j x) t m n → Rest s ends t m n
@@ -90,7 +83,7 @@ pub record Open (s ends : List ℕ) (top i read : ℕ) : Type 0 where
   pub here : i ≤ getD ends top 0
   pub inside : (j : ℕ) → j ≤ top → getD ends j 0 ≤ length s
   pub nested : (j : ℕ) → j < top → getD ends (suc j) 0 ≤ getD ends j 0
-  pub comes : (m n : ℕ) → Passes (part s i (getD ends top 0)) (top + 2) read m → Rest s ends top m n → Passes s 2 1 n
+  pub comes : (m n : ℕ) → Fills (stretch s i (getD ends top 0)) (top + 2) read m → Rest s ends top m n → Fills s 2 1 n
 
 pub open-start : (s : List ℕ) → Open s (set (replicate 16 0) 0 (length s)) 0 0 1
 unfolding Rest
@@ -101,17 +94,17 @@ open-start s =
       here = omega arith;
       inside = λ j h. let z : j ≡ 0 = omega arith in rw z (omega arith);
       nested = λ j h. absurd (omega arith);
-      comes = λ m n p e. subst (Passes s 2 1) e (subst (λ (l : List ℕ). Passes l 2 1 m) all p);
+      comes = λ m n p e. subst (Fills s 2 1) e (subst (λ (l : List ℕ). Fills l 2 1 m) all p);
     }
   where
-    all : part s 0 (length s) ≡ s
+    all : stretch s 0 (length s) ≡ s
     all = take-all (length s - 0) s (omega arith)
 
-pub open-done : {s ends : List ℕ} {top i read : ℕ} → Open s ends top i read → top ≡ 0 → getD ends top 0 ≤ i → Passes s 2 1 read
+pub open-done : {s ends : List ℕ} {top i read : ℕ} → Open s ends top i read → top ≡ 0 → getD ends top 0 ≤ i → Fills s 2 1 read
 unfolding Rest
 open-done {s} {ends} {top} {i} {read} o z h = go (rw z at o) (rw z at h)
   where
-    go : Open s ends 0 i read → getD ends 0 0 ≤ i → Passes s 2 1 read
+    go : Open s ends 0 i read → getD ends 0 0 ≤ i → Fills s 2 1 read
     go o h = o .comes read read (passes-none _ _ _ (omega (arith, part-length s i (getD ends 0 0) (o .inside 0 (omega arith))))) refl
 
 below : (j k : ℕ) → j ≤ k → (j ≡ k) ⊎ (j < k)
@@ -146,7 +139,7 @@ module _ (s ends : List ℕ) (i read : ℕ) where
 
   module _ {top : ℕ} (o : Open s ends top i read) (more : i < getD ends top 0) where
     abbrev pub inner : List ℕ
-    inner = part s i (getD ends top 0)
+    inner = stretch s i (getD ends top 0)
 
     long : length inner ≡ getD ends top 0 - i
     long = part-length s i (getD ends top 0) (o .inside top (omega arith))
@@ -170,7 +163,7 @@ module _ (s ends : List ℕ) (i read : ℕ) where
     -- a primitive element more
     pub open-leaf :
         {tag skip size from stop : ℕ} → headingOf paper inner ≡ Header tag skip size → from ≡ i + skip → stop ≡ from + size → constructed tag ≡ false
-        → contentsGood tag (part s from stop) ≡ true → top < 15 → read < 4096 → Open s ends top stop (read + 1)
+        → contentsGood tag (stretch s from stop) ≡ true → top < 15 → read < 4096 → Open s ends top stop (read + 1)
     open-leaf {tag} {skip} {size} {from} {stop} head starts ends-at leaf good shallow few =
         let w : (2 ≤ skip) × (i + skip + size ≤ getD ends top 0) = open-head head in
         let inside : contentsGood tag (take (skip + size - skip) (drop skip inner)) ≡ true =
@@ -187,7 +180,7 @@ module _ (s ends : List ℕ) (i read : ℕ) where
         let top-end : getD (set ends (suc top) stop) (suc top) 0 ≡ stop = getD-set-same ends (suc top) stop 0 (omega (arith, o .room)) in
         let passed : stop ≡ i + (skip + size) = omega arith in
         let deeper : suc top + 2 ≡ top + 2 + 1 = omega arith in
-        let opened : part s from stop ≡ take (skip + size - skip) (drop skip inner) = part-inner s i skip size (getD ends top 0) starts ends-at (omega (arith, long, w)) in
+        let opened : stretch s from stop ≡ take (skip + size - skip) (drop skip inner) = part-inner s i skip size (getD ends top 0) starts ends-at (omega (arith, long, w)) in
         let other : (j : ℕ) → j ≤ top → getD (set ends (suc top) stop) j 0 ≡ getD ends j 0 = λ j h. getD-set-other ends (suc top) j stop 0 (λ e. omega arith) in
         record {
           room = rw length-set (o .room);

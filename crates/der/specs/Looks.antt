@@ -1,4 +1,5 @@
--- What the quick looks of the walk promise, of a stretch of the item that they read without telling a fault.
+-- What the quick looks of the walk promise, of a stretch of the item that they read without telling a fault. No public promise
+-- cites this.
 use Prim.Native.Nat.{ℕ, _+_, _-_, _*_, _≤_}
 use mathlib.Core.Bool.{true, false}
 use mathlib.Core.List.{List}

@@ -1,4 +1,5 @@
--- Two octets that are digits, and the number below 100 that they write; of other octets it is a greater one.
+-- Two octets that are digits, and the number below 100 that they write; of other octets it is a greater one. No public promise
+-- cites this.
 use Prim.Native.Nat.{ℕ, _+_, _*_, _-_, _<_, _≤_}
 use mathlib.Core.List.{List}
 use mathlib.Core.Path.{_≡_}

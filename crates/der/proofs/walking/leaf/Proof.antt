@@ -5,8 +5,8 @@ use mathlib.Core.Path.{_≡_, refl, sym, _∙_}
 use native.Mathlib.Omega.{arith}
 use borrow.Author.Needs.{needs}
 use lib.ListN.{length, getD}
-use Rattle.der.specs.Looks.{Reads}
-use Rattle.der.proofs.Stacks.{part, part-length}
+use Rattle.der.specs.Looks.{stretch, Reads}
+use Rattle.der.proofs.Stacks.{part-length}
 use Rattle.der.proofs.Flat.{Leaf, leaf-boolean, leaf-integer, leaf-null, leaf-oid, leaf-plain, leaf-reads}
 use Rattle.der.proofs.walking.leaf.Statement.{statement}
 use Rattle.der.proofs.walking.leaf.Tie as tie
@@ -24,14 +24,14 @@ least : (n : ℕ) → 0 ≤ n
 least n = omega arith
 
 empty : (s : List ℕ) (i e : ℕ) → e ≤ length s → i + 2 + getD s (i + 1) 0 ≤ e → getD s (i + 1) 0 ≡ 0
-    → length (part s (i + 2) (i + 2 + getD s (i + 1) 0)) ≡ 0
+    → length (stretch s (i + 2) (i + 2 + getD s (i + 1) 0)) ≡ 0
 empty s i e inside fits none = omega (arith, part-length s (i + 2) (i + 2 + getD s (i + 1) 0) (omega arith))
 
 -- a leaf that ends where it may
 answer : (s : List ℕ) (i e : ℕ) → i + 2 ≤ e → e ≤ i + 127 → e ≤ length s → getD s (i + 1) 0 < 256
-    → Leaf (getD s i 0) (part s (i + 2) (i + 2 + getD s (i + 1) 0))
+    → Leaf (getD s i 0) (stretch s (i + 2) (i + 2 + getD s (i + 1) 0))
     → (i + 2 + getD s (i + 1) 0 ≤ i + 257) × (0 < i + 2 + getD s (i + 1) 0 → (i + 2 ≤ i + 2 + getD s (i + 1) 0) × (i + 2 + getD s (i + 1) 0 ≤ e
-    → (depth count : ℕ) → depth ≤ 16 → count < 4096 → Reads (part s i e) depth count (i + 2 + getD s (i + 1) 0 - i) (count + 1)))
+    → (depth count : ℕ) → depth ≤ 16 → count < 4096 → Reads (stretch s i e) depth count (i + 2 + getD s (i + 1) 0 - i) (count + 1)))
 answer s i e two near inside octet leaf = (
   omega arith,
   λ some. (

@@ -4,8 +4,7 @@ use mathlib.Core.List.{List}
 use mathlib.Core.Path.{_≡_}
 use native.Mathlib.Omega.{arith}
 use lib.ListN.{length}
-use Rattle.der.specs.Looks.{Reads, Fills}
-use Rattle.der.proofs.Stacks.{part}
+use Rattle.der.specs.Looks.{stretch, Reads, Fills}
 use Rattle.der.proofs.Flat.{reads-on, fills-none}
 use Rattle.der.proofs.walking.leaves.Statement.{statement}
 use Rattle.der.proofs.walking.leaves.Tie as tie
@@ -15,7 +14,7 @@ use Rattle.der.proofs.walking.leaf.Reads as leaf-reads
 
 -- what is left, from octet `i` on
 abbrev Left : List ℕ → ℕ → ℕ → ℕ → ℕ → ℕ → Type 0
-Left s from end count i read = (depth m : ℕ) → depth ≤ 16 → Fills (part s i end) depth read m → Fills (part s from end) depth count m
+Left s from end count i read = (depth m : ℕ) → depth ≤ 16 → Fills (stretch s i end) depth read m → Fills (stretch s from end) depth count m
 
 abbrev Inv-loop : tie.InvT-loop
 Inv-loop s from end count i₀ read₀ i read = (i ≤ 16641) × (from ≤ i) × (i ≤ end → (2 * read + from ≤ 2 * count + i) × Left s from end count i read)
@@ -24,7 +23,7 @@ abbrev μ-loop : tie.MeasureT-loop
 μ-loop s from end count i₀ read₀ i read = end - i
 
 step : (s : List ℕ) (from end count i read r : ℕ) → end ≤ length s → i + 2 ≤ end → read < 4096
-    → ((depth count : ℕ) → depth ≤ 16 → count < 4096 → Reads (part s i end) depth count (r - i) (count + 1))
+    → ((depth count : ℕ) → depth ≤ 16 → count < 4096 → Reads (stretch s i end) depth count (r - i) (count + 1))
     → Left s from end count i read → Left s from end count r (read + 1)
 step s from end count i read r inside two few f left depth m deep p =
     left depth m deep (reads-on s i end two inside depth read r (read + 1) m (f depth read deep few) p)
