@@ -18,35 +18,11 @@ abbrev μ-loop : tie.MeasureT-loop
 μ-loop item extensions shaped₀ marked₀ critical₀ repeated₀ strange₀ unsure₀ slots₀ at₀ shaped marked critical repeated strange unsure slots at =
     extensions .end - at
 
-held-of-requires : tie.Need-held-of-requires Inv-loop μ-loop
-held-of-requires c κs = search needs
-
 loop-holds : tie.Need-loop-holds Inv-loop μ-loop
 loop-holds c = rw (c .held-of .ensures) (far-start _ _)
 
-met-at-requires : tie.Need-met-at-requires Inv-loop μ-loop
-met-at-requires c κs = search needs
-
-slot-of-requires : tie.Need-slot-of-requires Inv-loop μ-loop
-slot-of-requires c κs = search needs
-
-is-critical-requires : tie.Need-is-critical-requires Inv-loop μ-loop
-is-critical-requires c κs = search needs
-
-unusual-requires : tie.Need-unusual-requires Inv-loop μ-loop
-unusual-requires c κs = search needs
-
-mul-first : tie.Need-mul-first Inv-loop μ-loop
-mul-first c = search needs
-
 array-copy-out-first : tie.Need-array-copy-out-first Inv-loop μ-loop
 array-copy-out-first c = omega (arith, c .before .before .before .before .before .before .before .loop .inv .table .long, c .if2 .taken)
-
-held-of-requires-2 : tie.Need-held-of-requires-2 Inv-loop μ-loop
-held-of-requires-2 c κs = search needs
-
-mul-slots : tie.Need-mul-slots Inv-loop μ-loop
-mul-slots c = search needs
 
 array-set-from-slots : tie.Need-array-set-from-slots Inv-loop μ-loop
 array-set-from-slots c = omega (arith, c .before .before .before .before .before .before .before .before .before .before .loop .inv .table .long, c .before .before .before .if2 .taken)
@@ -77,9 +53,6 @@ loop-less-4 c = omega (arith, (c .before .before .before .before .before .before
 loop-again-4 : tie.Need-loop-again-4 Inv-loop μ-loop
 loop-again-4 c = far-none (c .before .before .before .before .before .before .before .before .loop .inv) ((c .before .before .before .before .before .before .before .met-at .ensures .some (not-false _ (c .before .before .before .before .before .if1 .left))) .found) ((c .before .before .before .before .before .before .before .met-at .ensures .some (not-false _ (c .before .before .before .before .before .if1 .left))) .ends) (rw ((c .before .before .before .before .before .before .before .met-at .ensures .some (not-false _ (c .before .before .before .before .before .if1 .left))) .is) at (c .before .before .before .before .slot-of .ensures)) (rw (← (c .before .before .before .before .before .before .before .met-at .ensures .some (not-false _ (c .before .before .before .before .before .if1 .left))) .is) (c .before .before .before .is-critical .ensures _)) (rw (← (c .before .before .before .before .before .before .before .met-at .ensures .some (not-false _ (c .before .before .before .before .before .if1 .left))) .is) (c .before .before .unusual .ensures _ (c .before .before .before .before .slot-of .ensures))) (c .if4 .left)
 
-doubled-requires : tie.Need-doubled-requires Inv-loop μ-loop
-doubled-requires c κs = search needs
-
 returns : tie.Need-returns Inv-loop μ-loop
 returns c = record { shaped = end-shape (c .before .before .before .before .before .before .loop .inv) (c .before .before .before .before .before .met-at .ensures .none (not-true _ (c .before .before .before .if1 .taken))); marked = end-marks (c .before .before .before .before .before .before .loop .inv) (c .before .before .before .before .before .met-at .ensures .none (not-true _ (c .before .before .before .if1 .taken))); critical = end-harsh (c .before .before .before .before .before .before .loop .inv) (c .before .before .before .before .before .met-at .ensures .none (not-true _ (c .before .before .before .if1 .taken))); doubled = c .doubled .ensures; placed = end-placed (c .before .before .before .before .before .before .loop .inv) (c .before .before .before .before .before .met-at .ensures .none (not-true _ (c .before .before .before .if1 .taken))) }
 
@@ -95,16 +68,16 @@ one-pass-spec =
     (tie.spec
     Inv-loop
     μ-loop
-    held-of-requires
+    (λ c κs. search needs)
     loop-holds
-    met-at-requires
-    slot-of-requires
-    is-critical-requires
-    unusual-requires
-    mul-first
+    (λ c κs. search needs)
+    (λ c κs. search needs)
+    (λ c κs. search needs)
+    (λ c κs. search needs)
+    (λ c. search needs)
     array-copy-out-first
-    held-of-requires-2
-    mul-slots
+    (λ c κs. search needs)
+    (λ c. search needs)
     array-set-from-slots
     loop-less
     loop-again
@@ -114,7 +87,7 @@ one-pass-spec =
     loop-again-3
     loop-less-4
     loop-again-4
-    doubled-requires
+    (λ c κs. search needs)
     returns
     returns-2
     returns-3)

@@ -12,15 +12,9 @@ use borrow.Author.Needs.{needs}
 use Rattle.image.proofs.open.Statement.{statement}
 use Rattle.image.proofs.open.Tie as tie
 
-broken-requires : tie.Need-broken-requires
-broken-requires c κs = search needs
-
 returns : tie.Need-returns
 unfolding rule1
 returns c = c .broken .ensures ∙ sym (breaks-1 (c .before .before .before .args .image .now) (simp (lt-leb _ _ (c .before .if1 .taken))))
-
-broken-requires-2 : tie.Need-broken-requires-2
-broken-requires-2 c κs = search needs
 
 returns-2 : tie.Need-returns-2
 unfolding rule1
@@ -30,15 +24,6 @@ one : (c : tie.Else2) → rule1 (c .before .before .before .args .image .now) �
 unfolding rule1
 one c = simp (le-leb _ _ (c .before .if1 .left), le-leb _ _ (c .if2 .left))
 
-sub-two : tie.Need-sub-two
-sub-two c = search needs
-
-two-requires : tie.Need-two-requires
-two-requires c κs = search needs
-
-broken-requires-3 : tie.Need-broken-requires-3
-broken-requires-3 c κs = search needs
-
 returns-3 : tie.Need-returns-3
 unfolding rule2 versionIn
 returns-3 c = c .broken3 .ensures ∙ sym (breaks-2 (c .before .before .before .before .before .before .args .image .now) (one (c .before .before .before)) (ne-eqb _ _ λ e. c .before .if3 .taken (c .before .before .two .ensures .0 ∙ e)))
@@ -46,15 +31,6 @@ returns-3 c = c .broken3 .ensures ∙ sym (breaks-2 (c .before .before .before .
 two : (c : tie.Else3) → rule2 (c .before .before .before .before .before .args .image .now) ≡ true
 unfolding rule2 versionIn
 two c = eq-eqb _ _ (sym (c .before .two .ensures .0) ∙ c .if3 .left)
-
-sub-two-2 : tie.Need-sub-two-2
-sub-two-2 c = search needs
-
-two-requires-2 : tie.Need-two-requires-2
-two-requires-2 c κs = search needs
-
-broken-requires-4 : tie.Need-broken-requires-4
-broken-requires-4 c κs = search needs
 
 returns-4 : tie.Need-returns-4
 unfolding rule3 entryCount
@@ -64,18 +40,6 @@ three : (c : tie.Else4) → rule3 (c .before .before .before .before .before .be
 unfolding rule3 entryCount
 three c = le-leb _ _ (rw (c .before .two2 .ensures .0) at (c .if4 .left))
 
-sub-four : tie.Need-sub-four
-sub-four c = search needs
-
-four-requires : tie.Need-four-requires
-four-requires c κs = search needs
-
-real-day-requires : tie.Need-real-day-requires
-real-day-requires c κs = search needs
-
-broken-requires-5 : tie.Need-broken-requires-5
-broken-requires-5 c κs = search needs
-
 returns-5 : tie.Need-returns-5
 unfolding rule4 dayIn
 returns-5 c = c .broken5 .ensures ∙ sym (breaks-4 (c .before .before .before .before .before .before .before .before .before .before .before .args .image .now) (one (c .before .before .before .before .before .before .before .before)) (two (c .before .before .before .before .before .before)) (three (c .before .before .before .before)) (rw (← c .before .before .before .four .ensures .0) (sym (c .before .before .real-day .ensures) ∙ not-true _ (c .before .if5 .taken))))
@@ -83,9 +47,6 @@ returns-5 c = c .broken5 .ensures ∙ sym (breaks-4 (c .before .before .before .
 four : (c : tie.Else5) → rule4 (c .before .before .before .before .before .before .before .before .before .before .args .image .now) ≡ true
 unfolding rule4 dayIn
 four c = rw (← c .before .before .four .ensures .0) (sym (c .before .real-day .ensures) ∙ not-false _ (c .if5 .left))
-
-four-requires-2 : tie.Need-four-requires-2
-four-requires-2 c κs = search needs
 
 -- where the index starts, and where the image ends by it
 start : (c : tie.After-four2) →
@@ -98,18 +59,6 @@ ending : (c : tie.After-four2) →
     c .four2 .result + 8 * c .before .before .before .before .before .two2 .result + 12 ≡ indexStart s + 8 * entryCount s + 12
 unfolding entryCount
 ending c = omega (arith, start c, c .before .before .before .before .before .two2 .ensures .0)
-
-mul-if6 : tie.Need-mul-if6
-mul-if6 c = search needs
-
-add-if6 : tie.Need-add-if6
-add-if6 c = search needs
-
-add-if6-2 : tie.Need-add-if6-2
-add-if6-2 c = search needs
-
-broken-requires-6 : tie.Need-broken-requires-6
-broken-requires-6 c κs = search needs
 
 returns-6 : tie.Need-returns-6
 unfolding rule5 indexStart entryCount
@@ -133,18 +82,6 @@ kept c = (
   five c,
 )
 
-sum-entries-requires : tie.Need-sum-entries-requires
-sum-entries-requires c κs = search needs
-
-enum-known-sum : tie.Need-enum-known-sum
-enum-known-sum c = search needs
-
-enum-told : tie.Need-enum-told
-enum-told c = search needs
-
-broken-requires-7 : tie.Need-broken-requires-7
-broken-requires-7 c κs = search needs
-
 returns-7 : tie.Need-returns-7
 unfolding rule6 totalOf fit indexStart entryCount
 returns-7 c =
@@ -158,9 +95,6 @@ unfolding totalOf indexStart entryCount
 total c =
     rw (← c .before .before .before .before .before .four2 .ensures .0, ← c .before .before .before .before .before .before .before .before .before .before .two2 .ensures .0)
     (sym (c .before .before .before .sum-entries .ensures) ∙ c .before .sum .given .1)
-
-broken-requires-8 : tie.Need-broken-requires-8
-broken-requires-8 c κs = search needs
 
 returns-8 : tie.Need-returns-8
 unfolding rule6 rule7 fit summed
@@ -180,34 +114,34 @@ pub open-spec : {M : Type 1} → statement M
 open-spec =
     tie.close
     (tie.spec
-    broken-requires
+    (λ c κs. search needs)
     returns
-    broken-requires-2
+    (λ c κs. search needs)
     returns-2
-    sub-two
-    two-requires
-    broken-requires-3
+    (λ c. search needs)
+    (λ c κs. search needs)
+    (λ c κs. search needs)
     returns-3
-    sub-two-2
-    two-requires-2
-    broken-requires-4
+    (λ c. search needs)
+    (λ c κs. search needs)
+    (λ c κs. search needs)
     returns-4
-    sub-four
-    four-requires
-    real-day-requires
-    broken-requires-5
+    (λ c. search needs)
+    (λ c κs. search needs)
+    (λ c κs. search needs)
+    (λ c κs. search needs)
     returns-5
-    four-requires-2
-    mul-if6
-    add-if6
-    add-if6-2
-    broken-requires-6
+    (λ c κs. search needs)
+    (λ c. search needs)
+    (λ c. search needs)
+    (λ c. search needs)
+    (λ c κs. search needs)
     returns-6
-    sum-entries-requires
-    enum-known-sum
-    enum-told
-    broken-requires-7
+    (λ c κs. search needs)
+    (λ c. search needs)
+    (λ c. search needs)
+    (λ c κs. search needs)
     returns-7
-    broken-requires-8
+    (λ c κs. search needs)
     returns-8
     returns-9)

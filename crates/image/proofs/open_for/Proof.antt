@@ -6,21 +6,9 @@ use borrow.Author.Needs.{needs}
 use Rattle.image.proofs.open_for.Statement.{statement}
 use Rattle.image.proofs.open_for.Tie as tie
 
-real-day-requires : tie.Need-real-day-requires
-real-day-requires c κs = search needs
-
 returns : tie.Need-returns
 unfolding openedFor
 returns c = simp (sym (c .before .real-day .ensures) ∙ not-true _ (c .if1 .taken))
-
-open-requires : tie.Need-open-requires
-open-requires c κs = search needs
-
-enum-known-refusal : tie.Need-enum-known-refusal
-enum-known-refusal c = search needs
-
-enum-known-entries : tie.Need-enum-known-entries
-enum-known-entries c = search needs
 
 returns-2 : tie.Need-returns-2
 unfolding openedFor onDay
@@ -38,11 +26,11 @@ pub open-for-spec : {M : Type 1} → statement M
 open-for-spec =
     tie.close
     (tie.spec
-    real-day-requires
+    (λ c κs. search needs)
     returns
-    open-requires
-    enum-known-refusal
-    enum-known-entries
+    (λ c κs. search needs)
+    (λ c. search needs)
+    (λ c. search needs)
     returns-2
     returns-3
     returns-4)

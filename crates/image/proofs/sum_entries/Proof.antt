@@ -25,9 +25,6 @@ loop-holds c = (omega arith, omega arith, omega arith, refl)
 entry-at-requires : tie.Need-entry-at-requires Inv-loop μ-loop
 entry-at-requires c κs = omega arith
 
-entry-good-requires : tie.Need-entry-good-requires Inv-loop μ-loop
-entry-good-requires c κs = search needs
-
 returns : tie.Need-returns Inv-loop μ-loop
 returns c =
     let now = c .before .before .before .before .loop in
@@ -73,7 +70,7 @@ sum-entries-spec =
     μ-loop
     loop-holds
     entry-at-requires
-    entry-good-requires
+    (λ c κs. search needs)
     returns
     add-sum
     add-at

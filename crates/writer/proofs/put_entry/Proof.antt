@@ -11,9 +11,6 @@ use borrow.Author.Needs.{needs}
 use Rattle.writer.proofs.put_entry.Statement.{statement}
 use Rattle.writer.proofs.put_entry.Tie as tie
 
-slice-write-out : tie.Need-slice-write-out
-slice-write-out c = search needs
-
 slice-write-out-2 : tie.Need-slice-write-out-2
 slice-write-out-2 c = simp length-set (omega arith)
 
@@ -22,9 +19,6 @@ sub-put-two c = simp length-set (omega arith)
 
 part-put-two-start : tie.Need-part-put-two-start
 part-put-two-start c = simp length-set (omega arith)
-
-part-put-two-end : tie.Need-part-put-two-end
-part-put-two-end c = search needs
 
 put-two-requires : tie.Need-put-two-requires
 put-two-requires c κs = simp (length-take, length-drop, length-set) (omega arith)
@@ -38,9 +32,6 @@ part-put-four-start : tie.Need-part-put-four-start
 part-put-four-start c =
     let a = c .before .before .before .before .before .args in
     omega (arith, c .before .out .given .1, length-set (a .out .now) 0 (a .kind), length-set (set (a .out .now) 0 (a .kind)) 1 (a .flags))
-
-part-put-four-end : tie.Need-part-put-four-end
-part-put-four-end c = search needs
 
 put-four-requires : tie.Need-put-four-requires
 put-four-requires c κs =
@@ -66,15 +57,15 @@ pub put-entry-spec : {M : Type 1} → statement M
 put-entry-spec =
     tie.close
     (tie.spec
-    slice-write-out
+    (λ c. search needs)
     slice-write-out-2
     sub-put-two
     part-put-two-start
-    part-put-two-end
+    (λ c. search needs)
     put-two-requires
     sub-put-four
     part-put-four-start
-    part-put-four-end
+    (λ c. search needs)
     put-four-requires
     same-length
     returns)

@@ -8,57 +8,6 @@ use borrow.Author.Needs.{needs}
 use Rattle.writer.proofs.put_trailer.Statement.{statement}
 use Rattle.writer.proofs.put_trailer.Tie as tie
 
-sub-put-four : tie.Need-sub-put-four
-sub-put-four c = search needs
-
-part-put-four-start : tie.Need-part-put-four-start
-part-put-four-start c = search needs
-
-part-put-four-end : tie.Need-part-put-four-end
-part-put-four-end c = search needs
-
-put-four-requires : tie.Need-put-four-requires
-put-four-requires c κs = search needs
-
-sub-put-two : tie.Need-sub-put-two
-sub-put-two c = search needs
-
-part-put-two-start : tie.Need-part-put-two-start
-part-put-two-start c = search needs
-
-part-put-two-end : tie.Need-part-put-two-end
-part-put-two-end c = search needs
-
-put-two-requires : tie.Need-put-two-requires
-put-two-requires c κs = search needs
-
-sub-put-two-2 : tie.Need-sub-put-two-2
-sub-put-two-2 c = search needs
-
-part-put-two-start-2 : tie.Need-part-put-two-start-2
-part-put-two-start-2 c = search needs
-
-part-put-two-end-2 : tie.Need-part-put-two-end-2
-part-put-two-end-2 c = search needs
-
-put-two-requires-2 : tie.Need-put-two-requires-2
-put-two-requires-2 c κs = search needs
-
-sub-put-four-2 : tie.Need-sub-put-four-2
-sub-put-four-2 c = search needs
-
-part-put-four-start-2 : tie.Need-part-put-four-start-2
-part-put-four-start-2 c = search needs
-
-part-put-four-end-2 : tie.Need-part-put-four-end-2
-part-put-four-end-2 c = search needs
-
-put-four-requires-2 : tie.Need-put-four-requires-2
-put-four-requires-2 c κs = search needs
-
-same-length : tie.Need-same-length
-same-length c = search needs
-
 returns : tie.Need-returns
 unfolding trailerBytes big
 returns c =
@@ -75,21 +24,21 @@ pub put-trailer-spec : {M : Type 1} → statement M
 put-trailer-spec =
     tie.close
     (tie.spec
-    sub-put-four
-    part-put-four-start
-    part-put-four-end
-    put-four-requires
-    sub-put-two
-    part-put-two-start
-    part-put-two-end
-    put-two-requires
-    sub-put-two-2
-    part-put-two-start-2
-    part-put-two-end-2
-    put-two-requires-2
-    sub-put-four-2
-    part-put-four-start-2
-    part-put-four-end-2
-    put-four-requires-2
-    same-length
+    (λ c. search needs)
+    (λ c. search needs)
+    (λ c. search needs)
+    (λ c κs. search needs)
+    (λ c. search needs)
+    (λ c. search needs)
+    (λ c. search needs)
+    (λ c κs. search needs)
+    (λ c. search needs)
+    (λ c. search needs)
+    (λ c. search needs)
+    (λ c κs. search needs)
+    (λ c. search needs)
+    (λ c. search needs)
+    (λ c. search needs)
+    (λ c κs. search needs)
+    (λ c. search needs)
     returns)

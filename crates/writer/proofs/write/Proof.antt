@@ -16,9 +16,6 @@ use borrow.Author.Needs.{needs}
 use Rattle.writer.proofs.write.Statement.{statement}
 use Rattle.writer.proofs.write.Tie as tie
 
-arguments-good-requires : tie.Need-arguments-good-requires
-arguments-good-requires c κs = search needs
-
 returns : tie.Need-returns
 returns c =
     let a = c .before .before .before .before .before .before .before .args in
@@ -58,38 +55,11 @@ returns-3 c =
     let told = refused-short (a .packed .now) (a .kinds .now) (a .flags .now) (a .lengths .now) (a .day) (a .out .now) (good (c .before .before)) (c .before .if2 .left) (c .if3 .taken) in
     (sym told, output-refused (a .packed .now) (a .kinds .now) (a .flags .now) (a .lengths .now) (a .day) (a .out .now) told)
 
-copy-requires : tie.Need-copy-requires
-copy-requires c κs = search needs
-
-sub-put-index : tie.Need-sub-put-index
-sub-put-index c = search needs
-
-part-put-index-start : tie.Need-part-put-index-start
-part-put-index-start c = search needs
-
-part-put-index-end : tie.Need-part-put-index-end
-part-put-index-end c = search needs
-
 put-index-requires : tie.Need-put-index-requires
 put-index-requires c κs =
     let a = c .before .before .before .before .before .before .before .before .before .before .before .before .before .before .args in
     let tell = arguments-tell (a .packed .now) (a .kinds .now) (a .flags .now) (a .lengths .now) (a .day) (good (c .before .before .before .before .before .before .before)) in
     (tell .1, tell .2, tell .0, simp (length-take, length-drop) (omega (arith, c .before .before .out .given, c .before .before .before .copy .kept)))
-
-sub-put-trailer : tie.Need-sub-put-trailer
-sub-put-trailer c = search needs
-
-part-put-trailer-start : tie.Need-part-put-trailer-start
-part-put-trailer-start c = search needs
-
-part-put-trailer-end : tie.Need-part-put-trailer-end
-part-put-trailer-end c = search needs
-
-put-trailer-requires : tie.Need-put-trailer-requires
-put-trailer-requires c κs = search needs
-
-same-length : tie.Need-same-length
-same-length c = search needs
 
 returns-4 : tie.Need-returns-4
 unfolding sizeOf
@@ -110,21 +80,21 @@ pub write-spec : {M : Type 1} → statement M
 write-spec =
     tie.close
     (tie.spec
-    arguments-good-requires
+    (λ c κs. search needs)
     returns
     mul-trailer
     add-trailer
     add-size
     returns-2
     returns-3
-    copy-requires
-    sub-put-index
-    part-put-index-start
-    part-put-index-end
+    (λ c κs. search needs)
+    (λ c. search needs)
+    (λ c. search needs)
+    (λ c. search needs)
     put-index-requires
-    sub-put-trailer
-    part-put-trailer-start
-    part-put-trailer-end
-    put-trailer-requires
-    same-length
+    (λ c. search needs)
+    (λ c. search needs)
+    (λ c. search needs)
+    (λ c κs. search needs)
+    (λ c. search needs)
     returns-4)

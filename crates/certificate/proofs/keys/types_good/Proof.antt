@@ -17,30 +17,12 @@ Inv-loop item end at₀ at = typesGood item (membersOf item at₀ end) ≡ types
 abbrev μ-loop : tie.MeasureT-loop
 μ-loop item end at₀ at = end - at
 
-element-at-requires : tie.Need-element-at-requires Inv-loop μ-loop
-element-at-requires c κs = search needs
-
-enum-told : tie.Need-enum-told Inv-loop μ-loop
-enum-told c = search needs
-
-enum-told-2 : tie.Need-enum-told-2 Inv-loop μ-loop
-enum-told-2 c = search needs
-
 returns : tie.Need-returns Inv-loop μ-loop
 unfolding typesIn
 returns c = rw (none-inside (c .before .before .before .before .args .item .now) (c .before .before .before .before .args .types) (sym (c .before .before .element-at .ensures) ∙ c .enum-told2 .given .1))
 
 loop-holds : tie.Need-loop-holds Inv-loop μ-loop
 loop-holds c = refl
-
-element-at-requires-2 : tie.Need-element-at-requires-2 Inv-loop μ-loop
-element-at-requires-2 c κs = search needs
-
-enum-known-e : tie.Need-enum-known-e Inv-loop μ-loop
-enum-known-e c = search needs
-
-enum-told-3 : tie.Need-enum-told-3 Inv-loop μ-loop
-enum-told-3 c = search needs
 
 returns-2 : tie.Need-returns-2 Inv-loop μ-loop
 unfolding typesIn inside typesGood
@@ -49,9 +31,6 @@ returns-2 c = sym (rw (some-inside (c .before .before .before .before .before .b
 returns-3 : tie.Need-returns-3 Inv-loop μ-loop
 unfolding typesIn inside typesGood
 returns-3 c = sym (rw (some-inside (c .before .before .before .before .before .before .before .before .before .before .before .args .item .now) (c .before .before .before .before .before .before .before .before .before .before .before .args .types) (sym (c .before .before .before .before .before .before .before .before .before .element-at .ensures) ∙ c .before .before .before .before .before .before .before .enum-told .given .1)) (c .before .before .before .before .before .before .loop .inv ∙ rw (members-more _ _ _ (sym (c .before .before .before .before .before .element-at2 .ensures) ∙ c .before .before .before .e .given .1), ne-eqb _ _ (c .if1 .taken))))
-
-contents-requires : tie.Need-contents-requires Inv-loop μ-loop
-contents-requires c κs = search needs
 
 returns-4 : tie.Need-returns-4 Inv-loop μ-loop
 unfolding typesIn inside typesGood
@@ -74,17 +53,17 @@ types-good-spec =
     (tie.spec
     Inv-loop
     μ-loop
-    element-at-requires
-    enum-told
-    enum-told-2
+    (λ c κs. search needs)
+    (λ c. search needs)
+    (λ c. search needs)
     returns
     loop-holds
-    element-at-requires-2
-    enum-known-e
-    enum-told-3
+    (λ c κs. search needs)
+    (λ c. search needs)
+    (λ c. search needs)
     returns-2
     returns-3
-    contents-requires
+    (λ c κs. search needs)
     returns-4
     returns-5
     loop-less

@@ -7,15 +7,6 @@ use Rattle.certificate.proofs.Inside.{none-inside, some-inside}
 use Rattle.certificate.proofs.rules.extensions_once.Statement.{statement}
 use Rattle.certificate.proofs.rules.extensions_once.Tie as tie
 
-element-at-requires : tie.Need-element-at-requires
-element-at-requires c κs = search needs
-
-enum-told : tie.Need-enum-told
-enum-told c = search needs
-
-enum-told-2 : tie.Need-enum-told-2
-enum-told-2 c = search needs
-
 returns : tie.Need-returns
 unfolding rule8
 returns c = rw (none-inside (c .before .before .before .before .before .args .item .now) (c .before .before .before .before .before .args .l .extensions) (sym (c .before .before .element-at .ensures) ∙ c .enum-told2 .given .1))
@@ -28,8 +19,8 @@ pub extensions-once-spec : {M : Type 1} → statement M
 extensions-once-spec =
     tie.close
     (tie.spec
-    element-at-requires
-    enum-told
-    enum-told-2
+    (λ c κs. search needs)
+    (λ c. search needs)
+    (λ c. search needs)
     returns
     returns-2)

@@ -8,41 +8,17 @@ use borrow.Author.Needs.{needs}
 use Rattle.certificate.proofs.rules.four_plain.Statement.{statement}
 use Rattle.certificate.proofs.rules.four_plain.Tie as tie
 
-array-copy-out-plain-there : tie.Need-array-copy-out-plain-there
-array-copy-out-plain-there c = search needs
-
-plain-there-requires : tie.Need-plain-there-requires
-plain-there-requires c κs = search needs
-
 returns : tie.Need-returns
 unfolding rule12 oidOf heldOf
 returns c = λ s x p. rw (sym (c .before .plain-there .ensures (lookupOf s x (oidOf 2)) (p .each 2 (omega arith))) ∙ not-true _ (c .if1 .taken))
-
-array-copy-out-plain-there-2 : tie.Need-array-copy-out-plain-there-2
-array-copy-out-plain-there-2 c = search needs
-
-plain-there-requires-2 : tie.Need-plain-there-requires-2
-plain-there-requires-2 c κs = search needs
 
 returns-2 : tie.Need-returns-2
 unfolding rule12 oidOf heldOf
 returns-2 c = λ s x p. rw (sym (c .before .before .before .before .plain-there .ensures (lookupOf s x (oidOf 2)) (p .each 2 (omega arith))) ∙ not-false _ (c .before .before .before .if1 .left), sym (c .before .plain-there2 .ensures (lookupOf s x (oidOf 3)) (p .each 3 (omega arith))) ∙ not-true _ (c .if2 .taken))
 
-array-copy-out-plain-there-3 : tie.Need-array-copy-out-plain-there-3
-array-copy-out-plain-there-3 c = search needs
-
-plain-there-requires-3 : tie.Need-plain-there-requires-3
-plain-there-requires-3 c κs = search needs
-
 returns-3 : tie.Need-returns-3
 unfolding rule12 oidOf heldOf
 returns-3 c = λ s x p. rw (sym (c .before .before .before .before .before .before .before .plain-there .ensures (lookupOf s x (oidOf 2)) (p .each 2 (omega arith))) ∙ not-false _ (c .before .before .before .before .before .before .if1 .left), sym (c .before .before .before .before .plain-there2 .ensures (lookupOf s x (oidOf 3)) (p .each 3 (omega arith))) ∙ not-false _ (c .before .before .before .if2 .left), sym (c .before .plain-there3 .ensures (lookupOf s x (oidOf 4)) (p .each 4 (omega arith))) ∙ not-true _ (c .if3 .taken))
-
-array-copy-out-plain-there-4 : tie.Need-array-copy-out-plain-there-4
-array-copy-out-plain-there-4 c = search needs
-
-plain-there-requires-4 : tie.Need-plain-there-requires-4
-plain-there-requires-4 c κs = search needs
 
 returns-4 : tie.Need-returns-4
 unfolding rule12 oidOf heldOf
@@ -52,15 +28,15 @@ pub four-plain-spec : {M : Type 1} → statement M
 four-plain-spec =
     tie.close
     (tie.spec
-    array-copy-out-plain-there
-    plain-there-requires
+    (λ c. search needs)
+    (λ c κs. search needs)
     returns
-    array-copy-out-plain-there-2
-    plain-there-requires-2
+    (λ c. search needs)
+    (λ c κs. search needs)
     returns-2
-    array-copy-out-plain-there-3
-    plain-there-requires-3
+    (λ c. search needs)
+    (λ c κs. search needs)
     returns-3
-    array-copy-out-plain-there-4
-    plain-there-requires-4
+    (λ c. search needs)
+    (λ c κs. search needs)
     returns-4)

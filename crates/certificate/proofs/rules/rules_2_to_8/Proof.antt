@@ -8,29 +8,17 @@ use Rattle.refusal.proofs.Order.{broken-here, broken-later, none-broken}
 use Rattle.certificate.proofs.rules.rules_2_to_8.Statement.{statement}
 use Rattle.certificate.proofs.rules.rules_2_to_8.Tie as tie
 
-version-good-requires : tie.Need-version-good-requires
-version-good-requires c κs = search needs
-
 returns : tie.Need-returns
 unfolding rules2to8 rule5 rule6 rule7
 returns c = sym (broken-here _ _ (sym (c .before .version-good .ensures) ∙ not-true _ (c .if1 .taken)))
-
-serial-good-requires : tie.Need-serial-good-requires
-serial-good-requires c κs = search needs
 
 returns-2 : tie.Need-returns-2
 unfolding rules2to8 rule5 rule6 rule7
 returns-2 c = sym (broken-later _ _ (sym (c .before .before .before .version-good .ensures) ∙ not-false _ (c .before .before .if1 .left)) ∙ broken-here _ _ (sym (c .before .serial-good .ensures) ∙ not-true _ (c .if2 .taken)))
 
-algorithms-same-requires : tie.Need-algorithms-same-requires
-algorithms-same-requires c κs = search needs
-
 returns-3 : tie.Need-returns-3
 unfolding rules2to8 rule5 rule6 rule7
 returns-3 c = sym (broken-later _ _ (sym (c .before .before .before .before .before .version-good .ensures) ∙ not-false _ (c .before .before .before .before .if1 .left)) ∙ broken-later _ _ (sym (c .before .before .before .serial-good .ensures) ∙ not-false _ (c .before .before .if2 .left)) ∙ broken-here _ _ (sym (c .before .algorithms-same .ensures) ∙ not-true _ (c .if3 .taken)))
-
-same-two-requires : tie.Need-same-two-requires
-same-two-requires c κs = search needs
 
 returns-4 : tie.Need-returns-4
 unfolding rules2to8 rule5 rule6 rule7
@@ -40,15 +28,9 @@ returns-5 : tie.Need-returns-5
 unfolding rules2to8 rule5 rule6 rule7
 returns-5 c = sym (broken-later _ _ (sym (c .before .before .before .before .before .before .before .before .version-good .ensures) ∙ not-false _ (c .before .before .before .before .before .before .before .if1 .left)) ∙ broken-later _ _ (sym (c .before .before .before .before .before .before .serial-good .ensures) ∙ not-false _ (c .before .before .before .before .before .if2 .left)) ∙ broken-later _ _ (sym (c .before .before .before .before .algorithms-same .ensures) ∙ not-false _ (c .before .before .before .if3 .left)) ∙ broken-later _ _ (sym (c .before .before .same-two .ensures) ∙ not-false _ (c .before .if4 .left)) ∙ broken-here _ _ (ap not (c .if5 .taken)))
 
-in-order-requires : tie.Need-in-order-requires
-in-order-requires c κs = search needs
-
 returns-6 : tie.Need-returns-6
 unfolding rules2to8 rule5 rule6 rule7
 returns-6 c = sym (broken-later _ _ (sym (c .before .before .before .before .before .before .before .before .before .before .version-good .ensures) ∙ not-false _ (c .before .before .before .before .before .before .before .before .before .if1 .left)) ∙ broken-later _ _ (sym (c .before .before .before .before .before .before .before .before .serial-good .ensures) ∙ not-false _ (c .before .before .before .before .before .before .before .if2 .left)) ∙ broken-later _ _ (sym (c .before .before .before .before .before .before .algorithms-same .ensures) ∙ not-false _ (c .before .before .before .before .before .if3 .left)) ∙ broken-later _ _ (sym (c .before .before .before .before .same-two .ensures) ∙ not-false _ (c .before .before .before .if4 .left)) ∙ broken-later _ _ (ap not (c .before .before .if5 .left)) ∙ broken-here _ _ (sym (c .before .in-order .ensures) ∙ not-true _ (c .if6 .taken)))
-
-extensions-once-requires : tie.Need-extensions-once-requires
-extensions-once-requires c κs = search needs
 
 returns-7 : tie.Need-returns-7
 unfolding rules2to8 rule5 rule6 rule7
@@ -62,17 +44,17 @@ pub rules-2-to-8-spec : {M : Type 1} → statement M
 rules-2-to-8-spec =
     tie.close
     (tie.spec
-    version-good-requires
+    (λ c κs. search needs)
     returns
-    serial-good-requires
+    (λ c κs. search needs)
     returns-2
-    algorithms-same-requires
+    (λ c κs. search needs)
     returns-3
-    same-two-requires
+    (λ c κs. search needs)
     returns-4
     returns-5
-    in-order-requires
+    (λ c κs. search needs)
     returns-6
-    extensions-once-requires
+    (λ c κs. search needs)
     returns-7
     returns-8)

@@ -5,21 +5,9 @@ use Rattle.certificate.specs.Rules.{sameTwo}
 use Rattle.certificate.proofs.rules.same_two.Statement.{statement}
 use Rattle.certificate.proofs.rules.same_two.Tie as tie
 
-enum-known-one : tie.Need-enum-known-one
-enum-known-one c = search needs
-
-enum-told : tie.Need-enum-told
-enum-told c = search needs
-
 returns : tie.Need-returns
 unfolding sameTwo
 returns c = rw (c .enum-told .given .1)
-
-enum-known-other : tie.Need-enum-known-other
-enum-known-other c = search needs
-
-enum-told-2 : tie.Need-enum-told-2
-enum-told-2 c = search needs
 
 returns-2 : tie.Need-returns-2
 unfolding sameTwo
@@ -37,11 +25,11 @@ pub same-two-spec : {M : Type 1} → statement M
 same-two-spec =
     tie.close
     (tie.spec
-    enum-known-one
-    enum-told
+    (λ c. search needs)
+    (λ c. search needs)
     returns
-    enum-known-other
-    enum-told-2
+    (λ c. search needs)
+    (λ c. search needs)
     returns-2
     returns-3
     returns-4)

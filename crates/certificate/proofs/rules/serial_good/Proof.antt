@@ -19,9 +19,6 @@ unfolding serialGood alike
 empty-good [] h = refl
 empty-good (x ∷ c) h = absurd (omega arith)
 
-contents-requires : tie.Need-contents-requires
-contents-requires c κs = search needs
-
 returns : tie.Need-returns
 unfolding rule3 serialGood
 returns c = rw (← c .before .contents .ensures, lt-leb _ _ (c .if1 .taken))
@@ -30,18 +27,9 @@ returns-2 : tie.Need-returns-2
 unfolding rule3
 returns-2 c = rw (← c .before .before .contents .ensures) (sym (empty-good _ (c .if2 .taken)))
 
-shared-slice-read-if3 : tie.Need-shared-slice-read-if3
-shared-slice-read-if3 c = search needs
-
 returns-3 : tie.Need-returns-3
 unfolding rule3 serialGood
 returns-3 c = rw (← c .before .before .before .before .contents .ensures, le-leb _ _ (c .before .before .before .if1 .left), le-ltb _ _ (c .if3 .taken))
-
-slice-aggregate-same : tie.Need-slice-aggregate-same
-slice-aggregate-same c = search needs
-
-same-requires : tie.Need-same-requires
-same-requires c κs = search needs
 
 returns-4 : tie.Need-returns-4
 unfolding rule3 serialGood
@@ -51,11 +39,11 @@ pub serial-good-spec : {M : Type 1} → statement M
 serial-good-spec =
     tie.close
     (tie.spec
-    contents-requires
+    (λ c κs. search needs)
     returns
     returns-2
-    shared-slice-read-if3
+    (λ c. search needs)
     returns-3
-    slice-aggregate-same
-    same-requires
+    (λ c. search needs)
+    (λ c κs. search needs)
     returns-4)

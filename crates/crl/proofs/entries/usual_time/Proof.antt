@@ -7,9 +7,6 @@ use borrow.Author.Needs.{needs}
 use Rattle.crl.proofs.entries.usual_time.Statement.{statement}
 use Rattle.crl.proofs.entries.usual_time.Tie as tie
 
-opens-requires : tie.Need-opens-requires
-opens-requires c κs = search needs
-
 returns : tie.Need-returns
 returns c = λ some. absurd (omega arith)
 
@@ -52,9 +49,6 @@ add-four c = let o = c .before .before .before .before .before .opens .ensures (
 shared-slice-read-four-2 : tie.Need-shared-slice-read-four-2
 shared-slice-read-four-2 c = let o = c .before .before .before .before .before .before .opens .ensures (not-false _ (c .before .before .before .before .before .if1 .left)) in omega (arith, o .fits, o .inside, c .before .before .if2 .left)
 
-four-requires : tie.Need-four-requires
-four-requires c κs = search needs
-
 returns-3 : tie.Need-returns-3
 returns-3 c = λ some. absurd (omega arith)
 
@@ -67,7 +61,7 @@ pub usual-time-spec : {M : Type 1} → statement M
 usual-time-spec =
     tie.close
     (tie.spec
-    opens-requires
+    (λ c κs. search needs)
     returns
     add-size
     shared-slice-read-size
@@ -82,6 +76,6 @@ usual-time-spec =
     shared-slice-read-four
     add-four
     shared-slice-read-four-2
-    four-requires
+    (λ c κs. search needs)
     returns-3
     returns-4)

@@ -19,24 +19,9 @@ loop-holds : tie.Need-loop-holds Inv-loop μ-loop
 unfolding listedOf
 loop-holds c = refl
 
-first-like-requires : tie.Need-first-like-requires Inv-loop μ-loop
-first-like-requires c κs = search needs
-
-element-at-requires : tie.Need-element-at-requires Inv-loop μ-loop
-element-at-requires c κs = search needs
-
-enum-known-e : tie.Need-enum-known-e Inv-loop μ-loop
-enum-known-e c = search needs
-
-enum-told : tie.Need-enum-told Inv-loop μ-loop
-enum-told c = search needs
-
 returns : tie.Need-returns Inv-loop μ-loop
 unfolding someLists
 returns c = sym (c .before .before .before .before .loop .inv ∙ c .before .before .before .first-like .ensures .none ∙ rw (members-none _ _ _ (sym (c .before .before .element-at .ensures) ∙ c .enum-told .given .1)))
-
-has-serial-requires : tie.Need-has-serial-requires Inv-loop μ-loop
-has-serial-requires c κs = search needs
 
 returns-2 : tie.Need-returns-2 Inv-loop μ-loop
 unfolding someLists
@@ -56,12 +41,12 @@ listed-spec =
     Inv-loop
     μ-loop
     loop-holds
-    first-like-requires
-    element-at-requires
-    enum-known-e
-    enum-told
+    (λ c κs. search needs)
+    (λ c κs. search needs)
+    (λ c. search needs)
+    (λ c. search needs)
     returns
-    has-serial-requires
+    (λ c κs. search needs)
     returns-2
     loop-less
     loop-again)

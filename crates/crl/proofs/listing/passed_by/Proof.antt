@@ -7,9 +7,6 @@ use borrow.Author.Needs.{needs}
 use Rattle.crl.proofs.listing.passed_by.Statement.{statement}
 use Rattle.crl.proofs.listing.passed_by.Tie as tie
 
-opens-requires : tie.Need-opens-requires
-opens-requires c κs = search needs
-
 returns : tie.Need-returns
 returns c = λ some. absurd (omega arith)
 
@@ -55,17 +52,8 @@ returns-3 c = λ some. passed-length (c .before .before .before .before .before 
 returns-4 : tie.Need-returns-4
 returns-4 c = λ some. absurd (omega arith)
 
-sub-if5 : tie.Need-sub-if5
-sub-if5 c = search needs
-
 shared-slice-read-if5 : tie.Need-shared-slice-read-if5
 shared-slice-read-if5 c = let o = c .before .before .before .before .before .before .before .opens .ensures (not-false _ (c .before .before .before .before .before .before .if1 .left)) in omega (arith, o .room, o .fits, o .inside, c .before .before .before .if2 .left)
-
-sub-if5-2 : tie.Need-sub-if5-2
-sub-if5-2 c = search needs
-
-shared-slice-read-if5-2 : tie.Need-shared-slice-read-if5-2
-shared-slice-read-if5-2 c = search needs
 
 returns-5 : tie.Need-returns-5
 returns-5 c = λ some. passed-last (c .before .before .before .before .before .before .before .before .before .opens .ensures (not-false _ (c .before .before .before .before .before .before .before .before .if1 .left))) (c .before .before .before .before .before .if2 .left) (c .before .before .before .if4 .left) (c .if5 .taken)
@@ -77,7 +65,7 @@ pub passed-by-spec : {M : Type 1} → statement M
 passed-by-spec =
     tie.close
     (tie.spec
-    opens-requires
+    (λ c κs. search needs)
     returns
     add-whole
     shared-slice-read-whole
@@ -93,9 +81,9 @@ passed-by-spec =
     add-after-2
     returns-3
     returns-4
-    sub-if5
+    (λ c. search needs)
     shared-slice-read-if5
-    sub-if5-2
-    shared-slice-read-if5-2
+    (λ c. search needs)
+    (λ c. search needs)
     returns-5
     returns-6)

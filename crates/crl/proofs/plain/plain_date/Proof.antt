@@ -7,36 +7,6 @@ use Rattle.crl.proofs.Digits.{never, date-most, date-least, date-told}
 use Rattle.crl.proofs.plain.plain_date.Statement.{statement}
 use Rattle.crl.proofs.plain.plain_date.Tie as tie
 
-shared-slice-read-four : tie.Need-shared-slice-read-four
-shared-slice-read-four c = search needs
-
-shared-slice-read-four-2 : tie.Need-shared-slice-read-four-2
-shared-slice-read-four-2 c = search needs
-
-shared-slice-read-four-3 : tie.Need-shared-slice-read-four-3
-shared-slice-read-four-3 c = search needs
-
-shared-slice-read-four-4 : tie.Need-shared-slice-read-four-4
-shared-slice-read-four-4 c = search needs
-
-four-requires : tie.Need-four-requires
-four-requires c κs = search needs
-
-shared-slice-read-four-5 : tie.Need-shared-slice-read-four-5
-shared-slice-read-four-5 c = search needs
-
-shared-slice-read-four-6 : tie.Need-shared-slice-read-four-6
-shared-slice-read-four-6 c = search needs
-
-shared-slice-read-four-7 : tie.Need-shared-slice-read-four-7
-shared-slice-read-four-7 c = search needs
-
-shared-slice-read-four-8 : tie.Need-shared-slice-read-four-8
-shared-slice-read-four-8 c = search needs
-
-four-requires-2 : tie.Need-four-requires-2
-four-requires-2 c κs = search needs
-
 mul-octets : tie.Need-mul-octets
 mul-octets c =
     let octet = c .before .before .before .before .before .before .before .before .before .before .shared-slice-known .given in
@@ -81,16 +51,16 @@ pub plain-date-spec : {M : Type 1} → statement M
 plain-date-spec =
     tie.close
     (tie.spec
-    shared-slice-read-four
-    shared-slice-read-four-2
-    shared-slice-read-four-3
-    shared-slice-read-four-4
-    four-requires
-    shared-slice-read-four-5
-    shared-slice-read-four-6
-    shared-slice-read-four-7
-    shared-slice-read-four-8
-    four-requires-2
+    (λ c. search needs)
+    (λ c. search needs)
+    (λ c. search needs)
+    (λ c. search needs)
+    (λ c κs. search needs)
+    (λ c. search needs)
+    (λ c. search needs)
+    (λ c. search needs)
+    (λ c. search needs)
+    (λ c κs. search needs)
     mul-octets
     add-octets
     returns

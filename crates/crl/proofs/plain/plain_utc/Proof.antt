@@ -6,26 +6,8 @@ use Rattle.crl.proofs.Digits.{never, clock-told, utc-time}
 use Rattle.crl.proofs.plain.plain_utc.Statement.{statement}
 use Rattle.crl.proofs.plain.plain_utc.Tie as tie
 
-plain-date-requires : tie.Need-plain-date-requires
-plain-date-requires c κs = search needs
-
 returns : tie.Need-returns
 returns c = λ no. never no
-
-shared-slice-read-four : tie.Need-shared-slice-read-four
-shared-slice-read-four c = search needs
-
-shared-slice-read-four-2 : tie.Need-shared-slice-read-four-2
-shared-slice-read-four-2 c = search needs
-
-shared-slice-read-four-3 : tie.Need-shared-slice-read-four-3
-shared-slice-read-four-3 c = search needs
-
-shared-slice-read-four-4 : tie.Need-shared-slice-read-four-4
-shared-slice-read-four-4 c = search needs
-
-four-requires : tie.Need-four-requires
-four-requires c κs = search needs
 
 returns-2 : tie.Need-returns-2
 returns-2 c = λ no. never no
@@ -38,9 +20,6 @@ add-if3 c =
 returns-3 : tie.Need-returns-3
 returns-3 c = λ no. never no
 
-shared-slice-read-result : tie.Need-shared-slice-read-result
-shared-slice-read-result c = search needs
-
 returns-4 : tie.Need-returns-4
 returns-4 c = λ some.
     let clock = clock-told (c .before .before .before .before .before .before .before .before .before .before .before .args .c .now) (λ i. c .before .before .before .before .before .before .before .before .before .before .shared-slice-known .given i .fits) (c .before .before .before .four .ensures) (c .before .before .if2 .left) (c .before .if3 .left) in
@@ -50,15 +29,15 @@ pub plain-utc-spec : {M : Type 1} → statement M
 plain-utc-spec =
     tie.close
     (tie.spec
-    plain-date-requires
+    (λ c κs. search needs)
     returns
-    shared-slice-read-four
-    shared-slice-read-four-2
-    shared-slice-read-four-3
-    shared-slice-read-four-4
-    four-requires
+    (λ c. search needs)
+    (λ c. search needs)
+    (λ c. search needs)
+    (λ c. search needs)
+    (λ c κs. search needs)
     returns-2
     add-if3
     returns-3
-    shared-slice-read-result
+    (λ c. search needs)
     returns-4)

@@ -7,15 +7,6 @@ use Rattle.crl.specs.Shape.{lastOf}
 use Rattle.crl.proofs.shapes.last_of.Statement.{statement}
 use Rattle.crl.proofs.shapes.last_of.Tie as tie
 
-element-tagged-requires : tie.Need-element-tagged-requires
-element-tagged-requires c κs = search needs
-
-enum-known-last : tie.Need-enum-known-last
-enum-known-last c = search needs
-
-enum-told : tie.Need-enum-told
-enum-told c = search needs
-
 returns : tie.Need-returns
 unfolding lastOf
 returns c = on-missing _ (sym (c .before .before .element-tagged .ensures) ∙ c .enum-told .given .1)
@@ -24,21 +15,9 @@ returns-2 : tie.Need-returns-2
 unfolding lastOf
 returns-2 c = on-found _ _ (sym (c .before .before .before .before .before .element-tagged .ensures) ∙ c .before .before .before .last .given .1) (rw (ne-eqb _ _ (c .if1 .taken)))
 
-only-member-requires : tie.Need-only-member-requires
-only-member-requires c κs = search needs
-
-enum-known-extensions : tie.Need-enum-known-extensions
-enum-known-extensions c = search needs
-
-enum-told-2 : tie.Need-enum-told-2
-enum-told-2 c = search needs
-
 returns-3 : tie.Need-returns-3
 unfolding lastOf
 returns-3 c = on-found _ _ (sym (c .before .before .before .before .before .before .before .before .element-tagged .ensures) ∙ c .before .before .before .before .before .before .last .given .1) (rw (eq-eqb _ _ (c .before .before .before .if1 .left)) (on-missing _ (sym (c .before .before .only-member .ensures) ∙ c .enum-told2 .given .1)))
-
-extensions-shaped-requires : tie.Need-extensions-shaped-requires
-extensions-shaped-requires c κs = search needs
 
 returns-4 : tie.Need-returns-4
 unfolding lastOf
@@ -52,15 +31,15 @@ pub last-of-spec : {M : Type 1} → statement M
 last-of-spec =
     tie.close
     (tie.spec
-    element-tagged-requires
-    enum-known-last
-    enum-told
+    (λ c κs. search needs)
+    (λ c. search needs)
+    (λ c. search needs)
     returns
     returns-2
-    only-member-requires
-    enum-known-extensions
-    enum-told-2
+    (λ c κs. search needs)
+    (λ c. search needs)
+    (λ c. search needs)
     returns-3
-    extensions-shaped-requires
+    (λ c κs. search needs)
     returns-4
     returns-5)

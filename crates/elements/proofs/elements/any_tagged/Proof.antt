@@ -7,21 +7,9 @@ use Rattle.elements.proofs.Tags.{found-other}
 use Rattle.elements.proofs.elements.any_tagged.Statement.{statement}
 use Rattle.elements.proofs.elements.any_tagged.Tie as tie
 
-shared-slice-read-if2 : tie.Need-shared-slice-read-if2
-shared-slice-read-if2 c = search needs
-
 returns : tie.Need-returns
 unfolding foundTagged
 returns c = sym (found-other _ _ _ _ (c .if2 .taken))
-
-element-at-requires : tie.Need-element-at-requires
-element-at-requires c κs = search needs
-
-enum-known-e : tie.Need-enum-known-e
-enum-known-e c = search needs
-
-enum-told : tie.Need-enum-told
-enum-told c = search needs
 
 returns-2 : tie.Need-returns-2
 unfolding foundTagged
@@ -39,11 +27,11 @@ pub any-tagged-spec : {M : Type 1} → statement M
 any-tagged-spec =
     tie.close
     (tie.spec
-    shared-slice-read-if2
+    (λ c. search needs)
     returns
-    element-at-requires
-    enum-known-e
-    enum-told
+    (λ c κs. search needs)
+    (λ c. search needs)
+    (λ c. search needs)
     returns-2
     returns-3
     returns-4)

@@ -9,73 +9,37 @@ use borrow.Rule.Slice.PartAt.{part-to-end}
 use Rattle.elements.proofs.elements.stretch.Statement.{statement}
 use Rattle.elements.proofs.elements.stretch.Tie as tie
 
-sub-result : tie.Need-sub-result
-sub-result c = search needs
-
-part-result-start : tie.Need-part-result-start
-part-result-start c = search needs
-
-part-result-end : tie.Need-part-result-end
-part-result-end c = search needs
-
 returns : tie.Need-returns
 returns c =
     let beyond : length (c .before .before .args .item .now) ≤ c .before .before .args .from = omega arith in
     rw (drop-of-length-le (c .before .before .args .item .now) beyond, take-nil)
-
-sub-result-2 : tie.Need-sub-result-2
-sub-result-2 c = search needs
-
-part-result-start-2 : tie.Need-part-result-start-2
-part-result-start-2 c = search needs
-
-part-result-end-2 : tie.Need-part-result-end-2
-part-result-end-2 c = search needs
 
 returns-2 : tie.Need-returns-2
 returns-2 c =
     let none : c .before .before .before .args .end - c .before .before .before .args .from ≡ 0 = omega arith in
     rw none
 
-sub-result-3 : tie.Need-sub-result-3
-sub-result-3 c = search needs
-
-part-result-start-3 : tie.Need-part-result-start-3
-part-result-start-3 c = search needs
-
-part-result-end-3 : tie.Need-part-result-end-3
-part-result-end-3 c = search needs
-
 returns-3 : tie.Need-returns-3
 returns-3 c =
     part-to-end (c .before .before .before .before .args .item .now) (c .before .before .before .before .args .from)
     ∙ sym (take-all (c .before .before .before .before .args .end - c .before .before .before .before .args .from) (drop (c .before .before .before .before .args .from) (c .before .before .before .before .args .item .now)) (rw length-drop (omega arith)))
 
-part-result-start-4 : tie.Need-part-result-start-4
-part-result-start-4 c = search needs
-
-part-result-end-4 : tie.Need-part-result-end-4
-part-result-end-4 c = search needs
-
-returns-4 : tie.Need-returns-4
-returns-4 c = search needs
-
 pub stretch-spec : {M : Type 1} → statement M
 stretch-spec =
     tie.close
     (tie.spec
-    sub-result
-    part-result-start
-    part-result-end
+    (λ c. search needs)
+    (λ c. search needs)
+    (λ c. search needs)
     returns
-    sub-result-2
-    part-result-start-2
-    part-result-end-2
+    (λ c. search needs)
+    (λ c. search needs)
+    (λ c. search needs)
     returns-2
-    sub-result-3
-    part-result-start-3
-    part-result-end-3
+    (λ c. search needs)
+    (λ c. search needs)
+    (λ c. search needs)
     returns-3
-    part-result-start-4
-    part-result-end-4
-    returns-4)
+    (λ c. search needs)
+    (λ c. search needs)
+    (λ c. search needs))

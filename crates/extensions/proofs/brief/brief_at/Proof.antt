@@ -8,17 +8,11 @@ use Rattle.extensions.proofs.Briefs.{nothing-told, member-plain, member
 use Rattle.extensions.proofs.brief.brief_at.Statement.{statement}
 use Rattle.extensions.proofs.brief.brief_at.Tie as tie
 
-short-end-requires : tie.Need-short-end-requires
-short-end-requires c κs = search needs
-
 returns : tie.Need-returns
 returns c = nothing-told
 
 add-at : tie.Need-add-at
 add-at c = omega (arith, short-within _ _ _ _ (c .before .short-end .ensures) (omega arith))
-
-short-end-requires-2 : tie.Need-short-end-requires-2
-short-end-requires-2 c κs = search needs
 
 returns-2 : tie.Need-returns-2
 returns-2 c = nothing-told
@@ -26,18 +20,12 @@ returns-2 c = nothing-told
 add-if3 : tie.Need-add-if3
 add-if3 c = omega (arith, short-within _ _ _ _ (c .before .short-end2 .ensures) (omega arith))
 
-short-end-requires-3 : tie.Need-short-end-requires-3
-short-end-requires-3 c κs = search needs
-
 add-t13 : tie.Need-add-t13
 add-t13 c = omega (arith, short-within _ _ _ _ (sym (c .if3 .taken) ∙ c .before .short-end3 .ensures) (omega (arith, short-within _ _ _ _ (c .before .before .before .before .before .short-end .ensures) (omega arith))))
 
 returns-3 : tie.Need-returns-3
 unfolding endOf
 returns-3 c = λ _. member-plain _ _ _ (omega arith) (c .before .before .before .before .before .short-end .ensures) (omega arith) (c .before .before .before .short-end2 .ensures) (sym (c .if3 .taken) ∙ c .before .short-end3 .ensures)
-
-short-end-requires-4 : tie.Need-short-end-requires-4
-short-end-requires-4 c κs = search needs
 
 returns-4 : tie.Need-returns-4
 returns-4 c = nothing-told
@@ -48,17 +36,11 @@ sub-if5 c = omega (arith, short-within _ _ _ _ (c .before .short-end4 .ensures) 
 returns-5 : tie.Need-returns-5
 returns-5 c = nothing-told
 
-add-if6 : tie.Need-add-if6
-add-if6 c = search needs
-
 shared-slice-read-if6 : tie.Need-shared-slice-read-if6
 shared-slice-read-if6 c = omega (arith, short-within _ _ _ _ (c .before .before .before .short-end4 .ensures) (omega arith), short-inside _ _ _ _ (c .before .before .before .short-end4 .ensures) (omega arith))
 
 returns-6 : tie.Need-returns-6
 returns-6 c = nothing-told
-
-short-end-requires-5 : tie.Need-short-end-requires-5
-short-end-requires-5 c κs = search needs
 
 returns-7 : tie.Need-returns-7
 returns-7 c = nothing-told
@@ -74,23 +56,23 @@ pub brief-at-spec : {M : Type 1} → statement M
 brief-at-spec =
     tie.close
     (tie.spec
-    short-end-requires
+    (λ c κs. search needs)
     returns
     add-at
-    short-end-requires-2
+    (λ c κs. search needs)
     returns-2
     add-if3
-    short-end-requires-3
+    (λ c κs. search needs)
     add-t13
     returns-3
-    short-end-requires-4
+    (λ c κs. search needs)
     returns-4
     sub-if5
     returns-5
-    add-if6
+    (λ c. search needs)
     shared-slice-read-if6
     returns-6
-    short-end-requires-5
+    (λ c κs. search needs)
     returns-7
     add-t12
     returns-8)

@@ -18,21 +18,6 @@ abbrev μ-loop : tie.MeasureT-loop
 loop-holds : tie.Need-loop-holds Inv-loop μ-loop
 loop-holds c = refl
 
-element-at-requires : tie.Need-element-at-requires Inv-loop μ-loop
-element-at-requires c κs = search needs
-
-enum-known-e : tie.Need-enum-known-e Inv-loop μ-loop
-enum-known-e c = search needs
-
-enum-told : tie.Need-enum-told Inv-loop μ-loop
-enum-told c = search needs
-
-any-extension-requires : tie.Need-any-extension-requires Inv-loop μ-loop
-any-extension-requires c κs = search needs
-
-has-oid-requires : tie.Need-has-oid-requires Inv-loop μ-loop
-has-oid-requires c κs = search needs
-
 loop-less : tie.Need-loop-less Inv-loop μ-loop
 loop-less c = omega (arith, found-within _ _ _ (sym (c .before .before .before .before .before .before .element-at .ensures) ∙ c .before .before .before .before .e .given .1))
 
@@ -55,11 +40,11 @@ place-of-spec =
     Inv-loop
     μ-loop
     loop-holds
-    element-at-requires
-    enum-known-e
-    enum-told
-    any-extension-requires
-    has-oid-requires
+    (λ c κs. search needs)
+    (λ c. search needs)
+    (λ c. search needs)
+    (λ c κs. search needs)
+    (λ c κs. search needs)
     loop-less
     loop-again
     returns

@@ -25,32 +25,8 @@ abbrev μ-each : tie.MeasureT-each
 each-holds : tie.Need-each-holds Inv-loop μ-loop Inv-each μ-each
 each-holds c = (refl, refl)
 
-element-at-requires : tie.Need-element-at-requires Inv-loop μ-loop Inv-each μ-each
-element-at-requires c κs = search needs
-
-enum-known-e : tie.Need-enum-known-e Inv-loop μ-loop Inv-each μ-each
-enum-known-e c = search needs
-
-enum-told : tie.Need-enum-told Inv-loop μ-loop Inv-each μ-each
-enum-told c = search needs
-
-any-extension-requires : tie.Need-any-extension-requires Inv-loop μ-loop Inv-each μ-each
-any-extension-requires c κs = search needs
-
 loop-holds : tie.Need-loop-holds Inv-loop μ-loop Inv-each μ-each
 loop-holds c = (c .before .before .before .before .before .each .inv .0, refl)
-
-element-at-requires-2 : tie.Need-element-at-requires-2 Inv-loop μ-loop Inv-each μ-each
-element-at-requires-2 c κs = search needs
-
-enum-known-other : tie.Need-enum-known-other Inv-loop μ-loop Inv-each μ-each
-enum-known-other c = search needs
-
-enum-told-2 : tie.Need-enum-told-2 Inv-loop μ-loop Inv-each μ-each
-enum-told-2 c = search needs
-
-doubles-requires : tie.Need-doubles-requires Inv-loop μ-loop Inv-each μ-each
-doubles-requires c κs = search needs
 
 loop-less : tie.Need-loop-less Inv-loop μ-loop Inv-each μ-each
 loop-less c = omega (arith, found-within _ _ _ (sym (c .before .before .before .before .before .element-at2 .ensures) ∙ c .before .before .before .other .given .1))
@@ -83,15 +59,15 @@ doubled-spec =
     Inv-each
     μ-each
     each-holds
-    element-at-requires
-    enum-known-e
-    enum-told
-    any-extension-requires
+    (λ c κs. search needs)
+    (λ c. search needs)
+    (λ c. search needs)
+    (λ c κs. search needs)
     loop-holds
-    element-at-requires-2
-    enum-known-other
-    enum-told-2
-    doubles-requires
+    (λ c κs. search needs)
+    (λ c. search needs)
+    (λ c. search needs)
+    (λ c κs. search needs)
     loop-less
     loop-again
     each-less

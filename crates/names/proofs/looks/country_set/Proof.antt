@@ -18,26 +18,17 @@ at-nine s at after value oid low nine last f =
     let here : value ≡ at + 9 = omega arith in
     f (rw here at oid) (rw here at last)
 
-short-end-requires : tie.Need-short-end-requires
-short-end-requires c κs = search needs
-
 returns : tie.Need-returns
 returns c = λ some. absurd (omega arith)
 
 add-short-end : tie.Need-add-short-end
 add-short-end c = omega (arith, short-within _ _ _ _ (c .before .short-end .ensures) (omega arith))
 
-short-end-requires-2 : tie.Need-short-end-requires-2
-short-end-requires-2 c κs = search needs
-
 returns-2 : tie.Need-returns-2
 returns-2 c = λ some. absurd (omega arith)
 
 add-short-end-2 : tie.Need-add-short-end-2
 add-short-end-2 c = omega (arith, short-within _ _ _ _ (c .before .before .before .short-end .ensures) (omega arith), short-within _ _ _ _ (sym (c .if2 .left) ∙ c .before .short-end2 .ensures) (omega arith))
-
-short-end-requires-3 : tie.Need-short-end-requires-3
-short-end-requires-3 c κs = search needs
 
 returns-3 : tie.Need-returns-3
 returns-3 c = λ some. absurd (omega arith)
@@ -75,9 +66,6 @@ shared-slice-read-if7 c = omega (arith, c .before .before .before .before .befor
 returns-7 : tie.Need-returns-7
 returns-7 c = λ some. absurd (omega arith)
 
-short-end-requires-4 : tie.Need-short-end-requires-4
-short-end-requires-4 c κs = search needs
-
 returns-8 : tie.Need-returns-8
 returns-8 c = λ some. at-nine _ _ _ _ (c .before .before .before .before .before .before .before .before .before .before .short-end3 .ensures) (short-within _ _ _ _ (c .before .before .before .before .before .before .before .before .before .before .short-end3 .ensures) (omega arith) .0) (c .before .before .before .before .before .before .before .before .if4 .left) (sym (c .if8 .taken) ∙ c .before .short-end4 .ensures) λ oid last. country-set _ _ _ some (c .before .before .before .before .before .before .before .before .before .before .before .before .before .before .short-end .ensures) (sym (c .before .before .before .before .before .before .before .before .before .before .before .if2 .left) ∙ c .before .before .before .before .before .before .before .before .before .before .before .before .short-end2 .ensures) oid (c .before .before .before .before .before .before .if5 .left) (c .before .before .before .before .if6 .left) (c .before .before .if7 .left) last
 
@@ -88,13 +76,13 @@ pub country-set-spec : {M : Type 1} → statement M
 country-set-spec =
     tie.close
     (tie.spec
-    short-end-requires
+    (λ c κs. search needs)
     returns
     add-short-end
-    short-end-requires-2
+    (λ c κs. search needs)
     returns-2
     add-short-end-2
-    short-end-requires-3
+    (λ c κs. search needs)
     returns-3
     sub-if4
     returns-4
@@ -107,6 +95,6 @@ country-set-spec =
     add-if7
     shared-slice-read-if7
     returns-7
-    short-end-requires-4
+    (λ c κs. search needs)
     returns-8
     returns-9)

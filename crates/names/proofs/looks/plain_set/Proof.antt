@@ -8,17 +8,11 @@ use Rattle.names.proofs.Plains.{plain-set}
 use Rattle.names.proofs.looks.plain_set.Statement.{statement}
 use Rattle.names.proofs.looks.plain_set.Tie as tie
 
-short-end-requires : tie.Need-short-end-requires
-short-end-requires c κs = search needs
-
 returns : tie.Need-returns
 returns c = λ some. absurd (omega arith)
 
 add-short-end : tie.Need-add-short-end
 add-short-end c = omega (arith, short-within _ _ _ _ (c .before .short-end .ensures) (omega arith))
-
-short-end-requires-2 : tie.Need-short-end-requires-2
-short-end-requires-2 c κs = search needs
 
 returns-2 : tie.Need-returns-2
 returns-2 c = λ some. absurd (omega arith)
@@ -26,14 +20,8 @@ returns-2 c = λ some. absurd (omega arith)
 add-short-end-2 : tie.Need-add-short-end-2
 add-short-end-2 c = omega (arith, short-within _ _ _ _ (c .before .before .before .short-end .ensures) (omega arith), short-within _ _ _ _ (sym (c .if2 .left) ∙ c .before .short-end2 .ensures) (omega arith))
 
-short-end-requires-3 : tie.Need-short-end-requires-3
-short-end-requires-3 c κs = search needs
-
 returns-3 : tie.Need-returns-3
 returns-3 c = λ some. absurd (omega arith)
-
-sub-if4 : tie.Need-sub-if4
-sub-if4 c = search needs
 
 shared-slice-read-if4 : tie.Need-shared-slice-read-if4
 shared-slice-read-if4 c = omega (arith, short-inside _ _ _ _ (c .before .before .short-end3 .ensures) (omega arith))
@@ -41,15 +29,9 @@ shared-slice-read-if4 c = omega (arith, short-inside _ _ _ _ (c .before .before 
 returns-4 : tie.Need-returns-4
 returns-4 c = λ some. absurd (omega arith)
 
-short-end-requires-4 : tie.Need-short-end-requires-4
-short-end-requires-4 c κs = search needs
-
 returns-5 : tie.Need-returns-5
 unfolding identifierGood
 returns-5 c = λ some. plain-set _ _ _ 0x13 some (c .before .before .before .before .before .before .before .before .before .short-end .ensures) (sym (c .before .before .before .before .before .before .if2 .left) ∙ c .before .before .before .before .before .before .before .short-end2 .ensures) (omega arith) (c .before .before .before .before .before .short-end3 .ensures) (c .before .before .if4 .left) refl (sym (c .if5 .taken) ∙ c .before .short-end4 .ensures)
-
-short-end-requires-5 : tie.Need-short-end-requires-5
-short-end-requires-5 c κs = search needs
 
 returns-6 : tie.Need-returns-6
 unfolding identifierGood
@@ -62,19 +44,19 @@ pub plain-set-spec : {M : Type 1} → statement M
 plain-set-spec =
     tie.close
     (tie.spec
-    short-end-requires
+    (λ c κs. search needs)
     returns
     add-short-end
-    short-end-requires-2
+    (λ c κs. search needs)
     returns-2
     add-short-end-2
-    short-end-requires-3
+    (λ c κs. search needs)
     returns-3
-    sub-if4
+    (λ c. search needs)
     shared-slice-read-if4
     returns-4
-    short-end-requires-4
+    (λ c κs. search needs)
     returns-5
-    short-end-requires-5
+    (λ c κs. search needs)
     returns-6
     returns-7)

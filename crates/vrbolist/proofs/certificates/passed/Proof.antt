@@ -6,7 +6,6 @@ use Rattle.vrbolist.proofs.certificates.passed.Tie as tie
 use Rattle.vrbolist.proofs.certificates.passed.Reads as reads
 use Rattle.vrbolist.proofs.certificates.passed.Lts as lts
 
--- src/certificates.rt:58:1
 returns : tie.Need-returns
 unfolding certificatePassed
 returns c = refl

@@ -8,15 +8,12 @@ use Rattle.vrbolist.proofs.chains.vrbolist_chain.Lts as lts
 use Rattle.chain.proofs.best_chain.Reads as best-chain-reads
 use Rattle.vrbolist.proofs.chains.chain_told.Reads as chain-told-reads
 
--- src/chains.rt:20:16
 best-chain-requires : tie.Need-best-chain-requires
 best-chain-requires c κs = search needs
 
--- src/chains.rt:20:5
 chain-told-requires : tie.Need-chain-told-requires
 chain-told-requires c κs = search needs
 
--- src/chains.rt:16:1
 returns : tie.Need-returns
 returns c = forwarded _ (c .before .best-chain .ensures) (c .chain-told .ensures)
 

@@ -7,15 +7,12 @@ use Rattle.vrbolist.proofs.items.vrbolist_crl_age.Lts as lts
 use Rattle.crl.proofs.age.Reads as age-reads
 use Rattle.vrbolist.proofs.items.days_told.Reads as days-told-reads
 
--- src/items.rt:83:15
 age-requires : tie.Need-age-requires
 age-requires c κs = search needs
 
--- src/items.rt:83:5
 days-told-requires : tie.Need-days-told-requires
 days-told-requires c κs = search needs
 
--- src/items.rt:79:1
 returns : tie.Need-returns
 returns c = rw (c .before .age .ensures) at (c .days-told .ensures)
 
