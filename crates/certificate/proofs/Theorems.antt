@@ -69,7 +69,7 @@ module _ (s : List ℕ) (role : ℕ) where
         broken-later 2 _ (m .version) ∙ broken-later 3 _ (m .serial) ∙ broken-later 4 _ (m .algorithms)
         ∙ broken-later 5 _ (m .countries) ∙ broken-later 6 _ (m .bare) ∙ broken-later 7 _ (m .times)
         ∙ broken-later 8 _ (m .once) ∙ broken-later 9 _ (m .usage) ∙ broken-later 10 _ (m .constraints)
-        ∙ broken-later 11 _ (m .keys) ∙ broken-later 12 _ (m .plain) ∙ broken-later 13 _ (m .documents)
+        ∙ broken-later 11 _ (m .keys) ∙ broken-later 12 _ (m .four) ∙ broken-later 13 _ (m .documents)
         ∙ broken-later 14 _ (m .uncritical) ∙ none-broken 15
 
     none-meets : firstBroken 2 (rulesOf s l (readingsOf s l) role) ≡ 0 → Meets s role l
@@ -87,7 +87,7 @@ module _ (s : List ℕ) (role : ℕ) where
           usage = holds 7;
           constraints = holds 8;
           keys = holds 9;
-          plain = holds 10;
+          four = holds 10;
           documents = holds 11;
           uncritical = holds 12;
         }

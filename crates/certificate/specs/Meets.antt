@@ -27,7 +27,7 @@ pub record Meets (s : List ℕ) (role : ℕ) (l : Layout) : Type 0 where
   pub usage : rule9 s (l .extensions) role ≡ true  -- 9
   pub constraints : rule10 s (l .extensions) role ≡ true  -- 10
   pub keys : rule11 (readingsOf s l) role ≡ true  -- 11
-  pub plain : rule12 s (l .extensions) ≡ true  -- 12
+  pub four : rule12 s (l .extensions) ≡ true  -- 12
   pub documents : rule13 s (l .extensions) role ≡ true  -- 13
   pub uncritical : rule14 s (l .extensions) ≡ true  -- 14
 

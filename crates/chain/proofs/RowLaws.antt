@@ -13,7 +13,7 @@ use lib.Dec.{eqb}
 use lib.ListN.{length, getD, set, take, drop, replicate, length-take}
 use lib.Seq.{getD-set-same, getD-set-other, getD-take, getD-drop}
 use Rattle.crl.specs.Listed.{listedOf}
-use Rattle.elements.specs.Octets.{alike}
+use Rattle.octets.specs.Alike.{alike}
 use Rattle.image.specs.declared.IndexEntry.{IndexEntry}
 use Rattle.image.specs.Index.{entryIn}
 use Rattle.chain.specs.declared.opened.Row.{Row}

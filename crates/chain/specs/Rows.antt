@@ -13,7 +13,7 @@ use Rattle.crl.specs.declared.Judged as list-answer
 use Rattle.crl.specs.declared.Judged.the-variants as list-judged
 use Rattle.crl.specs.Answer as lists
 use Rattle.crl.specs.Listed.{listedOf}
-use Rattle.elements.specs.Octets.{alike}
+use Rattle.octets.specs.Alike.{alike}
 use Rattle.graph.specs.Chains.{graphOf}
 use Rattle.graph.specs.declared.Found.{Found}
 use Rattle.graph.specs.Answer.{Answered}

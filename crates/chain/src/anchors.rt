@@ -1,8 +1,8 @@
 // The steps from an anchor, looked at before a search.
-use crate::counting::octet;
 use crate::matching::matched;
 use crate::opened::row_at;
 use graph::Found;
+use octets::octet;
 ghost use mathlib.Core.Path.{_≡_};
 ghost use mathlib.Core.Bool.{true};
 ghost use mathlib.Core.List.{[], _∷_, _++_};

@@ -6,7 +6,7 @@ use crate::opened::Row;
 use crate::opened::cells_of;
 use image::IndexEntry;
 use image::entry_in;
-use image::part;
+use octets::part;
 ghost use mathlib.Core.Path.{_≡_};
 ghost use Prim.Native.Nat.{_≤_};
 ghost use lib.ListN.{length};

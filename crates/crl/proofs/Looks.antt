@@ -13,9 +13,9 @@ use Rattle.der.specs.Heading.{identifierGood}
 use Rattle.elements.specs.declared.elements.Element.{Element}
 use Rattle.elements.specs.declared.elements.Found.the-variants.{One}
 use Rattle.elements.specs.Elements.{foundAt, foundTagged, onFound, membersOf, contentsOf}
-use Rattle.elements.specs.Octets.{alike}
+use Rattle.octets.specs.Alike.{alike}
 use Rattle.elements.specs.Short.{shortEnd}
-use Rattle.elements.proofs.Likeness.{unequal-unlike, unlike-length}
+use Rattle.octets.proofs.Likeness.{unequal-unlike, unlike-length}
 use Rattle.elements.proofs.Members.{tag-kept, found-within, members-more}
 use Rattle.elements.proofs.Shorts.{brief, short-there, short-told, short-found, short-within}
 use Rattle.times.specs.Times.{timeAt, timeTag}

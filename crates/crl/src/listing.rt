@@ -2,10 +2,9 @@
 use crate::entries::opens;
 use elements::Element;
 use elements::Found;
-use elements::contents;
 use elements::element_at;
 use elements::element_tagged;
-use elements::same;
+use elements::holds;
 ghost use mathlib.Core.Path.{_≡_};
 ghost use Prim.Native.Nat.{_<_};
 ghost use Rattle.crl.specs.Listed.{lists, listedOf};
@@ -75,5 +74,5 @@ fn has_serial(item: &[u8], serial: &[u8], e: Element) -> bool
     let Found::One(own) = element_tagged(item, e.contents, e.end, 0x02) else {
         return false;
     };
-    same(contents(item, own), serial)
+    holds(item, own, serial)
 }

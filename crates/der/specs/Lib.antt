@@ -1,5 +1,4 @@
 pub mod Forms
-pub mod Octets
 pub mod Heading
 pub mod Contents
 pub mod Walk

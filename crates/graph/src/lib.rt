@@ -1,4 +1,5 @@
 // The best chain over places: the shortest from an anchor to a signer, and among those the first by place number.
+use octets::octet;
 ghost use mathlib.Core.Path.{_≡_};
 ghost use mathlib.Core.List.{List, _++_};
 ghost use Prim.Native.Nat.{ℕ, _+_, _-_, _<_, _≤_};
@@ -17,13 +18,6 @@ fn wide(x: u8) -> usize
     ensures { λ r. ⌜ r ≡ x ⌝ }
 {
     x as usize
-}
-
-// An octet of a table, 0 beyond its end.
-fn octet(table: &[u8], i: usize) -> u8
-    ensures { λ r. ⌜ r ≡ getD (now (table .entry)) i 0 ⌝ }
-{
-    if i < table.len() { table[i] } else { 0 }
 }
 
 // Whether a step goes to an anchor from outside, or from a place that is no signer to a link or a signer.

@@ -12,9 +12,9 @@ use Rattle.elements.specs.declared.elements.Element.{Element}
 use Rattle.elements.specs.declared.elements.Found.{Found}
 use Rattle.elements.specs.declared.elements.Found.the-variants.{One, Missing}
 use Rattle.elements.specs.Elements.{foundAt, withTag, foundTagged, onFound, contentsOf}
-use Rattle.elements.specs.Octets.{alike}
+use Rattle.octets.specs.Alike.{alike}
 use Rattle.elements.specs.Short.{shortEnd}
-use Rattle.elements.proofs.Likeness.{three, is-alike, unequal-unlike}
+use Rattle.octets.proofs.Likeness.{three, is-alike, unequal-unlike}
 use Rattle.elements.proofs.Members.{found-within}
 use Rattle.elements.proofs.Shorts.{brief, short-found, short-inside, short-within}
 use Rattle.names.specs.declared.Attribute.the-variants.{Country, Other}

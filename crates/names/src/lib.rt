@@ -6,7 +6,7 @@ use elements::Found;
 use elements::contents;
 use elements::element_at;
 use elements::element_tagged;
-use elements::same;
+use elements::holds;
 use looks::country_set;
 use looks::plain_set;
 ghost use mathlib.Core.Path.{_≡_};
@@ -117,7 +117,7 @@ fn attribute_of(item: &[u8], e: Element) -> Attribute
     if value.end != e.end {
         return Attribute::Misshapen;
     }
-    if same(contents(item, oid), b"\x55\x04\x06") {
+    if holds(item, oid, b"\x55\x04\x06") {
         return Attribute::Country(value);
     }
     Attribute::Other

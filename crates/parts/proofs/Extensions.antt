@@ -10,14 +10,14 @@ use lib.Dec.{eqb}
 use lib.ListN.{length, getD}
 use Rattle.der.specs.Forms.{paper}
 use Rattle.der.specs.Heading.{constructed}
-use Rattle.der.specs.Octets.{Octets}
+use Rattle.octets.specs.Octets.{Octets}
 use Rattle.tree.specs.Tree.{Tree, leaf, node, Trees, none, more, Sound, sound-leaf}
 use Rattle.elements.specs.declared.elements.Element.{Element}
 use Rattle.elements.specs.declared.elements.Found.{Found}
 use Rattle.elements.specs.declared.elements.Found.the-variants.{One}
 use Rattle.elements.specs.Elements.{foundAt, foundTagged, withTag, membersOf}
 use Rattle.elements.specs.Elements as elements
-use Rattle.elements.proofs.Likeness.{alike-is, is-alike}
+use Rattle.octets.proofs.Likeness.{alike-is, is-alike}
 use Rattle.elements.proofs.Members.{found-within, members-none, members-more}
 use Rattle.extensions.specs.declared.Extension.{Extension}
 use Rattle.extensions.specs.declared.Extension.the-variants.{Is, Absent}

@@ -9,7 +9,7 @@ use lib.ListN.{length, take, drop}
 use Rattle.der.specs.declared.walking.Walked.the-variants.{Passed}
 use Rattle.der.specs.Forms.{paper}
 use Rattle.der.specs.Heading.{constructed}
-use Rattle.der.specs.Octets.{Octets}
+use Rattle.octets.specs.Octets.{Octets}
 use Rattle.tree.specs.Tree.{Tree, leaf, node, Trees, none, more, encoded, encodedAll, contentsOf, Sound, sound-none, sound-more, Encodes}
 use Rattle.tree.proofs.Theorems.{walk-passes}
 use Rattle.elements.specs.Elements.{wholeOf}

@@ -8,7 +8,7 @@ use lib.ListN.{length, getD, take, drop}
 use lib.Seq.{take-at, drop-at}
 use Rattle.refusal.specs.declared.Refusal.{Refusal}
 use Rattle.refusal.specs.declared.Refusal.the-variants.{Image as Broken}
-use Rattle.der.specs.Octets.{Octets}
+use Rattle.octets.specs.Octets.{Octets}
 use Rattle.image.specs.declared.Opened.the-variants as image
 use Rattle.image.specs.declared.Opened.the-variants.{Image}
 use Rattle.image.specs.declared.Place.the-variants.{Is}

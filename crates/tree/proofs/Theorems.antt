@@ -12,7 +12,7 @@ use Rattle.der.specs.declared.walking.Walked.the-variants.{Passed}
 use Rattle.der.specs.declared.stepping.Step.the-variants.{At, Nothing}
 use Rattle.der.specs.declared.numbers.Number.the-variants.{Value}
 use Rattle.der.specs.Forms.{Forms}
-use Rattle.der.specs.Octets.{Octets, twos}
+use Rattle.octets.specs.Octets.{Octets, twos}
 use Rattle.der.specs.Contents.{integerGood}
 use Rattle.der.specs.Walk.{elementAt, listAt, walkOf, counted}
 use Rattle.der.specs.Heading.{headingOf}

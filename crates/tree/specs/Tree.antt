@@ -9,7 +9,7 @@ use lib.ListN.{length}
 use Rattle.der.specs.declared.stepping.Step.{Step}
 use Rattle.der.specs.declared.stepping.Step.the-variants.{At, Nothing}
 use Rattle.der.specs.Forms.{Forms}
-use Rattle.der.specs.Octets.{Octets, big, twos}
+use Rattle.octets.specs.Octets.{Octets, big, twos}
 use Rattle.der.specs.Heading.{identifierGood, constructed}
 use Rattle.der.specs.Contents.{contentsGood}
 use Rattle.der.specs.Member.{memberOf}

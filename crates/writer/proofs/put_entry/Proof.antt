@@ -4,7 +4,7 @@ use native.Mathlib.Omega.{arith}
 use Prim.Native.Nat.{_≤_}
 use mathlib.Core.List.{[], _∷_, _++_}
 use lib.ListN.{length, set, length-set, length-take, length-drop}
-use Rattle.der.specs.Octets.{big}
+use Rattle.octets.specs.Octets.{big}
 use Rattle.image.specs.Items.{entryBytes}
 use Rattle.writer.proofs.Stores.{set-two, put-next}
 use borrow.Author.Needs.{needs}

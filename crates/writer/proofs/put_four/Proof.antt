@@ -1,7 +1,7 @@
 -- The four octets are stored one after the other.
 use native.Mathlib.Omega.{arith}
 use lib.ListN.{length-set}
-use Rattle.der.specs.Octets.{big}
+use Rattle.octets.specs.Octets.{big}
 use Rattle.writer.proofs.Stores.{set-four, last-octet}
 use borrow.Author.Needs.{needs}
 use Rattle.writer.proofs.put_four.Statement.{statement}

@@ -1,7 +1,7 @@
 -- Each number follows the one before it, and the output beyond the last is as it was.
 use mathlib.Core.Path.{refl}
 use mathlib.Core.List.{[], _++_}
-use Rattle.der.specs.Octets.{big}
+use Rattle.octets.specs.Octets.{big}
 use Rattle.image.specs.Items.{trailerBytes}
 use Rattle.writer.proofs.Stores.{put-next}
 use borrow.Author.Needs.{needs}

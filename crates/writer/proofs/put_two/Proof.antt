@@ -1,5 +1,5 @@
 -- The two octets are stored one after the other.
-use Rattle.der.specs.Octets.{big}
+use Rattle.octets.specs.Octets.{big}
 use Rattle.writer.proofs.Stores.{set-two, last-octet}
 use borrow.Author.Needs.{needs}
 use Rattle.writer.proofs.put_two.Statement.{statement}

@@ -12,7 +12,7 @@ returns c = on-missing _ (sym (c .before .before .element-tagged .ensures) ∙ c
 
 returns-2 : tie.Need-returns-2
 unfolding lists
-returns-2 c = on-found _ _ (sym (c .before .before .before .before .before .element-tagged .ensures) ∙ c .before .before .before .own .given .1) (c .same .ensures ∙ rw (c .before .contents .ensures))
+returns-2 c = on-found _ _ (sym (c .before .before .before .before .element-tagged .ensures) ∙ c .before .before .own .given .1) (c .holds .ensures)
 
 pub has-serial-spec : {M : Type 1} → statement M
 has-serial-spec =
@@ -22,6 +22,5 @@ has-serial-spec =
     (λ c. search needs)
     (λ c. search needs)
     returns
-    (λ c κs. search needs)
     (λ c κs. search needs)
     returns-2)

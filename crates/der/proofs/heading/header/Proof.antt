@@ -9,7 +9,7 @@ use lib.Dec.{ltb}
 use lib.ListN.{getD}
 use Rattle.der.specs.Forms.{paper}
 use Rattle.der.specs.Heading.{within, long, headingOf}
-use Rattle.der.proofs.Weights.{long-bad}
+use Rattle.der.proofs.LengthOctets.{long-bad}
 use Rattle.der.proofs.heading.header.Statement.{statement}
 use Rattle.der.proofs.heading.header.Tie as tie
 

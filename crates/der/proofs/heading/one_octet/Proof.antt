@@ -3,7 +3,7 @@ use borrow.Author.Needs.{needs}
 use borrow.Author.Tests.{le-leb, lt-leb}
 use native.Mathlib.Omega.{arith}
 use Rattle.der.specs.Heading.{long, smallest}
-use Rattle.der.proofs.Weights.{one-octet}
+use Rattle.der.proofs.LengthOctets.{one-octet}
 use Rattle.der.proofs.heading.one_octet.Statement.{statement}
 use Rattle.der.proofs.heading.one_octet.Tie as tie
 

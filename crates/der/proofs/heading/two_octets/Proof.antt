@@ -3,7 +3,7 @@ use borrow.Author.Needs.{needs}
 use borrow.Author.Tests.{le-leb, lt-leb}
 use native.Mathlib.Omega.{arith}
 use Rattle.der.specs.Heading.{long, smallest}
-use Rattle.der.proofs.Weights.{two-octets}
+use Rattle.der.proofs.LengthOctets.{two-octets}
 use Rattle.der.proofs.heading.two_octets.Statement.{statement}
 use Rattle.der.proofs.heading.two_octets.Tie as tie
 

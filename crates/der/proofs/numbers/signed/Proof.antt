@@ -13,8 +13,8 @@ use lib.Seq.{take-all}
 use mir.Syntax.{w64}
 use mir.Val.{toZ}
 use mir.ValLaws.{toZ-pos, toZ-ofZ}
-use Rattle.der.specs.Octets.{number, twos}
-use Rattle.der.proofs.Weights.{number-next, lower-half, upper-half}
+use Rattle.octets.specs.Octets.{number, twos}
+use Rattle.octets.proofs.Weights.{number-next, lower-half, upper-half}
 use Rattle.der.proofs.numbers.signed.Statement.{statement}
 use Rattle.der.proofs.numbers.signed.Tie as tie
 

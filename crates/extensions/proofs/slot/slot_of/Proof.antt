@@ -2,9 +2,9 @@
 use mathlib.Core.Path.{_≡_, sym, ap, _∙_}
 use native.Mathlib.Omega.{arith}
 use borrow.Author.Tests.{ne-eqb}
-use Rattle.elements.specs.Octets.{alike}
+use Rattle.octets.specs.Alike.{alike}
 use Rattle.extensions.specs.Extensions.{present, hasOid, oidOf}
-use Rattle.elements.proofs.Likeness.{three}
+use Rattle.octets.proofs.Likeness.{three}
 use Rattle.extensions.proofs.Slots.{slot-types, slot-none}
 use borrow.Author.Needs.{needs}
 use Rattle.extensions.proofs.slot.slot_of.Statement.{statement}

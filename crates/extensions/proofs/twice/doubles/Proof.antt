@@ -17,11 +17,17 @@ returns-2 c = rw (c .before .before .before .before .own .given .1) (sym (no-oid
 
 returns-3 : tie.Need-returns-3
 unfolding sameOids
-returns-3 c = rw (c .before .before .before .before .before .before .before .before .before .own .given .1) (sym (other-oid _ _ _ _ (rw (← c .before .before .contents2 .ensures, ← c .before .before .before .contents .ensures) (sym (c .before .same .ensures) ∙ not-true _ (c .if1 .taken))) (sym (c .before .before .before .before .before .before .before .element-tagged .ensures) ∙ c .before .before .before .before .before .its .given .1)))
+returns-3 c =
+    let back4 = c .before .before .before .before in
+    let back8 = back4 .before .before .before .before in
+    rw (back8 .own .given .1) (sym (other-oid _ _ _ _ (rw (← c .before .before .contents .ensures) (sym (c .before .holds .ensures) ∙ not-true _ (c .if1 .taken))) (sym (back4 .before .before .element-tagged .ensures) ∙ c .before .before .before .before .its .given .1)))
 
 returns-4 : tie.Need-returns-4
 unfolding sameOids
-returns-4 c = rw (c .before .before .before .before .before .before .before .before .before .before .before .own .given .1, ← c .before .any-extension .ensures, ← c .before .before .before .before .before .contents .ensures) (c .has-oid .ensures)
+returns-4 c =
+    let back4 = c .before .before .before .before in
+    let back8 = back4 .before .before .before .before in
+    rw (back8 .before .before .own .given .1, ← c .before .any-extension .ensures, ← c .before .before .before .before .contents .ensures) (c .has-oid .ensures)
 
 pub doubles-spec : {M : Type 1} → statement M
 doubles-spec =
@@ -34,7 +40,6 @@ doubles-spec =
     (λ c. search needs)
     (λ c. search needs)
     returns-2
-    (λ c κs. search needs)
     (λ c κs. search needs)
     (λ c κs. search needs)
     returns-3

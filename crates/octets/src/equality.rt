@@ -2,7 +2,7 @@
 ghost use mathlib.Core.Path.{_≡_};
 ghost use Prim.Native.Nat.{_+_, _≤_};
 ghost use lib.ListN.{length, take, drop};
-ghost use Rattle.elements.specs.Octets.{alike};
+ghost use Rattle.octets.specs.Alike.{alike};
 
 // Whether two strings of octets are equal. They are compared in blocks of 16, of which the last two may overlap.
 pub fn same(a: &[u8], b: &[u8]) -> bool

@@ -4,9 +4,9 @@ use mathlib.Core.Path.{_≡_, refl, sym, _∙_}
 use native.Mathlib.Omega.{arith}
 use borrow.Author.Tests.{not-true, not-false}
 use lib.ListN.{length, take}
-use Rattle.elements.proofs.Likeness.{unlike-length, unlike-part, taken-more, alike-last}
-use Rattle.elements.proofs.equality.same.Statement.{statement}
-use Rattle.elements.proofs.equality.same.Tie as tie
+use Rattle.octets.proofs.Likeness.{unlike-length, unlike-part, taken-more, alike-last}
+use Rattle.octets.proofs.equality.same.Statement.{statement}
+use Rattle.octets.proofs.equality.same.Tie as tie
 
 abbrev Inv-loop : tie.InvT-loop
 Inv-loop a b n i₀ i = (i ≤ length a) × (take i a ≡ take i b)

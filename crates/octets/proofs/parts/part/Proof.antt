@@ -6,20 +6,20 @@ use lib.ListN.{length, drop, length-drop, drop-of-length-le}
 use lib.Seq.{take-all, take-nil}
 use borrow.Rule.Slice.PartAt.{part-to-end}
 use borrow.Author.Needs.{needs}
-use Rattle.image.proofs.part.Statement.{statement}
-use Rattle.image.proofs.part.Tie as tie
+use Rattle.octets.proofs.parts.part.Statement.{statement}
+use Rattle.octets.proofs.parts.part.Tie as tie
 
 returns : tie.Need-returns
 returns c =
     let a = c .before .before .args in
-    let beyond : length (a .image .now) ≤ a .from = omega arith in
-    rw (drop-of-length-le (a .image .now) beyond, take-nil (a .size))
+    let beyond : length (a .octets .now) ≤ a .from = omega arith in
+    rw (drop-of-length-le (a .octets .now) beyond, take-nil (a .size))
 
 returns-2 : tie.Need-returns-2
 returns-2 c =
     let a = c .before .before .before .args in
-    part-to-end (a .image .now) (a .from)
-    ∙ sym (take-all (a .size) (drop (a .from) (a .image .now)) (rw length-drop (omega arith)))
+    part-to-end (a .octets .now) (a .from)
+    ∙ sym (take-all (a .size) (drop (a .from) (a .octets .now)) (rw length-drop (omega arith)))
 
 returns-3 : tie.Need-returns-3
 returns-3 c =

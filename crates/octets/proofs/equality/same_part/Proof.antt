@@ -6,10 +6,10 @@ use mathlib.Core.Path.{_≡_, ap, sym, _∙_}
 use native.Mathlib.Omega.{arith}
 use lib.Dec.{eqb}
 use lib.ListN.{getD, take, drop}
-use Rattle.elements.specs.Octets.{alike}
-use Rattle.elements.proofs.Likeness.{alike-self, part-more}
-use Rattle.elements.proofs.equality.same_part.Statement.{statement}
-use Rattle.elements.proofs.equality.same_part.Tie as tie
+use Rattle.octets.specs.Alike.{alike}
+use Rattle.octets.proofs.Likeness.{alike-self, part-more}
+use Rattle.octets.proofs.equality.same_part.Statement.{statement}
+use Rattle.octets.proofs.equality.same_part.Tie as tie
 
 abbrev Inv-loop : tie.InvT-loop
 Inv-loop a b at count equal₀ j₀ equal j = (j ≤ count) × (equal ≡ alike (take j (drop at a)) (take j (drop at b)))

@@ -9,7 +9,7 @@ use borrow.Author.Tests.{eqb-true, eq-eqb}
 use lib.Dec.{eqb}
 use lib.ListN.{length, getD, take, drop, length-drop}
 use lib.Seq.{length-take-le, take-suc, take-add, take-take, take-all, getD-drop}
-use Rattle.elements.specs.Octets.{alike}
+use Rattle.octets.specs.Alike.{alike}
 
 -- a conjunction's parts
 both-left : (p q : Bool) → (p && q) ≡ true → p ≡ true
