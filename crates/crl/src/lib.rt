@@ -1,8 +1,8 @@
 // Whether an item is a CRL of the profile, its fields, whether it lists a serial, and its age.
 mod entries;
+mod fast;
 mod listing;
 mod passes;
-mod plain;
 mod rules;
 mod shapes;
 

@@ -8,7 +8,7 @@ use elements::holds;
 ghost use mathlib.Core.Path.{_≡_};
 ghost use Prim.Native.Nat.{_<_};
 ghost use Rattle.crl.specs.Listed.{lists, listedOf};
-ghost use Rattle.crl.specs.Looks.{Another, NoneBefore};
+ghost use Rattle.crl.specs.FastEntries.{Another, NoneBefore};
 
 // Whether an entry between two offsets of a CRL has a serial of those contents octets.
 pub fn listed(item: &[u8], from: usize, end: usize, serial: &[u8]) -> bool
@@ -27,7 +27,7 @@ pub fn listed(item: &[u8], from: usize, end: usize, serial: &[u8]) -> bool
     }
 }
 
-// The offset of the first entry from `from` on that a quick look does not show to be another, or of the end of the list.
+// The offset of the first entry from `from` on that the fast path does not show to be another, or of the end of the list.
 fn first_like(item: &[u8], from: usize, end: usize, serial: &[u8]) -> usize
     ensures { λ r. ⌜ NoneBefore (now (item .entry)) from end (now (serial .entry)) r ⌝ }
 {

@@ -39,7 +39,7 @@ pub fn element_at(item: &[u8], from: usize, end: usize) -> Found
     }
 }
 
-// The same, if it has the tag. Most headers are short, and told at a look.
+// The same, if it has the tag. Most headers are short: the fast path.
 pub fn element_tagged(item: &[u8], from: usize, end: usize, tag: u8) -> Found
     ensures { λ r. ⌜ r ≡ foundTagged (now (item .entry)) from end tag ⌝ }
 {

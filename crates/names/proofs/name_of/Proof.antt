@@ -7,7 +7,7 @@ use borrow.Author.Tests.{eq-eqb, ne-eqb}
 use Rattle.elements.specs.Elements.{membersOf, inside}
 use Rattle.names.specs.Names.{setsOf, nameOf}
 use Rattle.elements.proofs.Members.{found-within}
-use Rattle.names.proofs.Sets.{sets-done, sets-bad, sets-more, sets-plain, sets-country}
+use Rattle.names.proofs.Sets.{sets-done, sets-bad, sets-more, sets-other, sets-country}
 use Rattle.names.proofs.name_of.Statement.{statement}
 use Rattle.names.proofs.name_of.Tie as tie
 
@@ -26,10 +26,10 @@ unfolding nameOf inside
 loop-holds c = simp (eq-eqb _ _ (c .if1 .left))
 
 loop-less : tie.Need-loop-less Inv-loop μ-loop
-loop-less c = let p = c .before .plain-set .ensures (c .if2 .taken) in omega (arith, p .ends, found-within _ _ _ (p .found))
+loop-less c = let p = c .before .other-set .ensures (c .if2 .taken) in omega (arith, p .ends, found-within _ _ _ (p .found))
 
 loop-again : tie.Need-loop-again Inv-loop μ-loop
-loop-again c = sym (sets-plain _ _ _ _ (c .before .plain-set .ensures (c .if2 .taken))) ∙ c .before .before .loop .inv
+loop-again c = sym (sets-other _ _ _ _ (c .before .other-set .ensures (c .if2 .taken))) ∙ c .before .before .loop .inv
 
 add-t12 : tie.Need-add-t12 Inv-loop μ-loop
 add-t12 c = omega (arith, c .before .country-set .ensures (c .if3 .taken) .wide)

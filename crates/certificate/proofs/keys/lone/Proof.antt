@@ -1,4 +1,4 @@
--- The two forms that are told at a look pass the walk.
+-- The two forms of the fast path pass the walk.
 use mathlib.Core.Path.{sym, _∙_}
 use mathlib.Core.Bool.{false≢true}
 use native.Mathlib.Omega.{arith}

@@ -1,4 +1,4 @@
--- A look tells it, or the time is read.
+-- The fast path tells it, or the time is read.
 use mathlib.Core.Path.{sym}
 use Rattle.elements.specs.Elements.{contentsOf}
 use Rattle.times.specs.Times.{timeOf}
@@ -8,7 +8,7 @@ use Rattle.crl.proofs.entries.is_utc.Tie as tie
 
 returns : tie.Need-returns
 unfolding timeOf contentsOf
-returns c = sym (c .before .plain-utc .ensures (c .if1 .taken))
+returns c = sym (c .before .usual-utc .ensures (c .if1 .taken))
 
 pub is-utc-spec : {M : Type 1} → statement M
 is-utc-spec =

@@ -2,7 +2,7 @@
 use Prim.Native.Nat.{_+_}
 use native.Mathlib.Omega.{arith}
 use Rattle.crl.proofs.Digits.{never}
-use Rattle.crl.proofs.Looks.{left-told}
+use Rattle.crl.proofs.FastEntries.{left-told}
 use borrow.Author.Needs.{needs}
 use Rattle.crl.proofs.entries.opens.Statement.{statement}
 use Rattle.crl.proofs.entries.opens.Tie as tie

@@ -2,7 +2,7 @@
 use native.Mathlib.Omega.{arith}
 use Prim.Native.Nat.{_+_}
 use borrow.Author.Tests.{not-false}
-use Rattle.crl.proofs.Looks.{header-told, opened-usual}
+use Rattle.crl.proofs.FastEntries.{header-told, opened-usual}
 use borrow.Author.Needs.{needs}
 use Rattle.crl.proofs.entries.usual_time.Statement.{statement}
 use Rattle.crl.proofs.entries.usual_time.Tie as tie

@@ -2,8 +2,8 @@
 use Prim.Native.Nat.{_-_}
 use mathlib.Core.Path.{refl, _∙_}
 use native.Mathlib.Omega.{arith}
-use Rattle.crl.specs.Looks.{NoneBefore}
-use Rattle.crl.proofs.Looks.{none-lost, farther}
+use Rattle.crl.specs.FastEntries.{NoneBefore}
+use Rattle.crl.proofs.FastEntries.{none-lost, farther}
 use borrow.Author.Needs.{needs}
 use Rattle.crl.proofs.listing.first_like.Statement.{statement}
 use Rattle.crl.proofs.listing.first_like.Tie as tie

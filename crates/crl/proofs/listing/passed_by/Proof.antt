@@ -2,7 +2,7 @@
 use Prim.Native.Nat.{_+_}
 use native.Mathlib.Omega.{arith}
 use borrow.Author.Tests.{not-false}
-use Rattle.crl.proofs.Looks.{passed-length, passed-last}
+use Rattle.crl.proofs.FastEntries.{passed-length, passed-last}
 use borrow.Author.Needs.{needs}
 use Rattle.crl.proofs.listing.passed_by.Statement.{statement}
 use Rattle.crl.proofs.listing.passed_by.Tie as tie

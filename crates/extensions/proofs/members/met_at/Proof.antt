@@ -1,9 +1,9 @@
--- A member that is told at a look is the one that stands there; any other is read in the general way.
+-- A member that the fast path reads is the one that stands there; any other is read in the general way.
 use mathlib.Core.Path.{refl}
 use mathlib.Core.Bool.{true≢false}
 use borrow.Author.Needs.{needs}
 use Rattle.extensions.specs.Extensions.{present}
-use Rattle.extensions.specs.Looks.{endOf}
+use Rattle.extensions.specs.Fast.{endOf}
 use Rattle.extensions.proofs.members.met_at.Statement.{statement}
 use Rattle.extensions.proofs.members.met_at.Tie as tie
 
