@@ -1,5 +1,6 @@
 //! `./vrbolist` makes the archive anew after every change of what it is made from, and only then. Both scripts run in a
-//! folder of their own, with a stand-in for `rt` that counts how often it is asked, and one for cargo.
+//! folder of their own, with a stand-in for `rt` that counts how often it is asked, and one for cargo. The files there are named
+//! `.txt`: `rt` wants each file of Rattle under the repository to be of a crate.
 
 mod common;
 
@@ -11,7 +12,7 @@ const ARCHIVE: &str = "target/staticlib/libvrbolist.a";
 const RT: &str = "#!/bin/sh
 echo \"$*\" >>asked
 [ ! -e broken ] || { echo 'fn walk: NOT PROVED' && exit 1; }
-mkdir -p target/staticlib && cat crates/der/src/lib.rt >target/staticlib/libvrbolist.a
+mkdir -p target/staticlib && cat crates/der/src/lib.txt >target/staticlib/libvrbolist.a
 ";
 const CARGO: &str = "#!/bin/sh
 [ \"$1\" != --runner ] || exit 0
@@ -34,9 +35,9 @@ fn repository(name: &str) -> Bench {
     }
     for (file, text) in [
         ("crates.txt", "der:\n"),
-        ("crates/der/src/lib.rt", "fn walk() {}\n"),
-        ("crates/der/specs/Lib.antt", "pub mod Walk\n"),
-        ("crates/der/proofs/walk/Proof.antt", "-- It ends.\n"),
+        ("crates/der/src/lib.txt", "fn walk() {}\n"),
+        ("crates/der/specs/Lib.txt", "pub mod Walk\n"),
+        ("crates/der/proofs/walk/Proof.txt", "-- It ends.\n"),
     ] {
         bench.write(file, text.as_bytes());
     }
@@ -69,15 +70,15 @@ fn made_once_and_after_each_change() {
     assert_eq!((asked(&bench), asked(&bench)), (1, 0));
     for file in [
         "crates.txt",
-        "crates/der/src/lib.rt",
-        "crates/der/specs/Lib.antt",
-        "crates/der/proofs/walk/Proof.antt",
-        "crates/der/src/new.rt",
+        "crates/der/src/lib.txt",
+        "crates/der/specs/Lib.txt",
+        "crates/der/proofs/walk/Proof.txt",
+        "crates/der/src/new.txt",
     ] {
         bench.write(file, b"changed\n");
         assert_eq!((asked(&bench), asked(&bench)), (1, 0), "{file}");
     }
-    std::fs::remove_file(bench.folder.join("crates/der/src/new.rt")).unwrap();
+    std::fs::remove_file(bench.folder.join("crates/der/src/new.txt")).unwrap();
     assert_eq!((asked(&bench), asked(&bench)), (1, 0), "a file that went");
     bench.write("crates/der/must-fail/walk.edit", b"file: src/lib.rt\n");
     assert_eq!(asked(&bench), 0, "an edit that must fail is no part of the archive");
@@ -100,7 +101,7 @@ fn a_library_that_is_not_proved_does_not_run() {
     let bench = repository("archive-not-proved");
     assert_eq!(asked(&bench), 1);
     bench.write("broken", b"");
-    bench.write("crates/der/src/lib.rt", b"wrong\n");
+    bench.write("crates/der/src/lib.txt", b"wrong\n");
     for _ in 0..2 {
         let done = run(&bench);
         assert_eq!(done.status.code(), Some(1));
