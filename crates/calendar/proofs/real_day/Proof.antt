@@ -2,8 +2,8 @@
 use borrow.Author.Needs.{needs}
 use borrow.Author.Tests.{le-leb, lt-leb}
 use Rattle.calendar.specs.Days.{realDay}
-use Rattle.calendar.proofs.day_within.Statement.{statement}
-use Rattle.calendar.proofs.day_within.Tie as tie
+use Rattle.calendar.proofs.real_day.Statement.{statement}
+use Rattle.calendar.proofs.real_day.Tie as tie
 
 returns : tie.Need-returns
 unfolding realDay
@@ -18,9 +18,6 @@ unfolding realDay
 returns-3 c =
     simp (le-leb _ _ (c .before .before .if1 .left), le-leb _ _ (c .before .if2 .left), lt-leb _ _ (c .if3 .taken))
 
-month-length-requires : tie.Need-month-length-requires
-month-length-requires c κs = search needs
-
 returns-4 : tie.Need-returns-4
 unfolding realDay
 returns-4 c =
@@ -31,5 +28,5 @@ returns-4 c =
       c .month-length .ensures,
     )
 
-pub day-within-spec : {M : Type 1} → statement M
-day-within-spec = tie.close (tie.spec returns returns-2 returns-3 month-length-requires returns-4)
+pub real-day-spec : {M : Type 1} → statement M
+real-day-spec = tie.close (tie.spec returns returns-2 returns-3 (λ c κs. search needs) returns-4)
