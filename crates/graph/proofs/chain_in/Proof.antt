@@ -10,26 +10,11 @@ use borrow.Author.Needs.{needs}
 use Rattle.graph.proofs.chain_in.Statement.{statement}
 use Rattle.graph.proofs.chain_in.Tie as tie
 
-no-chain-requires : tie.Need-no-chain-requires
-no-chain-requires c κs = search needs
-
 returns : tie.Need-returns
 returns c = λ steps s. let a = c .before .before .before .args in none (no-such-place (a .places) (a .roles .now) steps (a .target) (c .before .before .before .pre .0) (c .before .if1 .taken)) (c .no-chain .ensures .0) (c .no-chain .ensures .1)
 
-octet-requires : tie.Need-octet-requires
-octet-requires c κs = search needs
-
-no-chain-requires-2 : tie.Need-no-chain-requires-2
-no-chain-requires-2 c κs = search needs
-
 returns-2 : tie.Need-returns-2
 returns-2 c = λ steps s. let a = c .before .before .before .before .before .args in none (no-signer (a .places) (a .roles .now) steps (a .target) (λ e. c .before .if2 .taken (c .before .before .octet .ensures ∙ e))) (c .no-chain2 .ensures .0) (c .no-chain2 .ensures .1)
-
-array-read-if3 : tie.Need-array-read-if3
-array-read-if3 c = search needs
-
-no-chain-requires-3 : tie.Need-no-chain-requires-3
-no-chain-requires-3 c κs = search needs
 
 returns-3 : tie.Need-returns-3
 returns-3 c = λ steps s. let a = c .before .before .before .before .before .before .args in none (no-chain-found (all-places (a .places) (a .roles .now) steps (c .before .before .before .before .before .before .pre .0)) (c .before .before .before .before .before .before .pre .0) (roles-apart (a .places) (a .roles .now) steps) s (c .before .if3 .taken)) (c .no-chain3 .ensures .0) (c .no-chain3 .ensures .1)
@@ -47,13 +32,13 @@ pub chain-in-spec : {M : Type 1} → statement M
 chain-in-spec =
     tie.close
     (tie.spec
-    no-chain-requires
+    (λ c κs. search needs)
     returns
-    octet-requires
-    no-chain-requires-2
+    (λ c κs. search needs)
+    (λ c κs. search needs)
     returns-2
-    array-read-if3
-    no-chain-requires-3
+    (λ c. search needs)
+    (λ c κs. search needs)
     returns-3
     path-length-requires
     path-places-requires

@@ -22,12 +22,6 @@ abbrev μ-loop : tie.MeasureT-loop
 element-copy-out-wide : tie.Need-element-copy-out-wide Inv-loop μ-loop
 element-copy-out-wide c = row-room (c .before .before .pre .0) (c .before .before .pre .1) .0
 
-wide-requires : tie.Need-wide-requires Inv-loop μ-loop
-wide-requires c κs = search needs
-
-octet-requires : tie.Need-octet-requires Inv-loop μ-loop
-octet-requires c κs = search needs
-
 returns : tie.Need-returns Inv-loop μ-loop
 returns c = skip-row (c .before .before .before .before .before .before .before .pre .0) (c .before .before .before .before .before .before .before .pre .1) (λ v h. rw (← c .before .before .before .wide .ensures) (from-signer (c .before .before .before .before .before .before .before .args .places) (graphOf (c .before .before .before .before .before .before .before .args .places) (c .before .before .before .before .before .before .before .args .roles .now) (c .before .before .before .before .before .before .before .args .steps .now)) v (c .before .before .if1 .taken) (eq-eqb _ _ (sym (c .before .octet .ensures) ∙ c .if2 .taken))))
 
@@ -89,8 +83,8 @@ row-spec =
     Inv-loop
     μ-loop
     element-copy-out-wide
-    wide-requires
-    octet-requires
+    (λ c κs. search needs)
+    (λ c κs. search needs)
     returns
     loop-holds
     add-column

@@ -17,9 +17,6 @@ abbrev μ-loop : tie.MeasureT-loop
 cast-queue : tie.Need-cast-queue Inv-loop μ-loop
 cast-queue c = omega (arith, c .before .before .pre)
 
-array-write-queue : tie.Need-array-write-queue Inv-loop μ-loop
-array-write-queue c = search needs
-
 loop-holds : tie.Need-loop-holds Inv-loop μ-loop
 loop-holds c = begin (c .before .before .args .places) _ (c .before .before .pre)
 
@@ -45,7 +42,7 @@ search-spec =
     Inv-loop
     μ-loop
     cast-queue
-    array-write-queue
+    (λ c. search needs)
     loop-holds
     row-requires
     returns

@@ -30,9 +30,6 @@ mul-octet c = let m : c .before .before .loop .u * c .before .before .before .be
 add-octet : tie.Need-add-octet Inv-loop μ-loop
 add-octet c = let m : c .before .before .loop .u * c .before .before .before .before .before .args .places ≤ 96 * 96 = mul-le-mul {n₂ = 96} {m₂ = 96} (omega (arith, c .before .before .before .before .before .pre, c .before .loop-test .taken)) (omega (arith, c .before .before .before .before .before .pre)) in omega (arith, m, c .before .before .before .before .before .pre, c .before .loop-test .taken)
 
-octet-requires : tie.Need-octet-requires Inv-loop μ-loop
-octet-requires c κs = search needs
-
 row-at-requires : tie.Need-row-at-requires Inv-loop μ-loop
 row-at-requires c κs = omega (arith, c .before .before .before .before .before .before .before .pre, c .before .before .before .loop-test .taken)
 
@@ -41,9 +38,6 @@ row-at-requires-2 c κs = omega (arith, c .before .before .before .before .befor
 
 array-read-matched : tie.Need-array-read-matched Inv-loop μ-loop
 array-read-matched c = omega (arith, c .before .before .before .before .before .before .before .before .before .pre, c .before .before .before .before .before .loop-test .taken)
-
-matched-requires : tie.Need-matched-requires Inv-loop μ-loop
-matched-requires c κs = search needs
 
 pair-requires : tie.Need-pair-requires Inv-loop μ-loop
 pair-requires c κs = (omega (arith, c .before .before .before .before .before .before .before .before .before .before .before .pre, c .before .before .before .before .before .before .before .loop-test .taken), omega (arith, c .before .before .before .before .before .before .before .before .before .before .before .pre))
@@ -73,11 +67,11 @@ direct-chain-spec =
     array-read-if1
     mul-octet
     add-octet
-    octet-requires
+    (λ c κs. search needs)
     row-at-requires
     row-at-requires-2
     array-read-matched
-    matched-requires
+    (λ c κs. search needs)
     pair-requires
     returns
     add-u

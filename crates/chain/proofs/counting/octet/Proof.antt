@@ -7,15 +7,12 @@ use Rattle.chain.proofs.counting.octet.Tie as tie
 use Rattle.chain.proofs.counting.octet.Reads as reads
 use Rattle.chain.proofs.counting.octet.Lts as lts
 
--- src/counting.rt:13:26
 shared-slice-read-result : tie.Need-shared-slice-read-result
 shared-slice-read-result c = search needs
 
--- src/counting.rt:10:1
 returns : tie.Need-returns
 returns c = search needs
 
--- src/counting.rt:10:1
 returns-2 : tie.Need-returns-2
 returns-2 c = sym (List·getD-eq-default (c .before .args .table .now) 0 (c .if1 .left))
 

@@ -6,25 +6,13 @@ use borrow.Author.Needs.{needs}
 use Rattle.chain.proofs.opening.open_item.Statement.{statement}
 use Rattle.chain.proofs.opening.open_item.Tie as tie
 
-part-requires : tie.Need-part-requires
-part-requires c κs = search needs
-
-list-row-requires : tie.Need-list-row-requires
-list-row-requires c κs = search needs
-
 returns : tie.Need-returns
 unfolding rowOf bytesAt
 returns c = rw (eq-eqb _ _ (c .before .if1 .taken), ← c .before .before .before .part .ensures) (c .list-row .ensures)
 
-blank-row-requires : tie.Need-blank-row-requires
-blank-row-requires c κs = search needs
-
 returns-2 : tie.Need-returns-2
 unfolding rowOf bytesAt
 returns-2 c = rw (ne-eqb _ _ (c .before .before .before .before .before .if1 .left), eq-eqb _ _ (c .before .before .before .if2 .taken), ne-eqb _ _ (c .before .if3 .taken)) (c .blank-row .ensures)
-
-certificate-row-requires : tie.Need-certificate-row-requires
-certificate-row-requires c κs = search needs
 
 returns-3 : tie.Need-returns-3
 unfolding rowOf bytesAt
@@ -34,10 +22,10 @@ pub open-item-spec : {M : Type 1} → statement M
 open-item-spec =
     tie.close
     (tie.spec
-    part-requires
-    list-row-requires
+    (λ c κs. search needs)
+    (λ c κs. search needs)
     returns
-    blank-row-requires
+    (λ c κs. search needs)
     returns-2
-    certificate-row-requires
+    (λ c κs. search needs)
     returns-3)

@@ -25,18 +25,6 @@ array-read-fresh c = omega (arith, c .before .before .before .pre .0, c .loop-te
 array-read-fresh-2 : tie.Need-array-read-fresh-2 Inv-loop μ-loop
 array-read-fresh-2 c = omega (arith, c .before .before .before .pre .0, c .loop-test .taken)
 
-fresh-requires : tie.Need-fresh-requires Inv-loop μ-loop
-fresh-requires c κs = search needs
-
-entry-in-requires : tie.Need-entry-in-requires Inv-loop μ-loop
-entry-in-requires c κs = search needs
-
-open-item-requires : tie.Need-open-item-requires Inv-loop μ-loop
-open-item-requires c κs = search needs
-
-cells-of-requires : tie.Need-cells-of-requires Inv-loop μ-loop
-cells-of-requires c κs = search needs
-
 mul-cells : tie.Need-mul-cells Inv-loop μ-loop
 mul-cells c = omega (arith, c .before .before .before .before .before .before .before .before .pre .0, c .before .before .before .before .before .loop-test .taken)
 
@@ -64,10 +52,10 @@ open-items-spec =
     loop-holds
     array-read-fresh
     array-read-fresh-2
-    fresh-requires
-    entry-in-requires
-    open-item-requires
-    cells-of-requires
+    (λ c κs. search needs)
+    (λ c κs. search needs)
+    (λ c κs. search needs)
+    (λ c κs. search needs)
     mul-cells
     element-set-from-cells
     add-place
