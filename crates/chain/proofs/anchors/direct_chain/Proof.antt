@@ -55,7 +55,7 @@ loop-again : tie.Need-loop-again Inv-loop μ-loop
 loop-again c = (omega (arith, c .before .loop-test .taken), none-more _ _ _ _ _ _ _ (c .before .before .loop .inv .1) (λ one. ⊎-elim (λ w. flag-false _ (step-asked _ _ _ _ _ _ _ (w .3 .ensures) (w .4 .ensures) refl refl (leads-anchor one) (w .1 .ensures) (w .2 .taken) (w .5 .ensures)) (w .6 .left)) (λ k. ⊎-elim (λ w. flag-false _ (step-unasked _ _ _ _ _ _ _ refl (leads-anchor one) (w .1 .ensures) (w .2 .left)) (λ (z : 0 ≡ 1). omega arith)) (λ w. absurd (w .left one)) k) (c .if1 .came)))
 
 returns-2 : tie.Need-returns-2 Inv-loop μ-loop
-returns-2 c = λ z. absurd (z refl)
+returns-2 c = λ z. absurd (z (c .no-chain .ensures .empty))
 
 pub direct-chain-spec : {M : Type 1} → statement M
 direct-chain-spec =
@@ -77,4 +77,5 @@ direct-chain-spec =
     add-u
     loop-less
     loop-again
+    (λ c κs. search needs)
     returns-2)
