@@ -31,6 +31,8 @@ use Rattle.chain.specs.Steps.{hasKind, fits, goodStep, chains}
 use Rattle.chain.specs.Table.{tableGood}
 use Rattle.chain.specs.Answer as answers
 use Rattle.chain.specs.Answer.{onImage, askedOf, goodChains, With, Answered}
+use Rattle.chain.specs.Demand.{Demanded}
+use Rattle.chain.proofs.Demands.{demands}
 
 both : (p q : Bool) → (p && q) ≡ true → (p ≡ true) × (q ≡ true)
 both true q e = (refl, e)
@@ -193,6 +195,15 @@ module _ (s table : List ℕ) (moment target : ℕ) where
         go (answers.refused why f w) = absurd (let t = w .told in let z : _≡_ {A = ℕ} 0 1 = cc in omega arith)
         go (answers.none f h w) = absurd (let t = w .told in let z : _≡_ {A = ℕ} 0 1 = cc in omega arith)
         go (answers.found c f h w) = (c, h, w)
+
+    -- Demand 3: what is shown is a chain that has all that is demanded of it.
+    pub demand-three : r .outcome ≡ Shown → (c : List ℕ) × Demanded s table moment target c × With c r
+    demand-three e = go a
+      where
+        go : Answered s table moment target r → (c : List ℕ) × Demanded s table moment target c × With c r
+        go (answers.refused why f w) = absurd (let t = w .told in let z : _≡_ {A = ℕ} 0 1 = cc in omega arith)
+        go (answers.none f h w) = absurd (let t = w .told in let z : _≡_ {A = ℕ} 0 1 = cc in omega arith)
+        go (answers.found c f h w) = (c, demands s table moment target h f, w)
 
     -- The answer is 7 only where the question is good and no good chain exists.
     pub none-sound :

@@ -10,7 +10,7 @@ use Rattle.graph.specs.declared.Found.{Found}
 use Rattle.graph.specs.Chains.{Graph, graphOf, Chain, chain, NotLater, done, less, same, Best}
 use Rattle.graph.specs.Answer.{NoChain, Answered, found, none}
 use Rattle.graph.specs.Search.{followed}
-use Rattle.graph.proofs.Steps.{roles-apart}
+use Rattle.graph.proofs.Steps.{Apart, roles-apart}
 use Rattle.graph.proofs.BestFound.{chain-reached, best}
 use Rattle.graph.proofs.Targets.{at-most-96, chain-target}
 use Rattle.graph.proofs.Tables.{Table, table, some-table}
@@ -52,18 +52,14 @@ module _ {g : Graph} {t : ℕ} where
   found-or-none (none f l) = inr (l .empty, f)
 
 -- the best chain fits the slots
-pub best-short : (places : ℕ) (roles steps : List ℕ) {t : ℕ} {c : List ℕ} → Best (graphOf places roles steps) t c → length c ≤ 96
-best-short places roles steps {t} {c} b = go (some-table small)
+pub best-fits : {g : Graph} {t : ℕ} {c : List ℕ} → Apart g → g .places ≤ 96 → Best g t c → length c ≤ 96
+best-fits {g} {t} {c} apart small b = go (some-table small)
   where
-    g : Graph
-    g = graphOf places roles steps
-
-    small : g .places ≤ 96
-    small = at-most-96 places roles steps
-
     go : Table (g .places) (followed (g .places) g) → length c ≤ 96
     go (table s) =
         let end = chain-target (b .good) in
-        let reached = chain-reached refl small (roles-apart places roles steps) s (b .good) .0 in
-        let same = one-best b (best refl small (roles-apart places roles steps) s (end .0) (end .1) reached) in
-        rw same (s .short t (end .0) reached)
+        let reached = chain-reached refl small apart s (b .good) .0 in
+        rw (one-best b (best refl small apart s (end .0) (end .1) reached)) (s .short t (end .0) reached)
+
+pub best-short : (places : ℕ) (roles steps : List ℕ) {t : ℕ} {c : List ℕ} → Best (graphOf places roles steps) t c → length c ≤ 96
+best-short places roles steps = best-fits (roles-apart places roles steps) (at-most-96 places roles steps)
