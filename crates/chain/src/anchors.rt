@@ -1,4 +1,4 @@
-// The steps from an anchor, looked at before a search.
+// The steps from an anchor: a fast path before a search.
 use crate::counting::octet;
 use crate::matching::matched;
 use crate::opened::row_at;

@@ -1,12 +1,12 @@
 -- By the definition.
 use mathlib.Core.Path.{refl}
 use borrow.Author.Needs.{needs}
-use Rattle.chain.specs.Rows.{rowAt, rowFrom}
+use Rattle.chain.specs.Rows.{rowAt}
 use Rattle.chain.proofs.opened.row_at.Statement.{statement}
 use Rattle.chain.proofs.opened.row_at.Tie as tie
 
 returns : tie.Need-returns
-unfolding rowAt rowFrom
+unfolding rowAt
 returns c = refl
 
 pub row-at-spec : {M : Type 1} → statement M

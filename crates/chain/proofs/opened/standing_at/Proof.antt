@@ -1,7 +1,7 @@
 -- By the definition.
 use mathlib.Core.Path.{refl}
 use borrow.Author.Needs.{needs}
-use Rattle.chain.specs.Rows.{rowAt, rowFrom}
+use Rattle.chain.specs.Rows.{rowAt}
 use Rattle.chain.proofs.opened.standing_at.Statement.{statement}
 use Rattle.chain.proofs.opened.standing_at.Tie as tie
 
@@ -15,7 +15,7 @@ index-2-result : tie.Need-index-2-result
 index-2-result c = search needs
 
 returns : tie.Need-returns
-unfolding rowAt rowFrom
+unfolding rowAt
 returns c = refl
 
 pub standing-at-spec : {M : Type 1} → statement M
