@@ -63,5 +63,5 @@ module _ (s table : List ℕ) (moment target : ℕ) where
       → search.Answered (goodChains s table moment) target f → Shows f r → Answered s table moment target r
   answering e (search.found c b l p) (nothing z w) = absurd (chain-length (b .good) (sym l ∙ z))
   answering e (search.found c b l p) (something nz o m q) = found c e b (record { told = o; many = m ∙ l; slots = q ∙ p })
-  answering e (search.none f l p) (nothing z w) = none e f w
-  answering e (search.none f l p) (something nz o m q) = absurd (nz l)
+  answering e (search.none f m) (nothing z w) = none e f w
+  answering e (search.none f m) (something nz o l q) = absurd (nz (m .empty))

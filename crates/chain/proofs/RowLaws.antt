@@ -24,7 +24,7 @@ use Rattle.chain.specs.Table.{verdictIn}
 
 -- the rows of a table of nothing but 0
 pub blank-rows : (n p : ℕ) → rowAt (replicate n (replicate 17 0)) p ≡ blank
-unfolding rowAt rowFrom blank
+unfolding rowAt blank
 blank-rows zero p = refl
 blank-rows (suc n) zero = refl
 blank-rows (suc n) (suc p) = blank-rows n p

@@ -38,17 +38,11 @@ mul-octet c = let m : c .before .before .before .before .before .loop .u * c .be
 add-octet : tie.Need-add-octet Inv-loop2 μ-loop2 Inv-loop μ-loop
 add-octet c = let m : c .before .before .before .before .before .loop .u * c .before .before .before .before .before .before .before .before .args .places ≤ 96 * 96 = mul-le-mul {n₂ = 96} {m₂ = 96} (omega (arith, c .before .before .before .before .before .before .before .before .pre, c .before .before .before .before .loop-test .taken, c .before .loop2-test .taken)) (omega (arith, c .before .before .before .before .before .before .before .before .pre)) in omega (arith, m, c .before .before .before .before .before .before .before .before .pre, c .before .before .before .before .loop-test .taken, c .before .loop2-test .taken)
 
-octet-requires : tie.Need-octet-requires Inv-loop2 μ-loop2 Inv-loop μ-loop
-octet-requires c κs = search needs
-
 row-at-requires : tie.Need-row-at-requires Inv-loop2 μ-loop2 Inv-loop μ-loop
 row-at-requires c κs = omega (arith, c .before .before .before .before .before .before .before .before .before .before .pre, c .before .before .before .before .before .before .loop-test .taken, c .before .before .before .loop2-test .taken)
 
 row-at-requires-2 : tie.Need-row-at-requires-2 Inv-loop2 μ-loop2 Inv-loop μ-loop
 row-at-requires-2 c κs = omega (arith, c .before .before .before .before .before .before .before .before .before .before .before .pre, c .before .before .before .before .before .before .before .loop-test .taken, c .before .before .before .before .loop2-test .taken)
-
-matched-requires : tie.Need-matched-requires Inv-loop2 μ-loop2 Inv-loop μ-loop
-matched-requires c κs = search needs
 
 returns : tie.Need-returns Inv-loop2 μ-loop2 Inv-loop μ-loop
 returns c = λ e. (c .before .before .before .before .before .before .before .before .before .before .before .loop .u, c .before .before .before .before .before .before .before .before .loop2 .v, flag-true _ (step-asked _ _ _ _ _ _ _ (c .before .before .before .row-at .ensures) (c .before .before .row-at2 .ensures) (sym (c .before .before .before .before .before .before .if2 .taken)) refl (leads-anchor (c .before .before .before .before .before .before .before .before .before .if1 .taken)) (c .before .before .before .before .before .octet .ensures) (c .before .before .before .before .if3 .taken) (c .before .matched .ensures)) (c .if4 .taken))
@@ -88,10 +82,10 @@ begins-spec =
     array-read-if2
     mul-octet
     add-octet
-    octet-requires
+    (λ c κs. search needs)
     row-at-requires
     row-at-requires-2
-    matched-requires
+    (λ c κs. search needs)
     returns
     add-v
     loop2-less

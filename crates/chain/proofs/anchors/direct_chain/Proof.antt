@@ -30,9 +30,6 @@ mul-octet c = let m : c .before .before .loop .u * c .before .before .before .be
 add-octet : tie.Need-add-octet Inv-loop μ-loop
 add-octet c = let m : c .before .before .loop .u * c .before .before .before .before .before .args .places ≤ 96 * 96 = mul-le-mul {n₂ = 96} {m₂ = 96} (omega (arith, c .before .before .before .before .before .pre, c .before .loop-test .taken)) (omega (arith, c .before .before .before .before .before .pre)) in omega (arith, m, c .before .before .before .before .before .pre, c .before .loop-test .taken)
 
-octet-requires : tie.Need-octet-requires Inv-loop μ-loop
-octet-requires c κs = search needs
-
 row-at-requires : tie.Need-row-at-requires Inv-loop μ-loop
 row-at-requires c κs = omega (arith, c .before .before .before .before .before .before .before .pre, c .before .before .before .loop-test .taken)
 
@@ -41,9 +38,6 @@ row-at-requires-2 c κs = omega (arith, c .before .before .before .before .befor
 
 array-read-matched : tie.Need-array-read-matched Inv-loop μ-loop
 array-read-matched c = omega (arith, c .before .before .before .before .before .before .before .before .before .pre, c .before .before .before .before .before .loop-test .taken)
-
-matched-requires : tie.Need-matched-requires Inv-loop μ-loop
-matched-requires c κs = search needs
 
 pair-requires : tie.Need-pair-requires Inv-loop μ-loop
 pair-requires c κs = (omega (arith, c .before .before .before .before .before .before .before .before .before .before .before .pre, c .before .before .before .before .before .before .before .loop-test .taken), omega (arith, c .before .before .before .before .before .before .before .before .before .before .before .pre))
@@ -61,7 +55,7 @@ loop-again : tie.Need-loop-again Inv-loop μ-loop
 loop-again c = (omega (arith, c .before .loop-test .taken), none-more _ _ _ _ _ _ _ (c .before .before .loop .inv .1) (λ one. ⊎-elim (λ w. flag-false _ (step-asked _ _ _ _ _ _ _ (w .3 .ensures) (w .4 .ensures) refl refl (leads-anchor one) (w .1 .ensures) (w .2 .taken) (w .5 .ensures)) (w .6 .left)) (λ k. ⊎-elim (λ w. flag-false _ (step-unasked _ _ _ _ _ _ _ refl (leads-anchor one) (w .1 .ensures) (w .2 .left)) (λ (z : 0 ≡ 1). omega arith)) (λ w. absurd (w .left one)) k) (c .if1 .came)))
 
 returns-2 : tie.Need-returns-2 Inv-loop μ-loop
-returns-2 c = λ z. absurd (z refl)
+returns-2 c = λ z. absurd (z (c .no-chain .ensures .empty))
 
 pub direct-chain-spec : {M : Type 1} → statement M
 direct-chain-spec =
@@ -73,14 +67,15 @@ direct-chain-spec =
     array-read-if1
     mul-octet
     add-octet
-    octet-requires
+    (λ c κs. search needs)
     row-at-requires
     row-at-requires-2
     array-read-matched
-    matched-requires
+    (λ c κs. search needs)
     pair-requires
     returns
     add-u
     loop-less
     loop-again
+    (λ c κs. search needs)
     returns-2)

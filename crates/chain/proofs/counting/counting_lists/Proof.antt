@@ -46,14 +46,8 @@ mul-octet c = let m : c .before .before .before .loop2 .anchor * c .before .befo
 add-octet : tie.Need-add-octet Inv-loop2 μ-loop2 Inv-loop μ-loop
 add-octet c = let m : c .before .before .before .loop2 .anchor * c .before .before .before .before .before .before .before .before .before .before .args .places ≤ 96 * 96 = mul-le-mul {n₂ = 96} {m₂ = 96} (omega (arith, c .before .before .before .before .before .before .before .before .before .before .pre, c .before .before .before .before .before .before .before .loop-test .taken, c .before .before .loop2-test .taken)) (omega (arith, c .before .before .before .before .before .before .before .before .before .before .pre)) in omega (arith, m, c .before .before .before .before .before .before .before .before .before .before .pre, c .before .before .before .before .before .before .before .loop-test .taken, c .before .before .loop2-test .taken)
 
-octet-requires : tie.Need-octet-requires Inv-loop2 μ-loop2 Inv-loop μ-loop
-octet-requires c κs = search needs
-
 row-at-requires-2 : tie.Need-row-at-requires-2 Inv-loop2 μ-loop2 Inv-loop μ-loop
 row-at-requires-2 c κs = omega (arith, c .before .before .before .before .before .before .before .before .before .before .before .before .pre, c .before .before .before .before .loop2-test .taken)
-
-vouched-by-requires : tie.Need-vouched-by-requires Inv-loop2 μ-loop2 Inv-loop μ-loop
-vouched-by-requires c κs = search needs
 
 add-anchor : tie.Need-add-anchor Inv-loop2 μ-loop2 Inv-loop μ-loop
 add-anchor c = omega (arith, c .before .before .before .before .before .before .before .before .before .before .pre, c .before .before .loop2-test .taken)
@@ -94,9 +88,9 @@ counting-lists-spec =
     standing-at-requires-2
     mul-octet
     add-octet
-    octet-requires
+    (λ c κs. search needs)
     row-at-requires-2
-    vouched-by-requires
+    (λ c κs. search needs)
     add-anchor
     loop2-less
     loop2-again

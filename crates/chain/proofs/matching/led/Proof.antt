@@ -6,12 +6,10 @@ use Rattle.chain.proofs.matching.led.Tie as tie
 use Rattle.chain.proofs.matching.led.Reads as reads
 use Rattle.chain.proofs.matching.led.Lts as lts
 
--- src/matching.rt:67:9
 returns : tie.Need-returns
 unfolding ledOf
 returns c = simp (eq-eqb _ _ (c .if1 .taken))
 
--- src/matching.rt:63:1
 returns-2 : tie.Need-returns-2
 unfolding ledOf
 returns-2 c = simp (ne-eqb _ _ (c .if1 .left))

@@ -31,17 +31,11 @@ loop-holds c = (omega arith, length-replicate {A = ℕ} 9216 0, record { before 
 array-read-leads : tie.Need-array-read-leads Inv-loop2 μ-loop2 Inv-loop μ-loop
 array-read-leads c = omega (arith, c .before .before .before .before .pre, c .loop-test .taken)
 
-leads-requires : tie.Need-leads-requires Inv-loop2 μ-loop2 Inv-loop μ-loop
-leads-requires c κs = search needs
-
 row-at-requires : tie.Need-row-at-requires Inv-loop2 μ-loop2 Inv-loop μ-loop
 row-at-requires c κs = omega (arith, c .before .before .before .before .before .before .pre, c .before .before .loop-test .taken)
 
 mul-part : tie.Need-mul-part Inv-loop2 μ-loop2 Inv-loop μ-loop
 mul-part c = let m : c .before .before .before .before .loop .u * c .before .before .before .before .before .before .before .args .places ≤ 96 * 96 = mul-le-mul {n₂ = 96} {m₂ = 96} (omega (arith, c .before .before .before .before .before .before .before .pre, c .before .before .before .loop-test .taken)) (omega (arith, c .before .before .before .before .before .before .before .pre)) in omega (arith, m)
-
-part-requires : tie.Need-part-requires Inv-loop2 μ-loop2 Inv-loop μ-loop
-part-requires c κs = search needs
 
 loop2-holds : tie.Need-loop2-holds Inv-loop2 μ-loop2 Inv-loop μ-loop
 loop2-holds c = (omega arith, c .before .before .before .before .before .loop .inv .1, c .before .before .before .before .before .loop .inv .2)
@@ -54,9 +48,6 @@ row-at-requires-2 c κs = let k = line-short (c .before .before .before .before 
 
 array-read-matched : tie.Need-array-read-matched Inv-loop2 μ-loop2 Inv-loop μ-loop
 array-read-matched c = let k = line-short (c .before .before .before .before .before .before .before .before .before .before .before .before .before .args .table .now) (c .before .before .before .before .before .before .before .before .before .before .before .before .before .args .places) (c .before .before .before .before .before .before .before .before .before .before .loop .u) (c .before .before .before .before .before .part .ensures) in omega (arith, k, c .before .before .before .before .before .before .before .before .before .before .before .before .before .pre, c .before .before .before .loop2-test .taken)
-
-matched-requires : tie.Need-matched-requires Inv-loop2 μ-loop2 Inv-loop μ-loop
-matched-requires c κs = search needs
 
 mul-steps : tie.Need-mul-steps Inv-loop2 μ-loop2 Inv-loop μ-loop
 mul-steps c = let k = line-short (c .before .before .before .before .before .before .before .before .before .before .before .before .before .before .args .table .now) (c .before .before .before .before .before .before .before .before .before .before .before .before .before .before .args .places) (c .before .before .before .before .before .before .before .before .before .before .before .loop .u) (c .before .before .before .before .before .before .part .ensures) in omega (arith, k, c .before .before .before .before .before .before .before .before .before .before .before .before .before .before .pre, c .before .before .before .before .before .before .before .before .before .before .loop-test .taken, c .before .before .before .before .loop2-test .taken)
@@ -98,15 +89,15 @@ matching-steps-spec =
     μ-loop
     loop-holds
     array-read-leads
-    leads-requires
+    (λ c κs. search needs)
     row-at-requires
     mul-part
-    part-requires
+    (λ c κs. search needs)
     loop2-holds
     shared-slice-read-if2
     row-at-requires-2
     array-read-matched
-    matched-requires
+    (λ c κs. search needs)
     mul-steps
     add-steps
     array-write-steps

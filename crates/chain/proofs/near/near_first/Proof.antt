@@ -19,12 +19,6 @@ abbrev μ-loop : tie.MeasureT-loop
 loop-holds : tie.Need-loop-holds Inv-loop μ-loop
 loop-holds c = (omega arith, refl, record { before = λ c h. absurd (omega arith); behind = λ c h. empty-slots 96 c })
 
-kind-in-requires : tie.Need-kind-in-requires Inv-loop μ-loop
-kind-in-requires c κs = search needs
-
-first-requires : tie.Need-first-requires Inv-loop μ-loop
-first-requires c κs = search needs
-
 array-write-near : tie.Need-array-write-near Inv-loop μ-loop
 array-write-near c = omega (arith, c .before .before .before .before .before .pre, c .before .before .loop-test .taken)
 
@@ -47,8 +41,8 @@ near-first-spec =
     Inv-loop
     μ-loop
     loop-holds
-    kind-in-requires
-    first-requires
+    (λ c κs. search needs)
+    (λ c κs. search needs)
     array-write-near
     add-place
     loop-less

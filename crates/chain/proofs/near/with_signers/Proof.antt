@@ -28,9 +28,6 @@ loop-holds c = (omega arith, omega arith, layer-start _ _ _ _)
 array-read-led : tie.Need-array-read-led Inv-loop2 μ-loop2 Inv-loop μ-loop
 array-read-led c = omega (arith, c .before .before .before .pre, c .loop-test .taken)
 
-led-requires : tie.Need-led-requires Inv-loop2 μ-loop2 Inv-loop μ-loop
-led-requires c κs = search needs
-
 loop2-holds : tie.Need-loop2-holds Inv-loop2 μ-loop2 Inv-loop μ-loop
 loop2-holds c = (omega arith, c .before .before .before .loop .inv .1, c .before .before .before .loop .inv .2)
 
@@ -42,9 +39,6 @@ mul-octet c = let m : c .before .before .loop2 .u * c .before .before .before .b
 
 add-octet : tie.Need-add-octet Inv-loop2 μ-loop2 Inv-loop μ-loop
 add-octet c = let m : c .before .before .loop2 .u * c .before .before .before .before .before .before .before .before .args .places ≤ 96 * 96 = mul-le-mul {n₂ = 96} {m₂ = 96} (omega (arith, c .before .before .before .before .before .before .before .before .pre, c .before .before .before .before .before .loop-test .taken, c .before .loop2-test .taken)) (omega (arith, c .before .before .before .before .before .before .before .before .pre)) in omega (arith, m, c .before .before .before .before .before .before .before .before .pre, c .before .before .before .before .before .loop-test .taken, c .before .loop2-test .taken)
-
-octet-requires : tie.Need-octet-requires Inv-loop2 μ-loop2 Inv-loop μ-loop
-octet-requires c κs = search needs
 
 array-write-more : tie.Need-array-write-more Inv-loop2 μ-loop2 Inv-loop μ-loop
 array-write-more c = omega (arith, c .before .before .before .before .before .before .before .before .before .before .pre, c .before .before .before .loop2-test .taken)
@@ -80,12 +74,12 @@ with-signers-spec =
     μ-loop
     loop-holds
     array-read-led
-    led-requires
+    (λ c κs. search needs)
     loop2-holds
     array-read-if2
     mul-octet
     add-octet
-    octet-requires
+    (λ c κs. search needs)
     array-write-more
     add-u
     loop2-less

@@ -23,9 +23,6 @@ Inv-loop image places rows before counting roles first more₀ place₀ more pla
 abbrev μ-loop : tie.MeasureT-loop
 μ-loop image places rows before counting roles first more₀ place₀ more place = places - place
 
-first-list-requires : tie.Need-first-list-requires Inv-loop2 μ-loop2 Inv-loop μ-loop
-first-list-requires c κs = search needs
-
 loop-holds : tie.Need-loop-holds Inv-loop2 μ-loop2 Inv-loop μ-loop
 loop-holds c = (omega arith, refl, record { before = λ c h. absurd (omega arith); behind = λ c h. empty-slots 96 c })
 
@@ -41,9 +38,6 @@ array-write-more c = omega (arith, c .before .before .before .before .before .pr
 row-at-requires : tie.Need-row-at-requires Inv-loop2 μ-loop2 Inv-loop μ-loop
 row-at-requires c κs = omega (arith, c .before .before .before .before .before .pre, c .before .loop-test .taken)
 
-signed-requires : tie.Need-signed-requires Inv-loop2 μ-loop2 Inv-loop μ-loop
-signed-requires c κs = search needs
-
 loop2-holds : tie.Need-loop2-holds Inv-loop2 μ-loop2 Inv-loop μ-loop
 loop2-holds c = (c .before .before .before .before .before .before .first-list .ensures .0, spoken-none _ _ _ _ _ (c .before .before .before .before .before .before .first-list .ensures .1))
 
@@ -53,9 +47,6 @@ array-read-if3 c = omega (arith, c .before .before .before .before .before .befo
 row-at-requires-2 : tie.Need-row-at-requires-2 Inv-loop2 μ-loop2 Inv-loop μ-loop
 row-at-requires-2 c κs = omega (arith, c .before .before .before .before .before .before .before .before .before .before .before .pre, c .before .loop2-test .taken)
 
-spoken-by-requires : tie.Need-spoken-by-requires Inv-loop2 μ-loop2 Inv-loop μ-loop
-spoken-by-requires c κs = search needs
-
 add-list : tie.Need-add-list Inv-loop2 μ-loop2 Inv-loop μ-loop
 add-list c = omega (arith, c .before .before .before .before .before .before .before .before .before .before .before .pre, c .before .loop2-test .taken)
 
@@ -64,9 +55,6 @@ loop2-less c = omega (arith, c .before .loop2-test .taken)
 
 loop2-again : tie.Need-loop2-again Inv-loop2 μ-loop2 Inv-loop μ-loop
 loop2-again c = (omega (arith, c .before .loop2-test .taken), ⊎-elim (λ w. spoken-asked _ _ _ _ (c .before .before .loop2 .list) (w .1 .ensures) (c .before .before .loop2 .inv .1) (w .0 .taken) (w .3 ∙ w .2 .ensures)) (λ w. w .1 ∙ spoken-passed _ _ _ _ (c .before .before .loop2 .list) (c .before .before .loop2 .inv .1) (w .0 .left)) (c .if3 .came))
-
-role-of-requires : tie.Need-role-of-requires Inv-loop2 μ-loop2 Inv-loop μ-loop
-role-of-requires c κs = search needs
 
 array-write-more-2 : tie.Need-array-write-more-2 Inv-loop2 μ-loop2 Inv-loop μ-loop
 array-write-more-2 c = omega (arith, c .before .before .before .before .before .before .before .before .before .pre, c .before .before .before .before .before .loop-test .taken)
@@ -91,21 +79,21 @@ roles-of-spec =
     μ-loop2
     Inv-loop
     μ-loop
-    first-list-requires
+    (λ c κs. search needs)
     loop-holds
     array-read-if1
     array-read-more
     array-write-more
     row-at-requires
-    signed-requires
+    (λ c κs. search needs)
     loop2-holds
     array-read-if3
     row-at-requires-2
-    spoken-by-requires
+    (λ c κs. search needs)
     add-list
     loop2-less
     loop2-again
-    role-of-requires
+    (λ c κs. search needs)
     array-write-more-2
     add-place
     loop-less

@@ -33,11 +33,8 @@ roles-of-requires c κs = c .before .before .before .before .before .before .bef
 array-read-if1 : tie.Need-array-read-if1 Inv-loop μ-loop
 array-read-if1 c = omega arith
 
-nowhere-requires : tie.Need-nowhere-requires Inv-loop μ-loop
-nowhere-requires c κs = search needs
-
 returns : tie.Need-returns Inv-loop μ-loop
-returns c = no-signer _ _ _ _ _ (c .before .before .before .before .before .before .before .before .before .before .before .pre .0) {roles = c .before .before .roles-of .result} (first-round _ _ _ _ _ (c .before .before .before .before .before .before .before .before .before .before .before .pre .0) _ (c .before .before .before .before .before .before .before .before .near-first .ensures) _ (blank-rows 96) (c .before .before .before .before .before .before .before .before .before .before .before .pre .2) (c .before .before .before .before .before .before .open-items .ensures .1) (c .before .before .before .before .counting-lists .ensures) (c .before .before .roles-of .ensures)) (c .before .before .before .before .before .before .before .before .before .before .before .pre .2) (c .before .if1 .taken) (c .nowhere .ensures .0) (c .nowhere .ensures .1)
+returns c = no-signer _ _ _ _ _ (c .before .before .before .before .before .before .before .before .before .before .before .pre .0) {roles = c .before .before .roles-of .result} (first-round _ _ _ _ _ (c .before .before .before .before .before .before .before .before .before .before .before .pre .0) _ (c .before .before .before .before .before .before .before .before .near-first .ensures) _ (blank-rows 96) (c .before .before .before .before .before .before .before .before .before .before .before .pre .2) (c .before .before .before .before .before .before .open-items .ensures .1) (c .before .before .before .before .counting-lists .ensures) (c .before .before .roles-of .ensures)) (c .before .before .before .before .before .before .before .before .before .before .before .pre .2) (c .before .if1 .taken) (c .no-chain .ensures)
 
 direct-chain-requires : tie.Need-direct-chain-requires Inv-loop μ-loop
 direct-chain-requires c κs = (c .before .before .before .before .before .before .before .before .before .before .before .pre .1, c .before .before .before .before .before .before .before .before .before .before .before .pre .2)
@@ -104,7 +101,7 @@ chain-among-spec =
     counting-lists-requires
     roles-of-requires
     array-read-if1
-    nowhere-requires
+    (λ c κs. search needs)
     returns
     direct-chain-requires
     returns-2

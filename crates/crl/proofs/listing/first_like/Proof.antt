@@ -17,9 +17,6 @@ abbrev μ-loop : tie.MeasureT-loop
 loop-holds : tie.Need-loop-holds Inv-loop μ-loop
 loop-holds c = record { none = refl; nearer = omega arith }
 
-passed-by-requires : tie.Need-passed-by-requires Inv-loop μ-loop
-passed-by-requires c κs = search needs
-
 returns : tie.Need-returns Inv-loop μ-loop
 returns c = c .before .before .loop .inv
 
@@ -33,4 +30,4 @@ loop-again c =
 
 pub first-like-spec : {M : Type 1} → statement M
 first-like-spec =
-    tie.close (tie.spec Inv-loop μ-loop loop-holds passed-by-requires returns loop-less loop-again)
+    tie.close (tie.spec Inv-loop μ-loop loop-holds (λ c κs. search needs) returns loop-less loop-again)

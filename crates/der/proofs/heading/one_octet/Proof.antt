@@ -11,9 +11,6 @@ returns : tie.Need-returns
 unfolding long
 returns c = simp (lt-leb _ _ (c .if1 .taken))
 
-shared-slice-read-size : tie.Need-shared-slice-read-size
-shared-slice-read-size c = search needs
-
 cast-size : tie.Need-cast-size
 cast-size c = omega (arith, c .shared-slice-known2 .given 2)
 
@@ -25,9 +22,6 @@ returns-2 c =
       one-octet (c .before .before .before .before .args .s .now) (c .before .before .if1 .left),
       lt-leb _ _ (c .if2 .taken),
     )
-
-ending-requires : tie.Need-ending-requires
-ending-requires c κs = search needs
 
 returns-3 : tie.Need-returns-3
 unfolding long smallest
@@ -41,4 +35,4 @@ returns-3 c =
 pub one-octet-spec : {M : Type 1} → statement M
 one-octet-spec =
     tie.close
-    (tie.spec returns shared-slice-read-size cast-size returns-2 ending-requires returns-3)
+    (tie.spec returns (λ c. search needs) cast-size returns-2 (λ c κs. search needs) returns-3)

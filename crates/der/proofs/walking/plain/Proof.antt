@@ -74,11 +74,8 @@ tells tag e =
 returns : tie.Need-returns
 returns c = λ e. let w : _≡_ {A = ℕ} 0 1 = cc in absurd (omega arith)
 
-shr-result : tie.Need-shr-result
-shr-result c = search needs
-
 returns-2 : tie.Need-returns-2
 returns-2 c = λ e. tells (c .before .args .tag) (below 64 all (c .before .args .tag) (omega arith) e)
 
 pub plain-spec : {M : Type 1} → statement M
-plain-spec = tie.close (tie.spec returns shr-result returns-2)
+plain-spec = tie.close (tie.spec returns (λ c. search needs) returns-2)

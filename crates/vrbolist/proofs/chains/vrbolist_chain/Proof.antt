@@ -8,14 +8,8 @@ use Rattle.vrbolist.proofs.chains.vrbolist_chain.Lts as lts
 use Rattle.chain.proofs.best_chain.Reads as best-chain-reads
 use Rattle.vrbolist.proofs.chains.chain_told.Reads as chain-told-reads
 
-best-chain-requires : tie.Need-best-chain-requires
-best-chain-requires c κs = search needs
-
-chain-told-requires : tie.Need-chain-told-requires
-chain-told-requires c κs = search needs
-
 returns : tie.Need-returns
 returns c = forwarded _ (c .before .best-chain .ensures) (c .chain-told .ensures)
 
 pub vrbolist-chain-spec : {M : Type 1} → statement M
-vrbolist-chain-spec = tie.close (tie.spec best-chain-requires chain-told-requires returns)
+vrbolist-chain-spec = tie.close (tie.spec (λ c κs. search needs) (λ c κs. search needs) returns)

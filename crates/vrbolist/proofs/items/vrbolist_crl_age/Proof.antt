@@ -7,14 +7,8 @@ use Rattle.vrbolist.proofs.items.vrbolist_crl_age.Lts as lts
 use Rattle.crl.proofs.age.Reads as age-reads
 use Rattle.vrbolist.proofs.items.days_told.Reads as days-told-reads
 
-age-requires : tie.Need-age-requires
-age-requires c κs = search needs
-
-days-told-requires : tie.Need-days-told-requires
-days-told-requires c κs = search needs
-
 returns : tie.Need-returns
 returns c = rw (c .before .age .ensures) at (c .days-told .ensures)
 
 pub vrbolist-crl-age-spec : {M : Type 1} → statement M
-vrbolist-crl-age-spec = tie.close (tie.spec age-requires days-told-requires returns)
+vrbolist-crl-age-spec = tie.close (tie.spec (λ c κs. search needs) (λ c κs. search needs) returns)
