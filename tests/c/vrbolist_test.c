@@ -129,42 +129,37 @@ static int part_is(struct item item, uint64_t at, uint64_t len, const void *want
     return len == wanted_len && at <= item.len && len <= item.len - at && memcmp(item.at + at, wanted, wanted_len) == 0;
 }
 
-/* Layout: the size of every answer and the offsets of its fields. rust/vrbolist/src/raw.rs has numbers of its own. */
+/* Layout: the size of every answer, and offset and size of its fields. rust/vrbolist/src/raw.rs has numbers of its own. */
 
 struct field {
     const char *name;
-    size_t in_header, at, len;
+    size_t at_in_header, at, len_in_header, len;
 };
-#define AT(type, field, at) {#type "." #field, offsetof(vrbolist_##type, field), at, sizeof(((vrbolist_##type *)0)->field)}
-#define HEAD_AT(type) AT(type, number, 0), AT(type, detail, 8)
+#define AT(type, field, at, len) \
+    {#type "." #field, offsetof(vrbolist_##type##_answer, field), at, sizeof(((vrbolist_##type##_answer *)0)->field), len}
+#define HEAD_AT(type) AT(type, number, 0, 8), AT(type, detail, 8, 8)
 
-static const struct field walk_fields[] = {HEAD_AT(walk_answer), AT(walk_answer, count, 16)};
-static const struct field integer_fields[] = {HEAD_AT(integer_answer), AT(integer_answer, value, 16)};
+static const struct field walk_fields[] = {HEAD_AT(walk), AT(walk, count, 16, 8)};
+static const struct field integer_fields[] = {HEAD_AT(integer), AT(integer, value, 16, 8)};
 static const struct field certificate_fields[] = {
-    HEAD_AT(certificate_answer), AT(certificate_answer, start, 16), AT(certificate_answer, end, 24),
-    AT(certificate_answer, issuer_at, 32), AT(certificate_answer, issuer_len, 40), AT(certificate_answer, subject_at, 48),
-    AT(certificate_answer, subject_len, 56), AT(certificate_answer, key_at, 64), AT(certificate_answer, key_len, 72),
-    AT(certificate_answer, serial_at, 80), AT(certificate_answer, serial_len, 88),
-    AT(certificate_answer, subject_key_id_at, 96), AT(certificate_answer, subject_key_id_len, 104),
-    AT(certificate_answer, authority_key_id_at, 112), AT(certificate_answer, authority_key_id_len, 120),
-    AT(certificate_answer, country, 128),
+    HEAD_AT(certificate), AT(certificate, start, 16, 8), AT(certificate, end, 24, 8), AT(certificate, issuer_at, 32, 8),
+    AT(certificate, issuer_len, 40, 8), AT(certificate, subject_at, 48, 8), AT(certificate, subject_len, 56, 8),
+    AT(certificate, key_at, 64, 8), AT(certificate, key_len, 72, 8), AT(certificate, serial_at, 80, 8),
+    AT(certificate, serial_len, 88, 8), AT(certificate, subject_key_id_at, 96, 8),
+    AT(certificate, subject_key_id_len, 104, 8), AT(certificate, authority_key_id_at, 112, 8),
+    AT(certificate, authority_key_id_len, 120, 8), AT(certificate, country, 128, 2),
 };
 static const struct field crl_fields[] = {
-    HEAD_AT(crl_answer), AT(crl_answer, this_update, 16), AT(crl_answer, next_update, 24), AT(crl_answer, entries, 32),
-    AT(crl_answer, issuer_at, 40), AT(crl_answer, issuer_len, 48), AT(crl_answer, country, 56),
+    HEAD_AT(crl), AT(crl, this_update, 16, 8), AT(crl, next_update, 24, 8), AT(crl, entries, 32, 8),
+    AT(crl, issuer_at, 40, 8), AT(crl, issuer_len, 48, 8), AT(crl, country, 56, 2),
 };
-static const struct field days_fields[] = {HEAD_AT(days_answer), AT(days_answer, days, 16)};
-static const struct field image_fields[] = {
-    HEAD_AT(image_answer), AT(image_answer, entries, 16), AT(image_answer, day, 24),
-};
+static const struct field days_fields[] = {HEAD_AT(days), AT(days, days, 16, 8)};
+static const struct field image_fields[] = {HEAD_AT(image), AT(image, entries, 16, 8), AT(image, day, 24, 8)};
 static const struct field entry_fields[] = {
-    HEAD_AT(entry_answer), AT(entry_answer, kind, 16), AT(entry_answer, flags, 24), AT(entry_answer, length, 32),
-    AT(entry_answer, offset, 40),
+    HEAD_AT(entry), AT(entry, kind, 16, 8), AT(entry, flags, 24, 8), AT(entry, length, 32, 8), AT(entry, offset, 40, 8),
 };
-static const struct field write_fields[] = {HEAD_AT(write_answer), AT(write_answer, length, 16)};
-static const struct field chain_fields[] = {
-    HEAD_AT(chain_answer), AT(chain_answer, length, 16), AT(chain_answer, places, 24),
-};
+static const struct field write_fields[] = {HEAD_AT(write), AT(write, length, 16, 8)};
+static const struct field chain_fields[] = {HEAD_AT(chain), AT(chain, length, 16, 8), AT(chain, places, 24, 96)};
 
 /* The functions as the convention of x86-64 calls them: an answer of more than 16 bytes is written where a first argument
  * points. So the answer can be lent a buffer of its size that ends at a page that may not be touched. */
@@ -183,12 +178,13 @@ void write_to(void *answer, const uint8_t *items, size_t items_len, const uint8_
 void chain_to(void *answer, const uint8_t *image, size_t image_len, const uint8_t *table, size_t table_len, uint64_t moment,
               uint64_t target) __asm__("vrbolist_chain");
 
-/* The header has this size and these offsets, and the library wrote each field. */
+/* The header has these sizes and offsets, and the library wrote each field. */
 static void laid_out(int line, const uint8_t *answer, size_t in_header, size_t size, const struct field *fields, size_t count) {
     size_t i;
     check(line, "size", (long long)in_header, (long long)size);
     for (i = 0; i < count; i++) {
-        check(line, fields[i].name, (long long)fields[i].in_header, (long long)fields[i].at);
+        check(line, fields[i].name, (long long)fields[i].at_in_header, (long long)fields[i].at);
+        check(line, fields[i].name, (long long)fields[i].len_in_header, (long long)fields[i].len);
         check(line, fields[i].name, filled(answer + fields[i].at, fields[i].len), 0);
     }
 }
