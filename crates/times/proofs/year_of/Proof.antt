@@ -5,10 +5,6 @@ use Rattle.times.specs.Times.{timeIn}
 use Rattle.times.proofs.Years.{no-year}
 use Rattle.times.proofs.year_of.Statement.{statement}
 use Rattle.times.proofs.year_of.Tie as tie
-use Rattle.times.proofs.year_of.Reads as reads
-use Rattle.times.proofs.year_of.Lts as lts
-use Rattle.times.proofs.full_year.Reads as full-year-reads
-use Rattle.times.proofs.short_year.Reads as short-year-reads
 
 returns : tie.Need-returns
 returns c = rw (c .before .match .keys1) (c .short-year .ensures)

@@ -2,9 +2,6 @@
 use borrow.Author.Needs.{needs}
 use Rattle.chain.proofs.counting.vouched_by.Statement.{statement}
 use Rattle.chain.proofs.counting.vouched_by.Tie as tie
-use Rattle.chain.proofs.counting.vouched_by.Reads as reads
-use Rattle.chain.proofs.counting.vouched_by.Lts as lts
-use Rattle.chain.proofs.counting.vouches.Reads as vouches-reads
 
 returns : tie.Need-returns
 returns c = rw (← (c .before .vouches .ensures), c .if1 .taken)

@@ -4,8 +4,6 @@ use borrow.Author.Tests.{eq-eqb, ne-eqb}
 use Rattle.chain.proofs.RowLaws.{vouches-unfit, vouches-first, vouches-second}
 use Rattle.chain.proofs.counting.vouches.Statement.{statement}
 use Rattle.chain.proofs.counting.vouches.Tie as tie
-use Rattle.chain.proofs.counting.vouches.Reads as reads
-use Rattle.chain.proofs.counting.vouches.Lts as lts
 
 returns : tie.Need-returns
 returns c = sym (vouches-unfit _ _ (ne-eqb _ _ (c .if1 .taken)))

@@ -4,10 +4,6 @@ use Rattle.chain.proofs.RowLaws.{alike-parts, fits-not, fits-named}
 use borrow.Author.Needs.{needs}
 use Rattle.chain.proofs.matching.fits.Statement.{statement}
 use Rattle.chain.proofs.matching.fits.Tie as tie
-use Rattle.chain.proofs.matching.fits.Reads as reads
-use Rattle.chain.proofs.matching.fits.Lts as lts
-use Rattle.chain.proofs.roles.piece.Reads as piece-reads
-use Rattle.elements.proofs.same.Reads as same-reads
 
 returns : tie.Need-returns
 returns c = fits-not _ _ _ (alike-parts (c .before .same .ensures) (c .before .before .piece2 .ensures) (c .before .before .before .piece .ensures)) (not-true _ (c .if1 .taken))

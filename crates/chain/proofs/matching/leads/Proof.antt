@@ -3,8 +3,6 @@ use borrow.Author.Tests.{eq-eqb, ne-eqb}
 use Rattle.chain.specs.Rows.{leadsOf}
 use Rattle.chain.proofs.matching.leads.Statement.{statement}
 use Rattle.chain.proofs.matching.leads.Tie as tie
-use Rattle.chain.proofs.matching.leads.Reads as reads
-use Rattle.chain.proofs.matching.leads.Lts as lts
 
 returns : tie.Need-returns
 unfolding leadsOf

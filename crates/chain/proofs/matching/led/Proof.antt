@@ -3,8 +3,6 @@ use borrow.Author.Tests.{eq-eqb, ne-eqb}
 use Rattle.chain.specs.Near.{ledOf}
 use Rattle.chain.proofs.matching.led.Statement.{statement}
 use Rattle.chain.proofs.matching.led.Tie as tie
-use Rattle.chain.proofs.matching.led.Reads as reads
-use Rattle.chain.proofs.matching.led.Lts as lts
 
 returns : tie.Need-returns
 unfolding ledOf

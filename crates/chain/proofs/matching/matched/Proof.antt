@@ -5,10 +5,6 @@ use Rattle.chain.proofs.RowLaws.{matched-unled, matched-fits, matched-u
 use borrow.Author.Needs.{needs}
 use Rattle.chain.proofs.matching.matched.Statement.{statement}
 use Rattle.chain.proofs.matching.matched.Tie as tie
-use Rattle.chain.proofs.matching.matched.Reads as reads
-use Rattle.chain.proofs.matching.matched.Lts as lts
-use Rattle.chain.proofs.matching.fits.Reads as fits-reads
-use Rattle.chain.proofs.matching.led.Reads as led-reads
 
 returns : tie.Need-returns
 returns c = sym (matched-unled _ _ _ _ (sym (c .before .led .ensures) ∙ not-true _ (c .if1 .taken)))

@@ -3,9 +3,6 @@ use Rattle.chain.specs.Rows.{pieceOf}
 use borrow.Author.Needs.{needs}
 use Rattle.chain.proofs.roles.piece.Statement.{statement}
 use Rattle.chain.proofs.roles.piece.Tie as tie
-use Rattle.chain.proofs.roles.piece.Reads as reads
-use Rattle.chain.proofs.roles.piece.Lts as lts
-use Rattle.image.proofs.part.Reads as part-reads
 
 returns : tie.Need-returns
 unfolding pieceOf

@@ -5,9 +5,6 @@ use Rattle.chain.proofs.RowLaws.{role-unspoken, role-link, role-signer,
 use borrow.Author.Needs.{needs}
 use Rattle.chain.proofs.roles.role_of.Statement.{statement}
 use Rattle.chain.proofs.roles.role_of.Tie as tie
-use Rattle.chain.proofs.roles.role_of.Reads as reads
-use Rattle.chain.proofs.roles.role_of.Lts as lts
-use Rattle.chain.proofs.roles.signed.Reads as signed-reads
 
 returns : tie.Need-returns
 returns c = sym (role-unspoken _ _ (sym (c .before .before .signed .ensures) ∙ c .before .if1 .taken) (ne-eqb _ _ (c .if2 .taken)))

@@ -3,8 +3,6 @@ use borrow.Author.Tests.{eq-eqb, ne-eqb}
 use Rattle.chain.specs.Rows.{signedOf}
 use Rattle.chain.proofs.roles.signed.Statement.{statement}
 use Rattle.chain.proofs.roles.signed.Tie as tie
-use Rattle.chain.proofs.roles.signed.Reads as reads
-use Rattle.chain.proofs.roles.signed.Lts as lts
 
 returns : tie.Need-returns
 unfolding signedOf

@@ -5,12 +5,6 @@ use borrow.Author.Tests.{eq-eqb, ne-eqb, not-true, not-false}
 use Rattle.chain.proofs.RowLaws.{covers-parts, lists-parts, spoken-listed, spoken-apart, spoken-lists, spoken-covers}
 use Rattle.chain.proofs.roles.spoken_by.Statement.{statement}
 use Rattle.chain.proofs.roles.spoken_by.Tie as tie
-use Rattle.chain.proofs.roles.spoken_by.Reads as reads
-use Rattle.chain.proofs.roles.spoken_by.Lts as lts
-use Rattle.chain.proofs.roles.piece.Reads as piece-reads
-use Rattle.crl.proofs.listed.Reads as listed-reads
-use Rattle.elements.proofs.same.Reads as same-reads
-use Rattle.image.proofs.part.Reads as part-reads
 
 returns : tie.Need-returns
 returns c = sym (spoken-listed _ _ _ _ (eq-eqb _ _ (c .if1 .taken)))

@@ -4,8 +4,6 @@ use borrow.Author.Tests.{eq-eqb, ne-eqb}
 use Rattle.chain.specs.Rows.{enoughOf}
 use Rattle.chain.proofs.rounds.enough.Statement.{statement}
 use Rattle.chain.proofs.rounds.enough.Tie as tie
-use Rattle.chain.proofs.rounds.enough.Reads as reads
-use Rattle.chain.proofs.rounds.enough.Lts as lts
 
 returns : tie.Need-returns
 unfolding enoughOf

@@ -8,10 +8,6 @@ use borrow.Author.Tests.{not-false}
 use Rattle.der.proofs.Flat.{sequence-reads, set-reads}
 use Rattle.der.proofs.walking.flat.Statement.{statement}
 use Rattle.der.proofs.walking.flat.Tie as tie
-use Rattle.der.proofs.walking.flat.Reads as reads
-use Rattle.der.proofs.walking.flat.Lts as lts
-use Rattle.der.proofs.walking.double.Reads as double-reads
-use Rattle.der.proofs.walking.leaves.Reads as leaves-reads
 
 add-from : tie.Need-add-from
 add-from c = omega arith

@@ -10,12 +10,6 @@ use Rattle.der.proofs.Stacks.{part-length}
 use Rattle.der.proofs.Flat.{Leaf, leaf-boolean, leaf-integer, leaf-null, leaf-oid, leaf-plain, leaf-reads}
 use Rattle.der.proofs.walking.leaf.Statement.{statement}
 use Rattle.der.proofs.walking.leaf.Tie as tie
-use Rattle.der.proofs.walking.leaf.Reads as reads
-use Rattle.der.proofs.walking.leaf.Lts as lts
-use Rattle.der.proofs.contents.boolean_good.Reads as boolean-good-reads
-use Rattle.der.proofs.contents.integer_good.Reads as integer-good-reads
-use Rattle.der.proofs.contents.oid_good.Reads as oid-good-reads
-use Rattle.der.proofs.walking.plain.Reads as plain-reads
 
 none : {A : Type 0} → 0 < 0 → A
 none h = absurd (omega arith)

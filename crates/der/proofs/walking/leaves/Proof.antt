@@ -8,9 +8,6 @@ use Rattle.der.specs.Looks.{stretch, Reads, Fills}
 use Rattle.der.proofs.Flat.{reads-on, fills-none}
 use Rattle.der.proofs.walking.leaves.Statement.{statement}
 use Rattle.der.proofs.walking.leaves.Tie as tie
-use Rattle.der.proofs.walking.leaves.Reads as reads
-use Rattle.der.proofs.walking.leaves.Lts as lts
-use Rattle.der.proofs.walking.leaf.Reads as leaf-reads
 
 -- what is left, from octet `i` on
 abbrev Left : List ℕ → ℕ → ℕ → ℕ → ℕ → ℕ → Type 0

@@ -12,10 +12,6 @@ use Rattle.der.proofs.Enough.{ElementIs, node-is}
 use borrow.Author.Needs.{needs}
 use Rattle.der.proofs.walking.outermost.Statement.{statement}
 use Rattle.der.proofs.walking.outermost.Tie as tie
-use Rattle.der.proofs.walking.outermost.Reads as reads
-use Rattle.der.proofs.walking.outermost.Lts as lts
-use Rattle.der.proofs.heading.header.Reads as header-reads
-use Rattle.der.proofs.walking.sound.Reads as sound-reads
 
 -- src/walking.rt:108:47
 -- src/walking.rt:108:27

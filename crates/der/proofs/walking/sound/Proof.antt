@@ -9,11 +9,6 @@ use Rattle.der.specs.Heading.{constructed}
 use Rattle.der.proofs.Stacks.{Open, open-start, open-done, open-end, open-pop, open-head, open-past, open-leaf, open-push}
 use Rattle.der.proofs.walking.sound.Statement.{statement}
 use Rattle.der.proofs.walking.sound.Tie as tie
-use Rattle.der.proofs.walking.sound.Reads as reads
-use Rattle.der.proofs.walking.sound.Lts as lts
-use Rattle.der.proofs.contents.contents_good.Reads as contents-good-reads
-use Rattle.der.proofs.heading.header.Reads as header-reads
-use Rattle.der.proofs.walking.flat.Reads as flat-reads
 
 abbrev Inv-loop : tie.InvT-loop
 Inv-loop s ends₀ top₀ i₀ read₀ ends top i read = Open s ends top i read × (top ≤ 12)

@@ -4,12 +4,6 @@ use Rattle.vrbolist.specs.Told.{certificateTold}
 use borrow.Author.Needs.{needs}
 use Rattle.vrbolist.proofs.certificates.vrbolist_certificate.Statement.{statement}
 use Rattle.vrbolist.proofs.certificates.vrbolist_certificate.Tie as tie
-use Rattle.vrbolist.proofs.certificates.vrbolist_certificate.Reads as reads
-use Rattle.vrbolist.proofs.certificates.vrbolist_certificate.Lts as lts
-use Rattle.certificate.proofs.judge.Reads as judge-reads
-use Rattle.refusal.proofs.detail.Reads as detail-reads
-use Rattle.refusal.proofs.number.Reads as number-reads
-use Rattle.vrbolist.proofs.certificates.passed.Reads as passed-reads
 
 returns : tie.Need-returns
 unfolding certificateTold

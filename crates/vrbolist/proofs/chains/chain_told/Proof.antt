@@ -3,10 +3,6 @@ use Rattle.vrbolist.specs.Chains.{outcomeNumber, outcomeDetail, chainTol
 use borrow.Author.Needs.{needs}
 use Rattle.vrbolist.proofs.chains.chain_told.Statement.{statement}
 use Rattle.vrbolist.proofs.chains.chain_told.Tie as tie
-use Rattle.vrbolist.proofs.chains.chain_told.Reads as reads
-use Rattle.vrbolist.proofs.chains.chain_told.Lts as lts
-use Rattle.refusal.proofs.detail.Reads as detail-reads
-use Rattle.refusal.proofs.number.Reads as number-reads
 
 returns : tie.Need-returns
 unfolding chainTold outcomeNumber outcomeDetail

@@ -3,10 +3,6 @@ use Rattle.vrbolist.specs.Chains.{forwarded}
 use borrow.Author.Needs.{needs}
 use Rattle.vrbolist.proofs.chains.vrbolist_chain.Statement.{statement}
 use Rattle.vrbolist.proofs.chains.vrbolist_chain.Tie as tie
-use Rattle.vrbolist.proofs.chains.vrbolist_chain.Reads as reads
-use Rattle.vrbolist.proofs.chains.vrbolist_chain.Lts as lts
-use Rattle.chain.proofs.best_chain.Reads as best-chain-reads
-use Rattle.vrbolist.proofs.chains.chain_told.Reads as chain-told-reads
 
 returns : tie.Need-returns
 returns c = forwarded _ (c .before .best-chain .ensures) (c .chain-told .ensures)

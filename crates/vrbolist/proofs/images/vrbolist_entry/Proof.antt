@@ -4,11 +4,6 @@ use Rattle.vrbolist.specs.Told.{entryTold}
 use borrow.Author.Needs.{needs}
 use Rattle.vrbolist.proofs.images.vrbolist_entry.Statement.{statement}
 use Rattle.vrbolist.proofs.images.vrbolist_entry.Tie as tie
-use Rattle.vrbolist.proofs.images.vrbolist_entry.Reads as reads
-use Rattle.vrbolist.proofs.images.vrbolist_entry.Lts as lts
-use Rattle.image.proofs.entry.Reads as entry-reads
-use Rattle.refusal.proofs.detail.Reads as detail-reads
-use Rattle.refusal.proofs.number.Reads as number-reads
 
 returns : tie.Need-returns
 unfolding entryTold

@@ -2,10 +2,6 @@
 use borrow.Author.Needs.{needs}
 use Rattle.vrbolist.proofs.images.vrbolist_image.Statement.{statement}
 use Rattle.vrbolist.proofs.images.vrbolist_image.Tie as tie
-use Rattle.vrbolist.proofs.images.vrbolist_image.Reads as reads
-use Rattle.vrbolist.proofs.images.vrbolist_image.Lts as lts
-use Rattle.image.proofs.open.Reads as open-reads
-use Rattle.vrbolist.proofs.images.image_told.Reads as image-told-reads
 
 returns : tie.Need-returns
 returns c = rw (c .before .«open» .ensures) at (c .image-told .ensures)

@@ -2,10 +2,6 @@
 use borrow.Author.Needs.{needs}
 use Rattle.vrbolist.proofs.images.vrbolist_image_for_day.Statement.{statement}
 use Rattle.vrbolist.proofs.images.vrbolist_image_for_day.Tie as tie
-use Rattle.vrbolist.proofs.images.vrbolist_image_for_day.Reads as reads
-use Rattle.vrbolist.proofs.images.vrbolist_image_for_day.Lts as lts
-use Rattle.image.proofs.open_for.Reads as open-for-reads
-use Rattle.vrbolist.proofs.images.image_told.Reads as image-told-reads
 
 returns : tie.Need-returns
 returns c = rw (c .before .open-for .ensures) at (c .image-told .ensures)

@@ -4,11 +4,6 @@ use Rattle.vrbolist.specs.Told.{writeTold}
 use borrow.Author.Needs.{needs}
 use Rattle.vrbolist.proofs.images.vrbolist_write.Statement.{statement}
 use Rattle.vrbolist.proofs.images.vrbolist_write.Tie as tie
-use Rattle.vrbolist.proofs.images.vrbolist_write.Reads as reads
-use Rattle.vrbolist.proofs.images.vrbolist_write.Lts as lts
-use Rattle.refusal.proofs.detail.Reads as detail-reads
-use Rattle.refusal.proofs.number.Reads as number-reads
-use Rattle.writer.proofs.write.Reads as write-reads
 
 returns : tie.Need-returns
 unfolding writeTold

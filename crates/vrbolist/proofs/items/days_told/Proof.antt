@@ -5,10 +5,6 @@ use mir.Syntax.{w64}
 use mir.ValLaws.{toZ-ofZ}
 use Rattle.vrbolist.proofs.items.days_told.Statement.{statement}
 use Rattle.vrbolist.proofs.items.days_told.Tie as tie
-use Rattle.vrbolist.proofs.items.days_told.Reads as reads
-use Rattle.vrbolist.proofs.items.days_told.Lts as lts
-use Rattle.refusal.proofs.detail.Reads as detail-reads
-use Rattle.refusal.proofs.number.Reads as number-reads
 
 returns : tie.Need-returns
 unfolding daysTold

@@ -2,10 +2,6 @@
 use borrow.Author.Needs.{needs}
 use Rattle.vrbolist.proofs.items.vrbolist_day_difference.Statement.{statement}
 use Rattle.vrbolist.proofs.items.vrbolist_day_difference.Tie as tie
-use Rattle.vrbolist.proofs.items.vrbolist_day_difference.Reads as reads
-use Rattle.vrbolist.proofs.items.vrbolist_day_difference.Lts as lts
-use Rattle.calendar.proofs.day_difference.Reads as day-difference-reads
-use Rattle.vrbolist.proofs.items.days_told.Reads as days-told-reads
 
 returns : tie.Need-returns
 returns c = rw (c .before .day-difference .ensures) at (c .days-told .ensures)

@@ -6,11 +6,6 @@ use mir.Syntax.{w64}
 use mir.ValLaws.{toZ-ofZ}
 use Rattle.vrbolist.proofs.items.vrbolist_integer.Statement.{statement}
 use Rattle.vrbolist.proofs.items.vrbolist_integer.Tie as tie
-use Rattle.vrbolist.proofs.items.vrbolist_integer.Reads as reads
-use Rattle.vrbolist.proofs.items.vrbolist_integer.Lts as lts
-use Rattle.der.proofs.integer.Reads as integer-reads
-use Rattle.refusal.proofs.detail.Reads as detail-reads
-use Rattle.refusal.proofs.number.Reads as number-reads
 
 returns : tie.Need-returns
 unfolding integerTold

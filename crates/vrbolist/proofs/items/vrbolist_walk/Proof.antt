@@ -4,11 +4,6 @@ use Rattle.vrbolist.specs.Told.{walkTold}
 use borrow.Author.Needs.{needs}
 use Rattle.vrbolist.proofs.items.vrbolist_walk.Statement.{statement}
 use Rattle.vrbolist.proofs.items.vrbolist_walk.Tie as tie
-use Rattle.vrbolist.proofs.items.vrbolist_walk.Reads as reads
-use Rattle.vrbolist.proofs.items.vrbolist_walk.Lts as lts
-use Rattle.der.proofs.walk.Reads as walk-reads
-use Rattle.refusal.proofs.detail.Reads as detail-reads
-use Rattle.refusal.proofs.number.Reads as number-reads
 
 returns : tie.Need-returns
 unfolding walkTold

@@ -4,12 +4,6 @@ use Rattle.vrbolist.specs.Told.{crlTold}
 use borrow.Author.Needs.{needs}
 use Rattle.vrbolist.proofs.lists.vrbolist_crl.Statement.{statement}
 use Rattle.vrbolist.proofs.lists.vrbolist_crl.Tie as tie
-use Rattle.vrbolist.proofs.lists.vrbolist_crl.Reads as reads
-use Rattle.vrbolist.proofs.lists.vrbolist_crl.Lts as lts
-use Rattle.crl.proofs.judge.Reads as judge-reads
-use Rattle.refusal.proofs.detail.Reads as detail-reads
-use Rattle.refusal.proofs.number.Reads as number-reads
-use Rattle.vrbolist.proofs.lists.passed.Reads as passed-reads
 
 returns : tie.Need-returns
 unfolding crlTold
