@@ -6,9 +6,6 @@ use Rattle.chain.proofs.counting.vouched_by.Reads as reads
 use Rattle.chain.proofs.counting.vouched_by.Lts as lts
 use Rattle.chain.proofs.counting.vouches.Reads as vouches-reads
 
-vouches-requires : tie.Need-vouches-requires
-vouches-requires c κs = search needs
-
 returns : tie.Need-returns
 returns c = rw (← (c .before .vouches .ensures), c .if1 .taken)
 
@@ -16,4 +13,4 @@ returns-2 : tie.Need-returns-2
 returns-2 c = rw (← (c .before .vouches .ensures), c .if1 .left)
 
 pub vouched-by-spec : {M : Type 1} → statement M
-vouched-by-spec = tie.close (tie.spec vouches-requires returns returns-2)
+vouched-by-spec = tie.close (tie.spec (λ c κs. search needs) returns returns-2)

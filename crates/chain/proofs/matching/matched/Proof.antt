@@ -10,14 +10,8 @@ use Rattle.chain.proofs.matching.matched.Lts as lts
 use Rattle.chain.proofs.matching.fits.Reads as fits-reads
 use Rattle.chain.proofs.matching.led.Reads as led-reads
 
-led-requires : tie.Need-led-requires
-led-requires c κs = search needs
-
 returns : tie.Need-returns
 returns c = sym (matched-unled _ _ _ _ (sym (c .before .led .ensures) ∙ not-true _ (c .if1 .taken)))
-
-fits-requires : tie.Need-fits-requires
-fits-requires c κs = search needs
 
 returns-2 : tie.Need-returns-2
 returns-2 c = sym (matched-fits _ _ _ _ (sym (c .before .before .before .led .ensures) ∙ not-false _ (c .before .before .if1 .left)) (sym (c .before .fits2 .ensures) ∙ c .if2 .taken))
@@ -26,4 +20,4 @@ returns-3 : tie.Need-returns-3
 returns-3 c = sym (matched-unfit _ _ _ _ (sym (c .before .before .before .led .ensures) ∙ not-false _ (c .before .before .if1 .left)) (sym (c .before .fits2 .ensures) ∙ c .if2 .left))
 
 pub matched-spec : {M : Type 1} → statement M
-matched-spec = tie.close (tie.spec led-requires returns fits-requires returns-2 returns-3)
+matched-spec = tie.close (tie.spec (λ c κs. search needs) returns (λ c κs. search needs) returns-2 returns-3)

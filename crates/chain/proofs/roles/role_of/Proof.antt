@@ -9,9 +9,6 @@ use Rattle.chain.proofs.roles.role_of.Reads as reads
 use Rattle.chain.proofs.roles.role_of.Lts as lts
 use Rattle.chain.proofs.roles.signed.Reads as signed-reads
 
-signed-requires : tie.Need-signed-requires
-signed-requires c κs = search needs
-
 returns : tie.Need-returns
 returns c = sym (role-unspoken _ _ (sym (c .before .before .signed .ensures) ∙ c .before .if1 .taken) (ne-eqb _ _ (c .if2 .taken)))
 
@@ -28,4 +25,4 @@ returns-5 : tie.Need-returns-5
 returns-5 c = sym (role-none _ _ (sym (c .before .before .before .signed .ensures) ∙ c .before .before .if1 .left) (ne-eqb _ _ (c .if4 .left)))
 
 pub role-of-spec : {M : Type 1} → statement M
-role-of-spec = tie.close (tie.spec signed-requires returns returns-2 returns-3 returns-4 returns-5)
+role-of-spec = tie.close (tie.spec (λ c κs. search needs) returns returns-2 returns-3 returns-4 returns-5)
