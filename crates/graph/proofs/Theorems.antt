@@ -7,12 +7,13 @@ use mathlib.Core.Logic.{_⊎_, inl, inr}
 use native.Mathlib.Omega.{arith}
 use lib.ListN.{length, replicate}
 use Rattle.graph.specs.declared.Found.{Found}
-use Rattle.graph.specs.Chains.{Graph, graphOf, Chain, chain, NotLater, done, less, same, Best}
+use Rattle.graph.specs.Chains.{Graph, graphOf, Chain, NotLater, done, less, same, Best}
 use Rattle.graph.specs.Answer.{NoChain, Answered, found, none}
 use Rattle.graph.specs.Search.{followed}
 use Rattle.graph.proofs.Steps.{Apart, roles-apart}
 use Rattle.graph.proofs.BestFound.{chain-reached, best}
 use Rattle.graph.proofs.Targets.{at-most-96, chain-target}
+use Rattle.graph.proofs.Places.{two-places}
 use Rattle.graph.proofs.Tables.{Table, table, some-table}
 
 -- of two chains neither of which comes later, both are one
@@ -43,12 +44,9 @@ module _ {g : Graph} {t : ℕ} where
   one-answer (none f l) (found d e m q) = absurd (f d (e .good))
   one-answer (none f l) (none h m) = (l .empty ∙ sym (m .empty), l .slots ∙ sym (m .slots))
 
-  chain-length : {c : List ℕ} → Chain g t c → length c ≡ 0 → ⊥
-  chain-length (chain h k o) e = omega arith
-
   -- an answer's length is 0 where there is no chain, and only there
   pub found-or-none : {r : Found} → Answered g t r → ((r .length ≡ 0 → ⊥) × ((c : List ℕ) × Chain g t c)) ⊎ ((r .length ≡ 0) × ((c : List ℕ) → Chain g t c → ⊥))
-  found-or-none (found c b l p) = inl (λ e. chain-length (b .good) (sym l ∙ e), (c, b .good))
+  found-or-none (found c b l p) = inl (λ e. omega (arith, l, two-places (b .good)), (c, b .good))
   found-or-none (none f l) = inr (l .empty, f)
 
 -- the best chain fits the slots
