@@ -36,9 +36,6 @@ returns : tie.Need-returns Inv-loop μ-loop
 unfolding oidGood
 returns c = simp (eq-eqb _ _ (c .if1 .taken))
 
-three-low-requires : tie.Need-three-low-requires Inv-loop μ-loop
-three-low-requires c κs = search needs
-
 returns-2 : tie.Need-returns-2 Inv-loop μ-loop
 returns-2 c = sym (c .before .three-low .ensures (c .if2 .taken))
 
@@ -112,7 +109,7 @@ oid-good-spec =
     Inv-loop
     μ-loop
     returns
-    three-low-requires
+    (λ c κs. search needs)
     returns-2
     shared-slice-read-if3
     returns-3

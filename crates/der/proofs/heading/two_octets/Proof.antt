@@ -11,17 +11,11 @@ returns : tie.Need-returns
 unfolding long
 returns c = simp (lt-leb _ _ (c .if1 .taken))
 
-shared-slice-read-size : tie.Need-shared-slice-read-size
-shared-slice-read-size c = search needs
-
 cast-size : tie.Need-cast-size
 cast-size c = omega (arith, c .shared-slice-known2 .given 2)
 
 mul-size : tie.Need-mul-size
 mul-size c = omega (arith, c .shared-slice-known2 .given 2)
-
-shared-slice-read-size-2 : tie.Need-shared-slice-read-size-2
-shared-slice-read-size-2 c = search needs
 
 cast-size-2 : tie.Need-cast-size-2
 cast-size-2 c = omega (arith, c .shared-slice-known3 .given 3)
@@ -38,9 +32,6 @@ returns-2 c =
       lt-leb _ _ (c .if2 .taken),
     )
 
-ending-requires : tie.Need-ending-requires
-ending-requires c κs = search needs
-
 returns-3 : tie.Need-returns-3
 unfolding long smallest
 returns-3 c =
@@ -55,12 +46,12 @@ two-octets-spec =
     tie.close
     (tie.spec
     returns
-    shared-slice-read-size
+    (λ c. search needs)
     cast-size
     mul-size
-    shared-slice-read-size-2
+    (λ c. search needs)
     cast-size-2
     add-size
     returns-2
-    ending-requires
+    (λ c κs. search needs)
     returns-3)

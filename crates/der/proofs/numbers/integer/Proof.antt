@@ -16,27 +16,9 @@ use Rattle.der.proofs.Bounds.{heading-within}
 use Rattle.der.proofs.numbers.integer.Statement.{statement}
 use Rattle.der.proofs.numbers.integer.Tie as tie
 
-walk-requires : tie.Need-walk-requires
-walk-requires c κs = search needs
-
-enum-known-refusal : tie.Need-enum-known-refusal
-enum-known-refusal c = search needs
-
 returns : tie.Need-returns
 unfolding integerOf asked
 returns c = simp (sym (c .before .before .before .walk .ensures .0) ∙ c .before .refusal .given .1)
-
-enum-told : tie.Need-enum-told
-enum-told c = search needs
-
-header-requires : tie.Need-header-requires
-header-requires c κs = search needs
-
-enum-known-tag : tie.Need-enum-known-tag
-enum-known-tag c = search needs
-
-enum-told-2 : tie.Need-enum-told-2
-enum-told-2 c = search needs
 
 returns-2 : tie.Need-returns-2
 unfolding integerOf asked held
@@ -80,17 +62,8 @@ returns-4 c = simp (told (c .before .before), eq-eqb _ _ (c .before .if1 .left),
 add-end : tie.Need-add-end
 add-end c = omega (arith, inside (c .before .before))
 
-sub-signed : tie.Need-sub-signed
-sub-signed c = search needs
-
-part-signed-start : tie.Need-part-signed-start
-part-signed-start c = search needs
-
 part-signed-end : tie.Need-part-signed-end
 part-signed-end c = inside (c .before .before)
-
-signed-requires : tie.Need-signed-requires
-signed-requires c κs = search needs
 
 returns-5 : tie.Need-returns-5
 unfolding held
@@ -108,19 +81,19 @@ pub integer-spec : {M : Type 1} → statement M
 integer-spec =
     tie.close
     (tie.spec
-    walk-requires
-    enum-known-refusal
+    (λ c κs. search needs)
+    (λ c. search needs)
     returns
-    enum-told
-    header-requires
-    enum-known-tag
-    enum-told-2
+    (λ c. search needs)
+    (λ c κs. search needs)
+    (λ c. search needs)
+    (λ c. search needs)
     returns-2
     returns-3
     returns-4
     add-end
-    sub-signed
-    part-signed-start
+    (λ c. search needs)
+    (λ c. search needs)
     part-signed-end
-    signed-requires
+    (λ c κs. search needs)
     returns-5)

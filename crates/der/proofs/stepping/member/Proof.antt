@@ -20,18 +20,6 @@ returns-2 : tie.Need-returns-2
 unfolding memberOf
 returns-2 c = simp (le-leb _ _ (c .before .if1 .left), lt-leb _ _ (c .if2 .taken))
 
-part-header-start : tie.Need-part-header-start
-part-header-start c = search needs
-
-part-header-end : tie.Need-part-header-end
-part-header-end c = search needs
-
-header-requires : tie.Need-header-requires
-header-requires c κs = search needs
-
-enum-known-tag : tie.Need-enum-known-tag
-enum-known-tag c = search needs
-
 -- the element ends within the part
 ended : (c : tie.After-known-told) →
     let a = c .before .before .before .before .before .before .before .before .args in
@@ -48,9 +36,6 @@ add-contents c = omega (arith, ended c)
 
 add-after : tie.Need-add-after
 add-after c = omega (arith, ended c)
-
-enum-told : tie.Need-enum-told
-enum-told c = search needs
 
 returns-3 : tie.Need-returns-3
 unfolding memberOf placed
@@ -76,12 +61,12 @@ member-spec =
     (tie.spec
     returns
     returns-2
-    part-header-start
-    part-header-end
-    header-requires
-    enum-known-tag
+    (λ c. search needs)
+    (λ c. search needs)
+    (λ c κs. search needs)
+    (λ c. search needs)
     add-contents
     add-after
-    enum-told
+    (λ c. search needs)
     returns-3
     returns-4)

@@ -42,106 +42,81 @@ list-at t = and 1 list-kinds.ps (is 1 list-kinds.ps μ-list t) list.Pre
 abbrev list-below : ℕ → In 1 list-kinds.ps
 list-below t = and 1 list-kinds.ps (falls 1 list-kinds.ps _<_ μ-list t) list.Pre
 
--- src/walking.rt:47:47
 element-header-requires : (t : ℕ) → element-lts.Need-header-requires (header-reads.Asked, header-reads.Learnt, list-below t, list.Post, contents-good-reads.Asked, contents-good-reads.Learnt) (element-at t) element.Post
 element-header-requires t c κs = search needs
 
--- src/walking.rt:47:27
 element-enum-known-tag : (t : ℕ) → element-lts.Need-enum-known-tag (header-reads.Asked, header-reads.Learnt, list-below t, list.Post, contents-good-reads.Asked, contents-good-reads.Learnt) (element-at t) element.Post
 element-enum-known-tag t c = search needs
 
--- src/walking.rt:48:28
 element-enum-told : (t : ℕ) → element-lts.Need-enum-told (header-reads.Asked, header-reads.Learnt, list-below t, list.Post, contents-good-reads.Asked, contents-good-reads.Learnt) (element-at t) element.Post
 element-enum-told t c = search needs
 
--- src/walking.rt:48:9
 element-returns : (t : ℕ) → element-lts.Need-returns (header-reads.Asked, header-reads.Learnt, list-below t, list.Post, contents-good-reads.Asked, contents-good-reads.Learnt) (element-at t) element.Post
 element-returns t c = bad-is paper (c .before .before .before .before .args .s .now) (c .before .before .before .before .args .base) (c .before .before .before .before .args .depth) (c .before .before .before .before .args .count) (sym (c .before .before .header .ensures) ∙ c .enum-told .given .1)
 
--- src/walking.rt:51:9
 element-returns-2 : (t : ℕ) → element-lts.Need-returns-2 (header-reads.Asked, header-reads.Learnt, list-below t, list.Post, contents-good-reads.Asked, contents-good-reads.Learnt) (element-at t) element.Post
 element-returns-2 t c = deep-is paper (c .before .before .before .before .before .before .args .s .now) (c .before .before .before .before .before .before .args .base) (c .before .before .before .before .before .before .args .depth) (c .before .before .before .before .before .before .args .count) (sym (c .before .before .before .before .header .ensures) ∙ c .before .before .tag .given .1) (c .if1 .taken)
 
--- src/walking.rt:54:9
 element-returns-3 : (t : ℕ) → element-lts.Need-returns-3 (header-reads.Asked, header-reads.Learnt, list-below t, list.Post, contents-good-reads.Asked, contents-good-reads.Learnt) (element-at t) element.Post
 element-returns-3 t c = many-is paper (c .before .before .before .before .before .before .before .args .s .now) (c .before .before .before .before .before .before .before .args .base) (c .before .before .before .before .before .before .before .args .depth) (c .before .before .before .before .before .before .before .args .count) (sym (c .before .before .before .before .before .header .ensures) ∙ c .before .before .before .tag .given .1) (c .before .if1 .left) (c .if2 .taken)
 
--- src/walking.rt:56:15
 element-add-end : (t : ℕ) → element-lts.Need-add-end (header-reads.Asked, header-reads.Learnt, list-below t, list.Post, contents-good-reads.Asked, contents-good-reads.Learnt) (element-at t) element.Post
 element-add-end t c = omega (arith, heading-within paper (c .before .before .before .before .before .before .before .args .s .now) _ _ _ (sym (c .before .before .before .before .before .header .ensures) ∙ c .before .before .before .tag .given .1))
 
--- src/walking.rt:58:27
 element-sub-list : (t : ℕ) → element-lts.Need-sub-list (header-reads.Asked, header-reads.Learnt, list-below t, list.Post, contents-good-reads.Asked, contents-good-reads.Learnt) (element-at t) element.Post
 element-sub-list t c = search needs
 
--- src/walking.rt:58:27
 element-part-list-start : (t : ℕ) → element-lts.Need-part-list-start (header-reads.Asked, header-reads.Learnt, list-below t, list.Post, contents-good-reads.Asked, contents-good-reads.Learnt) (element-at t) element.Post
 element-part-list-start t c = search needs
 
--- src/walking.rt:58:27
 element-part-list-end : (t : ℕ) → element-lts.Need-part-list-end (header-reads.Asked, header-reads.Learnt, list-below t, list.Post, contents-good-reads.Asked, contents-good-reads.Learnt) (element-at t) element.Post
 element-part-list-end t c = omega (arith, heading-within paper (c .before .before .before .before .before .before .before .before .args .s .now) _ _ _ (sym (c .before .before .before .before .before .before .header .ensures) ∙ c .before .before .before .before .tag .given .1))
 
--- src/walking.rt:58:42
 element-add-list : (t : ℕ) → element-lts.Need-add-list (header-reads.Asked, header-reads.Learnt, list-below t, list.Post, contents-good-reads.Asked, contents-good-reads.Learnt) (element-at t) element.Post
 element-add-list t c = omega (arith, heading-within paper (c .before .before .before .before .before .before .before .before .before .args .s .now) _ _ _ (sym (c .before .before .before .before .before .before .before .header .ensures) ∙ c .before .before .before .before .before .tag .given .1))
 
--- src/walking.rt:58:55
 element-add-list-2 : (t : ℕ) → element-lts.Need-add-list-2 (header-reads.Asked, header-reads.Learnt, list-below t, list.Post, contents-good-reads.Asked, contents-good-reads.Learnt) (element-at t) element.Post
 element-add-list-2 t c = search needs
 
--- src/walking.rt:58:66
 element-add-list-3 : (t : ℕ) → element-lts.Need-add-list-3 (header-reads.Asked, header-reads.Learnt, list-below t, list.Post, contents-good-reads.Asked, contents-good-reads.Learnt) (element-at t) element.Post
 element-add-list-3 t c = search needs
 
--- src/walking.rt:58:22
 element-list-requires : (t : ℕ) → element-lts.Need-list-requires (header-reads.Asked, header-reads.Learnt, list-below t, list.Post, contents-good-reads.Asked, contents-good-reads.Learnt) (element-at t) element.Post
 element-list-requires t c κs = let mu : 2 * length (c .before .before .before .before .before .before .before .before .before .args .s .now) ≡ t = c .before .before .before .before .before .before .before .before .before .pre .0 in omega (arith, heading-within paper (c .before .before .before .before .before .before .before .before .before .args .s .now) _ _ _ (sym (c .before .before .before .before .before .before .before .header .ensures) ∙ c .before .before .before .before .before .tag .given .1), length-take (c .before .before .before .before .before .tag .given .0 .1 .0 + c .before .before .before .before .before .tag .given .0 .1 .1 .0 - c .before .before .before .before .before .tag .given .0 .1 .0) (drop (c .before .before .before .before .before .tag .given .0 .1 .0) (c .before .before .before .before .before .before .before .before .before .args .s .now)), length-drop (c .before .before .before .before .before .tag .given .0 .1 .0) (c .before .before .before .before .before .before .before .before .before .args .s .now))
 
--- src/walking.rt:59:29
 element-enum-known-refusal : (t : ℕ) → element-lts.Need-enum-known-refusal (header-reads.Asked, header-reads.Learnt, list-below t, list.Post, contents-good-reads.Asked, contents-good-reads.Learnt) (element-at t) element.Post
 element-enum-known-refusal t c = search needs
 
--- src/walking.rt:60:30
 element-enum-known-count : (t : ℕ) → element-lts.Need-enum-known-count (header-reads.Asked, header-reads.Learnt, list-below t, list.Post, contents-good-reads.Asked, contents-good-reads.Learnt) (element-at t) element.Post
 element-enum-known-count t c = search needs
 
--- src/walking.rt:58:9
 element-returns-4 : (t : ℕ) → element-lts.Need-returns-4 (header-reads.Asked, header-reads.Learnt, list-below t, list.Post, contents-good-reads.Asked, contents-good-reads.Learnt) (element-at t) element.Post
 unfolding constructed filled
 element-returns-4 t c = node-is paper (c .before .before .before .before .before .before .before .before .before .before .before .before .before .args .s .now) (c .before .before .before .before .before .before .before .before .before .before .before .before .before .args .base) (c .before .before .before .before .before .before .before .before .before .before .before .before .before .args .depth) (c .before .before .before .before .before .before .before .before .before .before .before .before .before .args .count) (sym (c .before .before .before .before .before .before .before .before .before .before .before .header .ensures) ∙ c .before .before .before .before .before .before .before .before .before .tag .given .1) (c .before .before .before .before .before .before .before .if1 .left) (c .before .before .before .before .before .before .if2 .left) (eq-eqb _ _ (c .before .before .before .before .before .if3 .taken)) (λ fuel h. sym (c .before .refusal .given .1) ∙ c .before .before .before .list .ensures fuel h)
 
--- src/walking.rt:58:9
 element-returns-5 : (t : ℕ) → element-lts.Need-returns-5 (header-reads.Asked, header-reads.Learnt, list-below t, list.Post, contents-good-reads.Asked, contents-good-reads.Learnt) (element-at t) element.Post
 unfolding constructed filled
 element-returns-5 t c = node-is paper (c .before .before .before .before .before .before .before .before .before .before .before .before .before .args .s .now) (c .before .before .before .before .before .before .before .before .before .before .before .before .before .args .base) (c .before .before .before .before .before .before .before .before .before .before .before .before .before .args .depth) (c .before .before .before .before .before .before .before .before .before .before .before .before .before .args .count) (sym (c .before .before .before .before .before .before .before .before .before .before .before .header .ensures) ∙ c .before .before .before .before .before .before .before .before .before .tag .given .1) (c .before .before .before .before .before .before .before .if1 .left) (c .before .before .before .before .before .before .if2 .left) (eq-eqb _ _ (c .before .before .before .before .before .if3 .taken)) (λ fuel h. sym (c .before .count .given .1) ∙ c .before .before .before .list .ensures fuel h)
 
--- src/walking.rt:63:27
 element-sub-contents-good : (t : ℕ) → element-lts.Need-sub-contents-good (header-reads.Asked, header-reads.Learnt, list-below t, list.Post, contents-good-reads.Asked, contents-good-reads.Learnt) (element-at t) element.Post
 element-sub-contents-good t c = search needs
 
--- src/walking.rt:63:27
 element-part-contents-good-start : (t : ℕ) → element-lts.Need-part-contents-good-start (header-reads.Asked, header-reads.Learnt, list-below t, list.Post, contents-good-reads.Asked, contents-good-reads.Learnt) (element-at t) element.Post
 element-part-contents-good-start t c = search needs
 
--- src/walking.rt:63:27
 element-part-contents-good-end : (t : ℕ) → element-lts.Need-part-contents-good-end (header-reads.Asked, header-reads.Learnt, list-below t, list.Post, contents-good-reads.Asked, contents-good-reads.Learnt) (element-at t) element.Post
 element-part-contents-good-end t c = omega (arith, heading-within paper (c .before .before .before .before .before .before .before .before .args .s .now) _ _ _ (sym (c .before .before .before .before .before .before .header .ensures) ∙ c .before .before .before .before .tag .given .1))
 
--- src/walking.rt:63:8
 element-contents-good-requires : (t : ℕ) → element-lts.Need-contents-good-requires (header-reads.Asked, header-reads.Learnt, list-below t, list.Post, contents-good-reads.Asked, contents-good-reads.Learnt) (element-at t) element.Post
 element-contents-good-requires t c κs = search needs
 
--- src/walking.rt:64:47
 element-add-t32 : (t : ℕ) → element-lts.Need-add-t32 (header-reads.Asked, header-reads.Learnt, list-below t, list.Post, contents-good-reads.Asked, contents-good-reads.Learnt) (element-at t) element.Post
 element-add-t32 t c = search needs
 
--- src/walking.rt:64:9
 element-returns-6 : (t : ℕ) → element-lts.Need-returns-6 (header-reads.Asked, header-reads.Learnt, list-below t, list.Post, contents-good-reads.Asked, contents-good-reads.Learnt) (element-at t) element.Post
 unfolding constructed filled
 element-returns-6 t c = leaf-is paper (c .before .before .before .before .before .before .before .before .before .before .before .args .s .now) (c .before .before .before .before .before .before .before .before .before .before .before .args .base) (c .before .before .before .before .before .before .before .before .before .before .before .args .depth) (c .before .before .before .before .before .before .before .before .before .before .before .args .count) (sym (c .before .before .before .before .before .before .before .before .before .header .ensures) ∙ c .before .before .before .before .before .before .before .tag .given .1) (c .before .before .before .before .before .if1 .left) (c .before .before .before .before .if2 .left) (ne-eqb _ _ (c .before .before .before .if3 .left)) (sym (c .before .contents-good .ensures) ∙ c .if4 .taken)
 
--- src/walking.rt:43:1
 element-returns-7 : (t : ℕ) → element-lts.Need-returns-7 (header-reads.Asked, header-reads.Learnt, list-below t, list.Post, contents-good-reads.Asked, contents-good-reads.Learnt) (element-at t) element.Post
 unfolding constructed filled
 element-returns-7 t c = spoilt-is paper (c .before .before .before .before .before .before .before .before .before .before .before .args .s .now) (c .before .before .before .before .before .before .before .before .before .before .before .args .base) (c .before .before .before .before .before .before .before .before .before .before .before .args .depth) (c .before .before .before .before .before .before .before .before .before .before .before .args .count) (sym (c .before .before .before .before .before .before .before .before .before .header .ensures) ∙ c .before .before .before .before .before .before .before .tag .given .1) (c .before .before .before .before .before .if1 .left) (c .before .before .before .before .if2 .left) (ne-eqb _ _ (c .before .before .before .if3 .left)) (sym (c .before .contents-good .ensures) ∙ c .if4 .left)
@@ -152,55 +127,42 @@ list-Inv-loop s base depth count at₀ read₀ at read = (at ≤ length s) × (r
 abbrev list-μ-loop : list-lts.MeasureT-loop
 list-μ-loop s base depth count at₀ read₀ at read = length s - at
 
--- src/walking.rt:76:5
 list-loop-holds : (t : ℕ) → list-lts.Need-loop-holds (element-below t, element.Post) (list-at t) list.Post list-Inv-loop list-μ-loop
 list-loop-holds t c = (omega arith, omega arith, left-first paper (c .before .args .s .now) (c .before .args .base) (c .before .args .depth) (c .before .args .count))
 
--- src/walking.rt:77:23
 list-sub-element : (t : ℕ) → list-lts.Need-sub-element (element-below t, element.Post) (list-at t) list.Post list-Inv-loop list-μ-loop
 list-sub-element t c = search needs
 
--- src/walking.rt:77:23
 list-part-element-start : (t : ℕ) → list-lts.Need-part-element-start (element-below t, element.Post) (list-at t) list.Post list-Inv-loop list-μ-loop
 list-part-element-start t c = search needs
 
--- src/walking.rt:77:23
 list-part-element-end : (t : ℕ) → list-lts.Need-part-element-end (element-below t, element.Post) (list-at t) list.Post list-Inv-loop list-μ-loop
 list-part-element-end t c = search needs
 
--- src/walking.rt:77:33
 list-add-element : (t : ℕ) → list-lts.Need-add-element (element-below t, element.Post) (list-at t) list.Post list-Inv-loop list-μ-loop
 list-add-element t c = search needs
 
--- src/walking.rt:77:15
 list-element-requires : (t : ℕ) → list-lts.Need-element-requires (element-below t, element.Post) (list-at t) list.Post list-Inv-loop list-μ-loop
 list-element-requires t c κs = let mu : 2 * length (c .before .before .before .before .args .s .now) + 1 ≡ t = c .before .before .before .before .pre .0 in omega (arith, length-take (length (c .before .before .before .before .args .s .now) - c .before .before .loop .at) (drop (c .before .before .loop .at) (c .before .before .before .before .args .s .now)), length-drop (c .before .before .loop .at) (c .before .before .before .before .args .s .now))
 
--- src/walking.rt:78:25
 list-enum-known-refusal : (t : ℕ) → list-lts.Need-enum-known-refusal (element-below t, element.Post) (list-at t) list.Post list-Inv-loop list-μ-loop
 list-enum-known-refusal t c = search needs
 
--- src/walking.rt:78:37
 list-returns : (t : ℕ) → list-lts.Need-returns (element-below t, element.Post) (list-at t) list.Post list-Inv-loop list-μ-loop
 list-returns t c = left-fault paper (c .before .before .before .before .before .before .before .before .args .s .now) (c .before .before .before .before .before .before .before .before .args .base) (c .before .before .before .before .before .before .before .before .args .depth) (c .before .before .before .before .before .before .before .before .args .count) (c .before .before .before .before .before .before .loop .at) (c .before .before .before .before .before .before .loop .read) (c .before .before .before .before .before .loop-test .taken) (c .before .before .before .before .before .before .loop .inv .2) (λ fuel h. sym (c .before .refusal .given .1) ∙ c .before .before .before .element .ensures fuel h)
 
--- src/walking.rt:79:26
 list-enum-known-used : (t : ℕ) → list-lts.Need-enum-known-used (element-below t, element.Post) (list-at t) list.Post list-Inv-loop list-μ-loop
 list-enum-known-used t c = search needs
 
--- src/walking.rt:80:17
 list-add-at : (t : ℕ) → list-lts.Need-add-at (element-below t, element.Post) (list-at t) list.Post list-Inv-loop list-μ-loop
 list-add-at t c = omega (arith, read-within paper (c .before .before .before .before .before .before .before .before .args .s .now) (c .before .before .before .before .before .before .before .before .args .base) (c .before .before .before .before .before .before .before .before .args .depth) (c .before .before .before .before .before .before .before .before .args .count) (c .before .before .before .before .before .before .loop .at) (c .before .before .before .before .before .before .loop .read) (c .before .before .before .before .before .loop-test .taken) (c .before .before .before .before .before .before .loop .inv .2) (λ fuel h. sym (c .before .used .given .1) ∙ c .before .before .before .element .ensures fuel h))
 
--- src/walking.rt:76:5
 list-loop-less : (t : ℕ) → list-lts.Need-loop-less (element-below t, element.Post) (list-at t) list.Post list-Inv-loop list-μ-loop
 list-loop-less t c = omega (arith, read-within paper (c .before .before .before .before .before .before .before .before .args .s .now) (c .before .before .before .before .before .before .before .before .args .base) (c .before .before .before .before .before .before .before .before .args .depth) (c .before .before .before .before .before .before .before .before .args .count) (c .before .before .before .before .before .before .loop .at) (c .before .before .before .before .before .before .loop .read) (c .before .before .before .before .before .loop-test .taken) (c .before .before .before .before .before .before .loop .inv .2) (λ fuel h. sym (c .before .used .given .1) ∙ c .before .before .before .element .ensures fuel h))
 
--- src/walking.rt:76:5
 list-loop-again : (t : ℕ) → list-lts.Need-loop-again (element-below t, element.Post) (list-at t) list.Post list-Inv-loop list-μ-loop
 list-loop-again t c = (read-within paper (c .before .before .before .before .before .before .before .before .args .s .now) (c .before .before .before .before .before .before .before .before .args .base) (c .before .before .before .before .before .before .before .before .args .depth) (c .before .before .before .before .before .before .before .before .args .count) (c .before .before .before .before .before .before .loop .at) (c .before .before .before .before .before .before .loop .read) (c .before .before .before .before .before .loop-test .taken) (c .before .before .before .before .before .before .loop .inv .2) (λ fuel h. sym (c .before .used .given .1) ∙ c .before .before .before .element .ensures fuel h) .1, read-within paper (c .before .before .before .before .before .before .before .before .args .s .now) (c .before .before .before .before .before .before .before .before .args .base) (c .before .before .before .before .before .before .before .before .args .depth) (c .before .before .before .before .before .before .before .before .args .count) (c .before .before .before .before .before .before .loop .at) (c .before .before .before .before .before .before .loop .read) (c .before .before .before .before .before .loop-test .taken) (c .before .before .before .before .before .before .loop .inv .2) (λ fuel h. sym (c .before .used .given .1) ∙ c .before .before .before .element .ensures fuel h) .2, left-next paper (c .before .before .before .before .before .before .before .before .args .s .now) (c .before .before .before .before .before .before .before .before .args .base) (c .before .before .before .before .before .before .before .before .args .depth) (c .before .before .before .before .before .before .before .before .args .count) (c .before .before .before .before .before .before .loop .at) (c .before .before .before .before .before .before .loop .read) (c .before .before .before .before .before .loop-test .taken) (c .before .before .before .before .before .before .loop .inv .2) (λ fuel h. sym (c .before .used .given .1) ∙ c .before .before .before .element .ensures fuel h))
 
--- src/walking.rt:70:1
 list-returns-2 : (t : ℕ) → list-lts.Need-returns-2 (element-below t, element.Post) (list-at t) list.Post list-Inv-loop list-μ-loop
 list-returns-2 t c = left-none paper (c .before .before .before .args .s .now) (c .before .before .before .args .base) (c .before .before .before .args .depth) (c .before .before .before .args .count) (c .loop-test .left) (c .before .loop .inv .2)
 

@@ -16,41 +16,14 @@ use Rattle.der.proofs.walking.leaves.Reads as leaves-reads
 add-from : tie.Need-add-from
 add-from c = omega arith
 
-add-read : tie.Need-add-read
-add-read c = search needs
-
-shared-slice-read-if1 : tie.Need-shared-slice-read-if1
-shared-slice-read-if1 c = search needs
-
-double-requires : tie.Need-double-requires
-double-requires c κs = search needs
-
 returns : tie.Need-returns
 returns c = λ some depth shallow base fuel enough. absurd (omega arith)
-
-add-from-2 : tie.Need-add-from-2
-add-from-2 c = search needs
-
-add-read-2 : tie.Need-add-read-2
-add-read-2 c = search needs
-
-add-size : tie.Need-add-size
-add-size c = search needs
-
-shared-slice-read-size : tie.Need-shared-slice-read-size
-shared-slice-read-size c = search needs
 
 cast-size : tie.Need-cast-size
 cast-size c = omega (arith, c .shared-slice-known3 .given (c .before .before .before .before .args .i + 1))
 
 returns-2 : tie.Need-returns-2
 returns-2 c = λ some depth shallow base fuel enough. absurd (omega arith)
-
-add-after : tie.Need-add-after
-add-after c = search needs
-
-add-after-2 : tie.Need-add-after-2
-add-after-2 c = search needs
 
 returns-3 : tie.Need-returns-3
 returns-3 c = λ some depth shallow base fuel enough. absurd (omega arith)
@@ -71,18 +44,18 @@ flat-spec =
     tie.close
     (tie.spec
     add-from
-    add-read
-    shared-slice-read-if1
-    double-requires
+    (λ c. search needs)
+    (λ c. search needs)
+    (λ c κs. search needs)
     returns
-    add-from-2
-    add-read-2
-    add-size
-    shared-slice-read-size
+    (λ c. search needs)
+    (λ c. search needs)
+    (λ c. search needs)
+    (λ c. search needs)
     cast-size
     returns-2
-    add-after
-    add-after-2
+    (λ c. search needs)
+    (λ c. search needs)
     returns-3
     leaves-requires
     returns-4)

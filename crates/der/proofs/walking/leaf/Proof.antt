@@ -43,35 +43,14 @@ answer s i e two near inside octet leaf = (
 add-size : tie.Need-add-size
 add-size c = omega arith
 
-shared-slice-read-size : tie.Need-shared-slice-read-size
-shared-slice-read-size c = search needs
-
 cast-size : tie.Need-cast-size
 cast-size c = omega (arith, c .shared-slice-known2 .given (c .before .before .args .i + 1))
-
-add-from : tie.Need-add-from
-add-from c = search needs
 
 add-after : tie.Need-add-after
 add-after c = omega (arith, c .shared-slice-known2 .given (c .before .before .args .i + 1))
 
-shared-slice-read-tag : tie.Need-shared-slice-read-tag
-shared-slice-read-tag c = search needs
-
 returns : tie.Need-returns
 returns c = (least _, λ some. none some)
-
-sub-oid-good : tie.Need-sub-oid-good
-sub-oid-good c = search needs
-
-part-oid-good-start : tie.Need-part-oid-good-start
-part-oid-good-start c = search needs
-
-part-oid-good-end : tie.Need-part-oid-good-end
-part-oid-good-end c = search needs
-
-oid-good-requires : tie.Need-oid-good-requires
-oid-good-requires c κs = search needs
 
 returns-2 : tie.Need-returns-2
 returns-2 c =
@@ -84,18 +63,6 @@ returns-3 c = (least _, λ some. none some)
 returns-4 : tie.Need-returns-4
 returns-4 c = (least _, λ some. none some)
 
-sub-integer-good : tie.Need-sub-integer-good
-sub-integer-good c = search needs
-
-part-integer-good-start : tie.Need-part-integer-good-start
-part-integer-good-start c = search needs
-
-part-integer-good-end : tie.Need-part-integer-good-end
-part-integer-good-end c = search needs
-
-integer-good-requires : tie.Need-integer-good-requires
-integer-good-requires c κs = search needs
-
 returns-5 : tie.Need-returns-5
 returns-5 c =
     answer (c .before .before .before .before .before .before .before .before .before .args .s .now) (c .before .before .before .before .before .before .before .before .before .args .i) (c .before .before .before .before .before .before .before .before .before .args .end) (c .before .before .before .before .before .before .before .before .before .pre .0) (c .before .before .before .before .before .before .before .before .before .pre .1) (c .before .before .before .before .before .before .before .before .before .pre .2) (c .before .before .before .before .before .before .before .shared-slice-known2 .given (c .before .before .before .before .before .before .before .before .before .args .i + 1) .fits)
@@ -104,9 +71,6 @@ returns-5 c =
 returns-6 : tie.Need-returns-6
 returns-6 c = (least _, λ some. none some)
 
-plain-requires : tie.Need-plain-requires
-plain-requires c κs = search needs
-
 returns-7 : tie.Need-returns-7
 returns-7 c =
     answer (c .before .before .before .before .before .before .before .args .s .now) (c .before .before .before .before .before .before .before .args .i) (c .before .before .before .before .before .before .before .args .end) (c .before .before .before .before .before .before .before .pre .0) (c .before .before .before .before .before .before .before .pre .1) (c .before .before .before .before .before .before .before .pre .2) (c .before .before .before .before .before .shared-slice-known2 .given (c .before .before .before .before .before .before .before .args .i + 1) .fits)
@@ -114,18 +78,6 @@ returns-7 c =
 
 returns-8 : tie.Need-returns-8
 returns-8 c = (least _, λ some. none some)
-
-sub-boolean-good : tie.Need-sub-boolean-good
-sub-boolean-good c = search needs
-
-part-boolean-good-start : tie.Need-part-boolean-good-start
-part-boolean-good-start c = search needs
-
-part-boolean-good-end : tie.Need-part-boolean-good-end
-part-boolean-good-end c = search needs
-
-boolean-good-requires : tie.Need-boolean-good-requires
-boolean-good-requires c κs = search needs
 
 returns-9 : tie.Need-returns-9
 returns-9 c =
@@ -151,32 +103,32 @@ leaf-spec =
     tie.close
     (tie.spec
     add-size
-    shared-slice-read-size
+    (λ c. search needs)
     cast-size
-    add-from
+    (λ c. search needs)
     add-after
-    shared-slice-read-tag
+    (λ c. search needs)
     returns
-    sub-oid-good
-    part-oid-good-start
-    part-oid-good-end
-    oid-good-requires
+    (λ c. search needs)
+    (λ c. search needs)
+    (λ c. search needs)
+    (λ c κs. search needs)
     returns-2
     returns-3
     returns-4
-    sub-integer-good
-    part-integer-good-start
-    part-integer-good-end
-    integer-good-requires
+    (λ c. search needs)
+    (λ c. search needs)
+    (λ c. search needs)
+    (λ c κs. search needs)
     returns-5
     returns-6
-    plain-requires
+    (λ c κs. search needs)
     returns-7
     returns-8
-    sub-boolean-good
-    part-boolean-good-start
-    part-boolean-good-end
-    boolean-good-requires
+    (λ c. search needs)
+    (λ c. search needs)
+    (λ c. search needs)
+    (λ c κs. search needs)
     returns-9
     returns-10
     returns-11

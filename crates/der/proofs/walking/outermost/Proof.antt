@@ -17,51 +17,18 @@ use Rattle.der.proofs.walking.outermost.Lts as lts
 use Rattle.der.proofs.heading.header.Reads as header-reads
 use Rattle.der.proofs.walking.sound.Reads as sound-reads
 
--- src/walking.rt:108:47
-header-requires : tie.Need-header-requires
-header-requires c κs = search needs
-
--- src/walking.rt:108:27
-enum-known-tag : tie.Need-enum-known-tag
-enum-known-tag c = search needs
-
--- src/walking.rt:109:9
-enum-told : tie.Need-enum-told
-enum-told c = search needs
-
--- src/walking.rt:109:9
 returns : tie.Need-returns
 returns c = λ some fuel enough. absurd (omega arith)
 
--- src/walking.rt:112:9
 returns-2 : tie.Need-returns-2
 returns-2 c = λ some fuel enough. absurd (omega arith)
 
--- src/walking.rt:114:15
 add-end : tie.Need-add-end
 add-end c = omega (arith, heading-within paper (c .before .before .before .before .before .before .args .item .now) _ _ _ (sym (c .before .before .before .before .header .ensures) ∙ c .before .before .tag .given .1))
 
--- src/walking.rt:116:9
 returns-3 : tie.Need-returns-3
 returns-3 c = λ some fuel enough. absurd (omega arith)
 
--- src/walking.rt:118:11
-sub-sound : tie.Need-sub-sound
-sub-sound c = search needs
-
--- src/walking.rt:118:11
-part-sound-start : tie.Need-part-sound-start
-part-sound-start c = search needs
-
--- src/walking.rt:118:11
-part-sound-end : tie.Need-part-sound-end
-part-sound-end c = search needs
-
--- src/walking.rt:118:5
-sound-requires : tie.Need-sound-requires
-sound-requires c κs = search needs
-
--- src/walking.rt:104:1
 returns-4 : tie.Need-returns-4
 unfolding constructed filled
 returns-4 c = λ some.
@@ -72,15 +39,15 @@ pub outermost-spec : {M : Type 1} → statement M
 outermost-spec =
     tie.close
     (tie.spec
-    header-requires
-    enum-known-tag
-    enum-told
+    (λ c κs. search needs)
+    (λ c. search needs)
+    (λ c. search needs)
     returns
     returns-2
     add-end
     returns-3
-    sub-sound
-    part-sound-start
-    part-sound-end
-    sound-requires
+    (λ c. search needs)
+    (λ c. search needs)
+    (λ c. search needs)
+    (λ c κs. search needs)
     returns-4)

@@ -21,9 +21,6 @@ Inv-loop s ends₀ top₀ i₀ read₀ ends top i read = Open s ends top i read 
 abbrev μ-loop : tie.MeasureT-loop
 μ-loop s ends₀ top₀ i₀ read₀ ends top i read = 2 * (length s - i) + top
 
-array-write-ends : tie.Need-array-write-ends Inv-loop μ-loop
-array-write-ends c = search needs
-
 none : {A : Type 0} → 0 < 0 → A
 none h = absurd ((omega arith))
 
@@ -42,12 +39,6 @@ passed i size = omega arith
 
 loop-holds : tie.Need-loop-holds Inv-loop μ-loop
 loop-holds c = (open-start _, omega arith)
-
-mul-end : tie.Need-mul-end Inv-loop μ-loop
-mul-end c = search needs
-
-array-read-end : tie.Need-array-read-end Inv-loop μ-loop
-array-read-end c = search needs
 
 add-if1 : tie.Need-add-if1 Inv-loop μ-loop
 add-if1 c = omega (arith, open-end (c .loop .inv .0), c .before .before .pre)
@@ -103,15 +94,6 @@ part-header-start c = omega (arith, open-end (c .before .before .before .before 
 part-header-end : tie.Need-part-header-end Inv-loop μ-loop
 part-header-end c = omega (arith, open-end (c .before .before .before .before .loop .inv .0))
 
-header-requires : tie.Need-header-requires Inv-loop μ-loop
-header-requires c κs = search needs
-
-enum-known-tag : tie.Need-enum-known-tag Inv-loop μ-loop
-enum-known-tag c = search needs
-
-enum-told : tie.Need-enum-told Inv-loop μ-loop
-enum-told c = search needs
-
 returns-4 : tie.Need-returns-4 Inv-loop μ-loop
 returns-4 c = λ some. none some
 
@@ -121,20 +103,11 @@ add-from c = omega (arith, c .before .before .before .before .before .before .be
 add-after : tie.Need-add-after Inv-loop μ-loop
 add-after c = omega (arith, c .before .before .before .before .before .before .before .before .before .before .before .pre, open-end (c .before .before .before .before .before .before .before .before .before .loop .inv .0), open-head _ _ _ _ (c .before .before .before .before .before .before .before .before .before .loop .inv .0) (wide _ _ (c .before .before .before .before .before .before .before .before .if1 .left)) (sym (c .before .before .before .header .ensures) ∙ c .before .tag .given .1))
 
-add-read : tie.Need-add-read Inv-loop μ-loop
-add-read c = search needs
-
 returns-5 : tie.Need-returns-5 Inv-loop μ-loop
 returns-5 c = λ some. none some
 
 add-top : tie.Need-add-top Inv-loop μ-loop
 add-top c = omega arith
-
-mul-ends : tie.Need-mul-ends Inv-loop μ-loop
-mul-ends c = search needs
-
-array-write-ends-2 : tie.Need-array-write-ends-2 Inv-loop μ-loop
-array-write-ends-2 c = search needs
 
 loop-less-3 : tie.Need-loop-less-3 Inv-loop μ-loop
 loop-less-3 c = omega (arith, open-end (c .before .before .before .before .before .before .before .before .before .before .before .loop .inv .0), open-head _ _ _ _ (c .before .before .before .before .before .before .before .before .before .before .before .loop .inv .0) (wide _ _ (c .before .before .before .before .before .before .before .before .before .before .if1 .left)) (sym (c .before .before .before .before .before .header .ensures) ∙ c .before .before .before .tag .given .1))
@@ -143,17 +116,8 @@ loop-again-3 : tie.Need-loop-again-3 Inv-loop μ-loop
 unfolding constructed
 loop-again-3 c = (open-push _ _ _ _ (c .before .before .before .before .before .before .before .before .before .before .before .loop .inv .0) (wide _ _ (c .before .before .before .before .before .before .before .before .before .before .if1 .left)) refl (sym (c .before .before .before .before .before .header .ensures) ∙ c .before .before .before .tag .given .1) refl refl (eq-eqb _ _ (c .before .if6 .taken)) (shallow _ (c .before .before .before .before .before .before .before .before .before .before .before .loop .inv .1) .1) (few _ (c .before .before .before .before .before .before .before .before .before .if4 .left)), omega arith)
 
-sub-contents-good : tie.Need-sub-contents-good Inv-loop μ-loop
-sub-contents-good c = search needs
-
-part-contents-good-start : tie.Need-part-contents-good-start Inv-loop μ-loop
-part-contents-good-start c = search needs
-
 part-contents-good-end : tie.Need-part-contents-good-end Inv-loop μ-loop
 part-contents-good-end c = omega (arith, open-end (c .before .before .before .before .before .before .before .before .before .before .loop .inv .0), open-head _ _ _ _ (c .before .before .before .before .before .before .before .before .before .before .loop .inv .0) (wide _ _ (c .before .before .before .before .before .before .before .before .before .if1 .left)) (sym (c .before .before .before .before .header .ensures) ∙ c .before .before .tag .given .1))
-
-contents-good-requires : tie.Need-contents-good-requires Inv-loop μ-loop
-contents-good-requires c κs = search needs
 
 returns-6 : tie.Need-returns-6 Inv-loop μ-loop
 returns-6 c = λ some. none some
@@ -171,10 +135,10 @@ sound-spec =
     (tie.spec
     Inv-loop
     μ-loop
-    array-write-ends
+    (λ c. search needs)
     loop-holds
-    mul-end
-    array-read-end
+    (λ c. search needs)
+    (λ c. search needs)
     add-if1
     returns
     returns-2
@@ -193,23 +157,23 @@ sound-spec =
     sub-header
     part-header-start
     part-header-end
-    header-requires
-    enum-known-tag
-    enum-told
+    (λ c κs. search needs)
+    (λ c. search needs)
+    (λ c. search needs)
     returns-4
     add-from
     add-after
-    add-read
+    (λ c. search needs)
     returns-5
     add-top
-    mul-ends
-    array-write-ends-2
+    (λ c. search needs)
+    (λ c. search needs)
     loop-less-3
     loop-again-3
-    sub-contents-good
-    part-contents-good-start
+    (λ c. search needs)
+    (λ c. search needs)
     part-contents-good-end
-    contents-good-requires
+    (λ c κs. search needs)
     returns-6
     loop-less-4
     loop-again-4)

@@ -19,35 +19,15 @@ limited s e = (sym e, subst (λ w. counted w ≤ 4096) e (counted-within paper s
 returns : tie.Need-returns
 returns c = limited (c .before .before .args .item .now) (walk-long paper _ (c .if1 .taken))
 
--- src/walking.rt:37:9
-outermost-requires : tie.Need-outermost-requires
-outermost-requires c κs = search needs
-
--- src/walking.rt:39:9
 returns-2 : tie.Need-returns-2
 returns-2 c = limited (c .before .before .before .before .args .item .now) (walk-passed paper _ (c .before .before .if1 .left) (sym (c .before .outermost .ensures (c .if2 .taken) (2 * length (c .before .before .before .before .args .item .now) + 2) (omega arith))) refl)
 
--- src/walking.rt:41:11
-element-requires : tie.Need-element-requires
-element-requires c κs = search needs
-
--- src/walking.rt:42:21
-enum-known-refusal : tie.Need-enum-known-refusal
-enum-known-refusal c = search needs
-
--- src/walking.rt:43:22
-enum-known-used : tie.Need-enum-known-used
-enum-known-used c = search needs
-
--- src/walking.rt:30:1
 returns-3 : tie.Need-returns-3
 returns-3 c = limited (c .before .before .before .before .before .before .before .before .args .item .now) (walk-fault paper _ (c .before .before .before .before .before .before .if1 .left) (sym (c .before .before .before .element .ensures (2 * length (c .before .before .before .before .before .before .before .before .args .item .now) + 2) (omega arith)) ∙ c .before .refusal .given .1))
 
--- src/walking.rt:30:1
 returns-4 : tie.Need-returns-4
 returns-4 c = limited (c .before .before .before .before .before .before .before .before .before .args .item .now) (walk-passed paper _ (c .before .before .before .before .before .before .before .if1 .left) (sym (c .before .before .before .before .element .ensures (2 * length (c .before .before .before .before .before .before .before .before .before .args .item .now) + 2) (omega arith)) ∙ c .before .before .used .given .1) (c .if3 .taken))
 
--- src/walking.rt:30:1
 returns-5 : tie.Need-returns-5
 returns-5 c = limited (c .before .before .before .before .before .before .before .before .before .args .item .now) (walk-left paper _ (c .before .before .before .before .before .before .before .if1 .left) (sym (c .before .before .before .before .element .ensures (2 * length (c .before .before .before .before .before .before .before .before .before .args .item .now) + 2) (omega arith)) ∙ c .before .before .used .given .1) (c .if3 .left))
 
@@ -56,11 +36,11 @@ walk-spec =
     tie.close
     (tie.spec
     returns
-    outermost-requires
+    (λ c κs. search needs)
     returns-2
-    element-requires
-    enum-known-refusal
-    enum-known-used
+    (λ c κs. search needs)
+    (λ c. search needs)
+    (λ c. search needs)
     returns-3
     returns-4
     returns-5)
