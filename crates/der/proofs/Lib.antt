@@ -3,5 +3,5 @@ pub mod Bounds
 pub mod Enough
 pub mod LengthOctets
 pub mod Faults
-pub mod Stacks
+pub mod Parts
 pub mod Flat

@@ -10,10 +10,10 @@ use borrow.Author.Needs.{needs}
 use lib.Dec.{eqb}
 use Rattle.der.specs.Heading.{identifierGood, constructed}
 use Rattle.der.specs.Contents.{contentsGood}
-use Rattle.der.specs.Looks.{Plain}
+use Rattle.der.specs.Fast.{Unjudged}
 use Rattle.der.proofs.Laws.{and-left, and-right}
-use Rattle.der.proofs.walking.plain.Statement.{statement}
-use Rattle.der.proofs.walking.plain.Tie as tie
+use Rattle.der.proofs.fast.unjudged.Statement.{statement}
+use Rattle.der.proofs.fast.unjudged.Tie as tie
 
 -- the identifiers whose contents are judged
 unfoldable quiet : ℕ → Bool
@@ -61,7 +61,7 @@ turned : (b : Bool) → not b ≡ true → b ≡ false
 turned true e = let w : _≡_ {A = ℕ} 0 1 = cc in absurd (omega arith)
 turned false e = refl
 
-tells : (tag : ℕ) → fine tag ≡ true → Plain tag
+tells : (tag : ℕ) → fine tag ≡ true → Unjudged tag
 unfolding fine
 tells tag e =
     let rest : (not (constructed tag) && quiet tag) ≡ true = and-right (identifierGood tag) _ e in
@@ -77,5 +77,5 @@ returns c = λ e. let w : _≡_ {A = ℕ} 0 1 = cc in absurd (omega arith)
 returns-2 : tie.Need-returns-2
 returns-2 c = λ e. tells (c .before .args .tag) (below 64 all (c .before .args .tag) (omega arith) e)
 
-pub plain-spec : {M : Type 1} → statement M
-plain-spec = tie.close (tie.spec returns (λ c. search needs) returns-2)
+pub unjudged-spec : {M : Type 1} → statement M
+unjudged-spec = tie.close (tie.spec returns (λ c. search needs) returns-2)

@@ -1,13 +1,12 @@
 -- Each turn reads one leaf more; a leaf that ends too far ends the loop.
 use Prim.Native.Nat.{ℕ, _+_, _-_, _*_, _≤_, _<_}
 use mathlib.Core.List.{List}
-use mathlib.Core.Path.{_≡_}
 use native.Mathlib.Omega.{arith}
 use lib.ListN.{length}
-use Rattle.der.specs.Looks.{stretch, Reads, Fills}
+use Rattle.der.specs.Fast.{stretch, Reads, Fills}
 use Rattle.der.proofs.Flat.{reads-on, fills-none}
-use Rattle.der.proofs.walking.leaves.Statement.{statement}
-use Rattle.der.proofs.walking.leaves.Tie as tie
+use Rattle.der.proofs.fast.leaves.Statement.{statement}
+use Rattle.der.proofs.fast.leaves.Tie as tie
 
 -- what is left, from octet `i` on
 abbrev Left : List ℕ → ℕ → ℕ → ℕ → ℕ → ℕ → Type 0
@@ -40,25 +39,27 @@ returns c = λ some depth deep base fuel enough. absurd (omega arith)
 add-read : tie.Need-add-read Inv-loop μ-loop
 add-read c = omega (arith, c .before .before .before .loop .inv .2 (omega arith) .0)
 
-returns-2 : tie.Need-returns-2 Inv-loop μ-loop
-returns-2 c = λ some depth deep.
-    let few : c .before .before .before .before .loop .read < 4096 = omega (arith, c .before .before .before .before .loop .inv .2 (omega arith) .0) in
-    step _ (c .before .before .before .before .before .before .args .from) (c .before .before .before .before .before .before .args .end) _ (c .before .before .before .before .loop .i) _ (c .before .before .leaf .result) (c .before .before .before .before .before .before .pre .2) (c .before .before .before .loop-test .taken) few (c .before .before .leaf .ensures .1 (omega arith) .1 (omega arith)) (c .before .before .before .before .loop .inv .2 (omega arith) .1) depth _ deep
-    (rw (c .if2 .taken) (fills-none _ (c .before .before .before .before .before .before .args .end) depth _ (c .before .before .before .before .before .before .pre .2)))
-
 loop-less : tie.Need-loop-less Inv-loop μ-loop
-loop-less c = omega (arith, c .before .before .leaf .ensures .1 (omega arith) .0)
+loop-less c = omega (arith, c .before .leaf .ensures .1 (omega arith) .0)
 
 loop-again : tie.Need-loop-again Inv-loop μ-loop
 loop-again c =
-    let few : c .before .before .before .before .loop .read < 4096 = omega (arith, c .before .before .before .before .loop .inv .2 (omega arith) .0) in (
+    let here = c .before .before .before .loop in
+    let start = c .before .before .before .before .before in
+    let few : here .read < 4096 = omega (arith, here .inv .2 (omega arith) .0) in (
       omega arith,
-      omega (arith, c .before .before .leaf .ensures .1 (omega arith) .0),
+      omega (arith, c .before .leaf .ensures .1 (omega arith) .0),
       λ h. (
-        omega (arith, c .before .before .leaf .ensures .1 (omega arith) .0, c .before .before .before .before .loop .inv .2 (omega arith) .0),
-        step _ (c .before .before .before .before .before .before .args .from) (c .before .before .before .before .before .before .args .end) _ (c .before .before .before .before .loop .i) _ (c .before .before .leaf .result) (c .before .before .before .before .before .before .pre .2) (c .before .before .before .loop-test .taken) few (c .before .before .leaf .ensures .1 (omega arith) .1 h) (c .before .before .before .before .loop .inv .2 (omega arith) .1),
+        omega (arith, c .before .leaf .ensures .1 (omega arith) .0, here .inv .2 (omega arith) .0),
+        step _ (start .args .from) (start .args .end) _ (here .i) _ (c .before .leaf .result) (start .pre .2) (c .before .before .loop-test .taken) few (c .before .leaf .ensures .1 (omega arith) .1 h) (here .inv .2 (omega arith) .1),
       ),
     )
+
+returns-2 : tie.Need-returns-2 Inv-loop μ-loop
+returns-2 c = λ some depth deep.
+    let here = c .before .before .loop in
+    let start = c .before .before .before .before in
+    here .inv .2 (omega arith) .1 depth _ deep (rw (c .if2 .taken) (fills-none _ (start .args .end) depth _ (start .pre .2)))
 
 returns-3 : tie.Need-returns-3 Inv-loop μ-loop
 returns-3 c = λ some depth deep base fuel enough. absurd (omega arith)
@@ -74,7 +75,7 @@ leaves-spec =
     leaf-requires
     returns
     add-read
-    returns-2
     loop-less
     loop-again
+    returns-2
     returns-3)

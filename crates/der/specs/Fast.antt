@@ -1,4 +1,4 @@
--- What the quick looks of the walk promise, of a stretch of the item that they read without telling a fault. No public promise
+-- What the fast paths of the walk promise, of a stretch of octets that they read without telling a fault. No public promise
 -- cites this.
 use Prim.Native.Nat.{ℕ, _+_, _-_, _*_, _≤_}
 use mathlib.Core.Bool.{true, false}
@@ -31,7 +31,13 @@ pub record Double (s : List ℕ) (i : ℕ) : Type 0 where
   pub fills : getD s (i + 3) 0 + 2 ≡ getD s (i + 1) 0
 
 -- an identifier of a primitive whose contents are not judged
-pub record Plain (tag : ℕ) : Type 0 where
+pub record Unjudged (tag : ℕ) : Type 0 where
   pub known : identifierGood tag ≡ true
   pub primitive : constructed tag ≡ false
   pub unjudged : (c : List ℕ) → contentsGood tag c ≡ true
+
+-- an identifier of a primitive, with contents that nothing is wrong with
+pub record Leaf (tag : ℕ) (c : List ℕ) : Type 0 where
+  pub known : identifierGood tag ≡ true
+  pub primitive : constructed tag ≡ false
+  pub good : contentsGood tag c ≡ true

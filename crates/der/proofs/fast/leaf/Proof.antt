@@ -5,11 +5,11 @@ use mathlib.Core.Path.{_≡_, refl, sym, _∙_}
 use native.Mathlib.Omega.{arith}
 use borrow.Author.Needs.{needs}
 use lib.ListN.{length, getD}
-use Rattle.der.specs.Looks.{stretch, Reads}
-use Rattle.der.proofs.Stacks.{part-length}
-use Rattle.der.proofs.Flat.{Leaf, leaf-boolean, leaf-integer, leaf-null, leaf-oid, leaf-plain, leaf-reads}
-use Rattle.der.proofs.walking.leaf.Statement.{statement}
-use Rattle.der.proofs.walking.leaf.Tie as tie
+use Rattle.der.specs.Fast.{stretch, Reads, Leaf}
+use Rattle.der.proofs.Parts.{part-length}
+use Rattle.der.proofs.Flat.{leaf-boolean, leaf-integer, leaf-null, leaf-oid, leaf-unjudged, leaf-reads}
+use Rattle.der.proofs.fast.leaf.Statement.{statement}
+use Rattle.der.proofs.fast.leaf.Tie as tie
 
 none : {A : Type 0} → 0 < 0 → A
 none h = absurd (omega arith)
@@ -68,7 +68,7 @@ returns-6 c = (least _, λ some. none some)
 returns-7 : tie.Need-returns-7
 returns-7 c =
     answer (c .before .before .before .before .before .before .before .args .s .now) (c .before .before .before .before .before .before .before .args .i) (c .before .before .before .before .before .before .before .args .end) (c .before .before .before .before .before .before .before .pre .0) (c .before .before .before .before .before .before .before .pre .1) (c .before .before .before .before .before .before .before .pre .2) (c .before .before .before .before .before .shared-slice-known2 .given (c .before .before .before .before .before .before .before .args .i + 1) .fits)
-    (leaf-plain (c .before .plain .ensures (c .if7 .taken)))
+    (leaf-unjudged (c .before .unjudged .ensures (c .if7 .taken)))
 
 returns-8 : tie.Need-returns-8
 returns-8 c = (least _, λ some. none some)

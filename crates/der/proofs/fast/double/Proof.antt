@@ -5,8 +5,8 @@ use mathlib.Core.Path.{_≡_}
 use native.Mathlib.Omega.{arith}
 use borrow.Author.Needs.{needs}
 use borrow.Author.Tests.{eqb-true}
-use Rattle.der.proofs.walking.double.Statement.{statement}
-use Rattle.der.proofs.walking.double.Tie as tie
+use Rattle.der.proofs.fast.double.Statement.{statement}
+use Rattle.der.proofs.fast.double.Tie as tie
 
 no : false ≡ true → {A : Type 0} → A
 no e = let w : _≡_ {A = ℕ} 0 1 = cc in absurd (omega arith)

@@ -6,8 +6,8 @@ use native.Mathlib.Omega.{arith}
 use borrow.Author.Needs.{needs}
 use borrow.Author.Tests.{not-false}
 use Rattle.der.proofs.Flat.{sequence-reads, set-reads}
-use Rattle.der.proofs.walking.flat.Statement.{statement}
-use Rattle.der.proofs.walking.flat.Tie as tie
+use Rattle.der.proofs.fast.flat.Statement.{statement}
+use Rattle.der.proofs.fast.flat.Tie as tie
 
 add-from : tie.Need-add-from
 add-from c = omega arith
