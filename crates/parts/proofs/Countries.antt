@@ -34,7 +34,7 @@ use Rattle.parts.specs.Shown.{Lettered}
 use Rattle.parts.proofs.Inverse.{kept, both}
 use Rattle.parts.proofs.Spans.{Spans, Member, found-first, found-none, first-of}
 use Rattle.parts.proofs.Standing.{Part}
-use Rattle.parts.proofs.Enveloped.{Tagged, is-node, is-leaf, tagged-first}
+use Rattle.parts.proofs.Enveloped.{is-node, is-leaf, tagged-first}
 
 -- what holds of what is said of a missing element, and of one that is found
 found-by :

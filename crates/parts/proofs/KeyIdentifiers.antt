@@ -22,7 +22,7 @@ use Rattle.elements.specs.Elements.{foundTagged, onFound, inside}
 use Rattle.elements.specs.Elements as elements
 use Rattle.extensions.specs.declared.Extension.{Extension}
 use Rattle.extensions.specs.declared.Extension.the-variants.{Is, Absent}
-use Rattle.extensions.specs.Extensions.{allShaped, extensionsShaped, lookupOf}
+use Rattle.extensions.specs.Extensions.{allShaped, extensionsShaped, lookupOf, doubledOf}
 use Rattle.certificate.specs.declared.keys.KeyId.{KeyId}
 use Rattle.certificate.specs.declared.keys.KeyId.the-variants.{Key, Misformed}
 use Rattle.certificate.specs.declared.rules.Readings.{Readings}
@@ -36,7 +36,7 @@ use Rattle.parts.proofs.Inverse.{kept, both}
 use Rattle.parts.proofs.Spans.{Spans}
 use Rattle.parts.proofs.Standing.{Part, row-here, part-at, contents-length, contents-part, members-place}
 use Rattle.parts.proofs.Enveloped.{Tagged, tagged-first, members-inside}
-use Rattle.parts.proofs.Extensions.{Holds, Met, found-leaf, look-finds, look-misses}
+use Rattle.parts.proofs.Extensions.{Holds, Met, found-leaf, look-finds, look-misses, oid-once}
 
 -- octets of the item that are those of a sound tree
 tree-span :
@@ -169,11 +169,14 @@ long :
 unfolding contentsOf
 long e p = contents-length p
 
-module _ (s : List ℕ) (root : Tree) (extensions : Element) (trees : Trees) (sp : Spans s (extensions .contents) (extensions .end) trees) (each : (k : ℕ) → placeIn root (0 ∷ 7 ∷ 0 ∷ k ∷ []) ≡ numbered trees k (extensions .contents)) (shaped : extensionsShaped s extensions ≡ true) where
+module _
+    (s : List ℕ) (root : Tree) (extensions : Element) (trees : Trees) (sp : Spans s (extensions .contents) (extensions .end) trees)
+    (each : (k : ℕ) → placeIn root (0 ∷ 7 ∷ 0 ∷ k ∷ []) ≡ numbered trees k (extensions .contents))
+    (shaped : extensionsShaped s extensions ≡ true) (single : doubledOf s extensions ≡ false) where
   key-part :
       (oid : List ℕ) (read : Element → KeyId) (form : List ℕ → Trees → Tree) (path : List ℕ) → Reads s read form path → (k : KeyId)
       → keyIn s (lookupOf s extensions oid) read ≡ k → (k ≡ Misformed → ⊥) → KeyPart root oid form path (keyAt k) (keyLength k)
-  unfolding keyIn keyAt keyLength lookupOf inside extensionsShaped placeIn along
+  unfolding keyIn keyAt keyLength lookupOf inside extensionsShaped doubledOf placeIn along
   key-part oid read form path reads k e good =
       subst (λ (x : KeyId). KeyPart root oid form path (keyAt x) (keyLength x)) e
       (go (lookupOf s extensions oid) refl (λ m. good (sym e ∙ m)))
@@ -195,6 +198,9 @@ module _ (s : List ℕ) (root : Tree) (extensions : Element) (trees : Trees) (sp
             from = l .at;
             inner = t .tree;
             stands = each (l .number) ∙ l .stands ∙ ap (λ (c : List ℕ). At (extension oid c) (l .at)) (t .octets);
+            once = λ other at members e.
+                oid-once s oid (extensions .end) trees (extensions .contents) sp all single other (l .number) at (l .at) members _
+                (sym (each other) ∙ e) (l .stands);
             start = value .contents;
             octets = sized (value .end - value .contents) (contents-part at) (long value at ∙ ap length (t .octets));
             sound = t .sound;

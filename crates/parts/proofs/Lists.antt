@@ -37,7 +37,7 @@ use Rattle.parts.specs.Shown as shown
 use Rattle.parts.proofs.Inverse.{went, kept, timed-found, by-envelope, by-name}
 use Rattle.parts.proofs.Spans.{Spans, first-of}
 use Rattle.parts.proofs.Members.{span-members, many-elements}
-use Rattle.parts.proofs.Standing.{Part, row-here, row-later, part-at, contents-part, members-place}
+use Rattle.parts.proofs.Standing.{Part, row-here, row-later, part-at, contents-part}
 use Rattle.parts.proofs.Enveloped.{tagged-first, members-inside, only-tree, only-inside}
 
 broken : {l : Layout} → _≡_ {A = Shape} Broken (Parts l) → ⊥
