@@ -69,9 +69,9 @@ record Opened (s : List ℕ) (e oid : Element) (critical : Bool) (value : Elemen
   plain : critical ≡ false → foundTagged s (oid .end) (e .end) 0x04 ≡ One value
   last : value .end ≡ e .end
 
-opened : (s : List ℕ) (e oid : Element) (critical : Bool) (value : Element) → extensionOf s e ≡ Is oid critical value → Opened s e oid critical value
+open-extension : (s : List ℕ) (e oid : Element) (critical : Bool) (value : Element) → extensionOf s e ≡ Is oid critical value → Opened s e oid critical value
 unfolding extensionOf foundTagged
-opened s e oid critical value h =
+open-extension s e oid critical value h =
     let r = Is oid critical value in
     let k = kept (eqb (e .tag) 0x30) _ Absent r absent h in
     let a = went (foundTagged s (e .contents) (e .end) 0x06) Absent _ r absent (k .1) in
@@ -115,7 +115,7 @@ extension-tree :
     → extensionOf s e ≡ Is oid critical value → Extended s place tree oid critical value
 unfolding constructed
 extension-tree s place e tree oid critical value p h =
-    let o = opened s e oid critical value h in
+    let o = open-extension s e oid critical value h in
     let n = is-node tree 0x30 refl (p .sound) (sym (p .tag) ∙ o .built) in
     let t = tagged-first s (e .contents) (e .end) 0x06 (n .0) oid (p .inside 0x30 (n .0) (n .1)) (o .named) in
     let second = members-place p 0x30 (n .0) (n .1) 1 ∙ row-later (t .member) (t .split) 0 in

@@ -12,18 +12,18 @@ use Rattle.crl.specs.declared.Fields as crl
 use Rattle.parts.specs.Places.{Place, At, along, placeIn}
 use Rattle.parts.specs.Shown.{Whole, Contents, Timed, Lettered, extension, KeyTold, KeyPart, told, absent, signed, Certificate, many, closing, Entered, listing, listless, Crl}
 
-module _ {place other : Place} (e : place ≡ other) where
-  whole-one : {a b m n : ℕ} → Whole place a m → Whole other b n → (a ≡ b) × (m ≡ n)
-  whole-one v w = (cc, cc)
+module _ {place other : Place} where
+  whole-one : {a b m n : ℕ} → Whole place a m → Whole other b n → place ≡ other → (a ≡ b) × (m ≡ n)
+  whole-one v w e = (cc, cc)
 
-  contents-one : {a b m n : ℕ} → Contents place a m → Contents other b n → (a ≡ b) × (m ≡ n)
-  contents-one v w = (cc, cc)
+  contents-one : {a b m n : ℕ} → Contents place a m → Contents other b n → place ≡ other → (a ≡ b) × (m ≡ n)
+  contents-one v w e = (cc, cc)
 
-  timed-one : {m n : ℕ} → Timed place m → Timed other n → m ≡ n
-  timed-one v w = cc
+  timed-one : {m n : ℕ} → Timed place m → Timed other n → place ≡ other → m ≡ n
+  timed-one v w e = cc
 
-  lettered-one : {a b c d : ℕ} → Lettered place a b → Lettered other c d → (a ≡ c) × (b ≡ d)
-  lettered-one v w = (cc, cc)
+  lettered-one : {a b c d : ℕ} → Lettered place a b → Lettered other c d → place ≡ other → (a ≡ c) × (b ≡ d)
+  lettered-one v w e = (cc, cc)
 
 -- an extension in one of two trees that are one
 at-other :
@@ -41,9 +41,9 @@ module _ {x y : Tree} (e : x ≡ y) {oid : List ℕ} {form : List ℕ → Trees 
       let inner : placeIn x (0 ∷ 7 ∷ 0 ∷ v .number ∷ 1 ∷ []) ≡ placeIn y (0 ∷ 7 ∷ 0 ∷ w .number ∷ 1 ∷ []) = cc in
       let octets : encoded (v .inner) ≡ encoded (w .inner) = extension-one (sym (v .stands) ∙ place ∙ w .stands) in
       let tree : v .inner ≡ w .inner = one-tree paper (lit≤ tt) (v .inner) (w .inner) (v .sound) (w .sound) octets in
-      let start : v .start ≡ w .start = contents-one inner (v .octets) (w .octets) .0 in
+      let start : v .start ≡ w .start = contents-one (v .octets) (w .octets) inner .0 in
       let key : along (At (v .inner) (v .start)) path ≡ along (At (w .inner) (w .start)) path = cc in
-      contents-one key (v .part) (w .part)
+      contents-one (v .part) (w .part) key
 
   key-one : KeyPart x oid form path a m → KeyPart y oid form path b n → (a ≡ b) × (m ≡ n)
   key-one (told v) (told w) = told-one v w
@@ -73,7 +73,7 @@ entered-one :
 entered-one {x} {y} {rest} {other} {a} {b} {c} {d} {m} {n} e s (listing entries ext size shape count at end) (listing entries′ ext′ size′ shape′ count′ at′ end′) =
     let place : placeIn x (0 ∷ 5 ∷ []) ≡ placeIn y (0 ∷ 5 ∷ []) = cc in
     let same : entries ≡ entries′ = list-same s shape shape′ in
-    let k = contents-one place at at′ in
+    let k = contents-one at at′ place in
     (count ∙ ap many same ∙ sym count′, k .0, omega (arith, k .0, k .1))
 entered-one e s (listing entries ext size shape count at end) (listless ext′ shape′ count′ at′ end′) = absurd (list-none s shape shape′)
 entered-one e s (listless ext shape count at end) (listing entries′ ext′ size′ shape′ count′ at′ end′) = absurd (list-none (sym s) shape′ shape)
@@ -108,13 +108,13 @@ pub certificate-unique : (item : List ℕ) (f g : certificate.Fields) → Certif
 unfolding certificate-of
 certificate-unique item f g a b =
     let tree : a .tree ≡ b .tree = tree-of item (a .tree) (b .tree) (a .octets) (b .octets) (a .sound) (b .sound) in
-    let serial = contents-one (ap (λ (t : Tree). placeIn t (0 ∷ 1 ∷ [])) tree) (a .serial-part) (b .serial-part) in
-    let issuer = whole-one (ap (λ (t : Tree). placeIn t (0 ∷ 3 ∷ [])) tree) (a .issuer-part) (b .issuer-part) in
-    let letters = lettered-one (ap (λ (t : Tree). placeIn t (0 ∷ 3 ∷ [])) tree) (a .letters-part) (b .letters-part) in
-    let start = timed-one (ap (λ (t : Tree). placeIn t (0 ∷ 4 ∷ 0 ∷ [])) tree) (a .start-part) (b .start-part) in
-    let end = timed-one (ap (λ (t : Tree). placeIn t (0 ∷ 4 ∷ 1 ∷ [])) tree) (a .end-part) (b .end-part) in
-    let subject = whole-one (ap (λ (t : Tree). placeIn t (0 ∷ 5 ∷ [])) tree) (a .subject-part) (b .subject-part) in
-    let key = whole-one (ap (λ (t : Tree). placeIn t (0 ∷ 6 ∷ [])) tree) (a .key-part) (b .key-part) in
+    let serial = contents-one (a .serial-part) (b .serial-part) (cc) in
+    let issuer = whole-one (a .issuer-part) (b .issuer-part) (cc) in
+    let letters = lettered-one (a .letters-part) (b .letters-part) (cc) in
+    let start = timed-one (a .start-part) (b .start-part) (cc) in
+    let end = timed-one (a .end-part) (b .end-part) (cc) in
+    let subject = whole-one (a .subject-part) (b .subject-part) (cc) in
+    let key = whole-one (a .key-part) (b .key-part) (cc) in
     let own = key-one tree (a .subject-key-part) (b .subject-key-part) in
     let authority = key-one tree (a .authority-key-part) (b .authority-key-part) in
     let same :
@@ -149,10 +149,10 @@ unfolding crl-of
 crl-unique item f g a b =
     let tree : a .tree ≡ b .tree = tree-of item (a .tree) (b .tree) (a .octets) (b .octets) (a .sound) (b .sound) in
     let rest : a .rest ≡ b .rest = rest-one (tbs-one tree (a .shape) (b .shape)) (a .tbs) (b .tbs) in
-    let issuer = whole-one (ap (λ (t : Tree). placeIn t (0 ∷ 2 ∷ [])) tree) (a .issuer-part) (b .issuer-part) in
-    let letters = lettered-one (ap (λ (t : Tree). placeIn t (0 ∷ 2 ∷ [])) tree) (a .letters-part) (b .letters-part) in
-    let current = timed-one (ap (λ (t : Tree). placeIn t (0 ∷ 3 ∷ [])) tree) (a .this-part) (b .this-part) in
-    let coming = timed-one (ap (λ (t : Tree). placeIn t (0 ∷ 4 ∷ [])) tree) (a .next-part) (b .next-part) in
+    let issuer = whole-one (a .issuer-part) (b .issuer-part) (cc) in
+    let letters = lettered-one (a .letters-part) (b .letters-part) (cc) in
+    let current = timed-one (a .this-part) (b .this-part) (cc) in
+    let coming = timed-one (a .next-part) (b .next-part) (cc) in
     let entries = entered-one tree rest (a .entries-part) (b .entries-part) in
     let same :
     crl-of (f .«this_update») (f .«next_update») (f .first) (f .second) (f .entries) (f .«issuer_at») (f .«issuer_len») (f .«entries_from») (f .«entries_end»)
