@@ -1,8 +1,8 @@
 -- The contents that rules 9 and 10 ask for pass the walk, as computing it tells: so what was compared with them need not be walked.
 use Prim.Native.Nat.{ℕ}
-use mathlib.Core.Bool.{Bool, true, false, cond, _&&_}
+use mathlib.Core.Bool.{Bool, true, false, cond}
 use mathlib.Core.List.{List, [], _∷_}
-use mathlib.Core.Path.{_≡_, refl, ap, _∙_}
+use mathlib.Core.Path.{_≡_, refl}
 use lib.Dec.{eqb}
 use Rattle.der.specs.declared.walking.Walked.the-variants.{Passed}
 use Rattle.der.specs.Contents.{booleanGood, integerGood, bitStringGood, contentsGood}
@@ -12,7 +12,6 @@ use Rattle.octets.specs.Octets.{number}
 use Rattle.der.specs.Walk.{opened, filled, after, elementAt, listAt, whole, walkOf}
 use Rattle.elements.specs.declared.elements.Element.{Element}
 use Rattle.elements.specs.Elements.{contentsOf}
-use Rattle.octets.specs.Alike.{alike}
 use Rattle.octets.proofs.Likeness.{alike-is}
 use Rattle.extensions.specs.declared.Extension.the-variants.{Is}
 use Rattle.certificate.specs.Keys.{passes, walks}

@@ -24,7 +24,7 @@ use Rattle.certificate.specs.declared.Judged.the-variants.{Passed, Refus
 use Rattle.certificate.specs.Rules.{readingsOf, rules2to8, rules9to14}
 use Rattle.certificate.specs.Shape.{layoutOf}
 use Rattle.certificate.specs.Answer.{fieldsOf, graded, onShape, onWalk, rulesOf, profileOf, judgedOf}
-use Rattle.certificate.specs.Meets.{Meets, Passes, rulesIn, rules1to14, Breaks, Refusals, argument, walk, profile}
+use Rattle.certificate.specs.Meets.{Meets, Passes, rulesIn, rules1to14, Breaks, RefusedFor, by-role, by-walk, by-rule}
 use Rattle.certificate.proofs.Chains.{shape-good, graded-whole}
 use Rattle.der.proofs.Faults.{no-profile}
 use Rattle.refusal.proofs.Order.{broken-later, none-broken, all-hold, told-smallest, smallest-told}
@@ -124,21 +124,21 @@ module _ (s : List ℕ) (role : ℕ) where
           rw (le-leb _ _ (p .low), le-leb _ _ (p .high), p .walks)
           (sym (shape-good _ (p .shape) (graded-whole (meets-none (p .layout) (p .meets)) (p .fields))))
 
-  refused-by : (refusal : Refusal) → judgedOf s role ≡ Refused refusal → Refusals s role refusal
+  refused-by : (refusal : Refusal) → judgedOf s role ≡ Refused refusal → RefusedFor s role refusal
   unfolding graded rules1to14 rulesIn firstBroken
   refused-by refusal =
-      answer-by P (λ out e. subst (Refusals s role) (same e) (argument out))
-      (λ low high own w e. subst (Refusals s role) (same e) (walk low high w)) walks
+      answer-by P (λ out e. subst (RefusedFor s role) (same e) (by-role out))
+      (λ low high own w e. subst (RefusedFor s role) (same e) (by-walk low high w)) walks
     where
       P : Judged → Type 0
-      P answer = answer ≡ Refused refusal → Refusals s role refusal
+      P answer = answer ≡ Refused refusal → RefusedFor s role refusal
 
       same : {own : Refusal} → _≡_ {A = Judged} (Refused own) (Refused refusal) → own ≡ refusal
       same e = cc
 
       walks : 1 ≤ role → role ≤ 3 → (count : ℕ) → walkOf paper s ≡ walked.Passed count → P (profileOf s role)
       walks low high count w = profile-by P
-          (λ shape e. subst (Refusals s role) (same e) (profile (record {
+          (λ shape e. subst (RefusedFor s role) (same e) (by-rule (record {
             low = low;
             high = high;
             count = count;
@@ -148,7 +148,7 @@ module _ (s : List ℕ) (role : ℕ) where
           λ l shape.
           cond-by P (eqb (firstBroken 2 (rulesOf s l (readingsOf s l) role)) 0)
           (λ none e. let z : _≡_ {A = ℕ} 0 1 = cc in absurd (omega arith))
-          (λ some e. subst (Refusals s role) (same e) (profile (record {
+          (λ some e. subst (RefusedFor s role) (same e) (by-rule (record {
             low = low;
             high = high;
             count = count;
@@ -168,25 +168,25 @@ module _ (s : List ℕ) (role : ℕ) where
           let told : firstBroken 2 (rulesOf s l (readingsOf s l) role) ≡ k = smallest-told 1 (true ∷ rulesOf s l (readingsOf s l) role) least in
           rw (told, ne-eqb k 0 (λ (z : k ≡ 0). omega (arith, least .numbered)))
 
-  refusals-told : (refusal : Refusal) → Refusals s role refusal → judgedOf s role ≡ Refused refusal
+  refusals-told : (refusal : Refusal) → RefusedFor s role refusal → judgedOf s role ≡ Refused refusal
   unfolding judgedOf onWalk
-  refusals-told refusal (argument out) = go (leb 1 role && leb role 3) refl
+  refusals-told refusal (by-role out) = go (leb 1 role && leb role 3) refl
     where
       go : (b : Bool) → (leb 1 role && leb role 3) ≡ b → cond b (onWalk (walkOf paper s) (profileOf s role)) (Refused Argument) ≡ Refused Argument
       go true e = let h = both _ _ e in absurd (out (leb-true _ _ (h .0)) (leb-true _ _ (h .1)))
       go false e = refl
-  refusals-told refusal (walk low high w) = rw (le-leb _ _ low, le-leb _ _ high, w)
-  refusals-told refusal (profile {k = k} b) = broken-refused k b
+  refusals-told refusal (by-walk low high w) = rw (le-leb _ _ low, le-leb _ _ high, w)
+  refusals-told refusal (by-rule {k = k} b) = broken-refused k b
 
   -- A certificate is refused with 1 exactly for another role, then as the walk refuses it, and with 4 for a rule.
-  pub refusals : (refusal : Refusal) → (judgedOf s role ≡ Refused refusal) ↔ Refusals s role refusal
+  pub refusals : (refusal : Refusal) → (judgedOf s role ≡ Refused refusal) ↔ RefusedFor s role refusal
   refusals refusal = (refused-by refusal, refusals-told refusal)
 
   -- Rule k of the profile is told exactly when the role is 1 to 3, the walk passes, and rule k is the smallest broken.
   pub detail-smallest : (k : ℕ) → (judgedOf s role ≡ Refused (Profile k)) ↔ Breaks s role k
   detail-smallest k = ((λ e. only (Profile k) refl (refused-by (Profile k) e)), broken-refused k)
     where
-      only : (refusal : Refusal) → refusal ≡ Profile k → Refusals s role refusal → Breaks s role k
-      only refusal e (argument out) = let z : _≡_ {A = ℕ} 0 1 = cc in absurd (omega arith)
-      only refusal e (walk low high w) = absurd (no-profile paper s {k = k} (w ∙ ap walked.Refused e))
-      only refusal e (profile {k = own} b) = let same : own ≡ k = cc in subst (Breaks s role) same b
+      only : (refusal : Refusal) → refusal ≡ Profile k → RefusedFor s role refusal → Breaks s role k
+      only refusal e (by-role out) = let z : _≡_ {A = ℕ} 0 1 = cc in absurd (omega arith)
+      only refusal e (by-walk low high w) = absurd (no-profile paper s {k = k} (w ∙ ap walked.Refused e))
+      only refusal e (by-rule {k = own} b) = let same : own ≡ k = cc in subst (Breaks s role) same b

@@ -61,8 +61,8 @@ pub record Breaks (s : List ℕ) (role k : ℕ) : Type 0 where
   pub smallest : Smallest 1 (rules1to14 s role) k
 
 -- what an item is refused for: 1 for another role, what the walk refuses, 4 for a rule
-pub data Refusals (s : List ℕ) (role : ℕ) : Refusal → Type 0 where
-  argument : (1 ≤ role → role ≤ 3 → ⊥) → Refusals s role Argument
-  walk :
-      {refusal : Refusal} → 1 ≤ role → role ≤ 3 → walkOf paper s ≡ walked.Refused refusal → Refusals s role refusal
-  profile : {k : ℕ} → Breaks s role k → Refusals s role (Profile k)
+pub data RefusedFor (s : List ℕ) (role : ℕ) : Refusal → Type 0 where
+  by-role : (1 ≤ role → role ≤ 3 → ⊥) → RefusedFor s role Argument
+  by-walk :
+      {refusal : Refusal} → 1 ≤ role → role ≤ 3 → walkOf paper s ≡ walked.Refused refusal → RefusedFor s role refusal
+  by-rule : {k : ℕ} → Breaks s role k → RefusedFor s role (Profile k)

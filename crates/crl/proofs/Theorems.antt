@@ -22,7 +22,7 @@ use Rattle.crl.specs.declared.shapes.Shape.{Shape}
 use Rattle.crl.specs.declared.shapes.Shape.the-variants.{Parts, Broken}
 use Rattle.crl.specs.Answer.{fieldsOf, graded, onShape, onWalk, profileOf, judgedOf}
 use Rattle.crl.specs.Listed.{listedOf}
-use Rattle.crl.specs.Meets.{Meets, Passes, rulesIn, rules1to8, Breaks, Refusals, walk, profile, InList}
+use Rattle.crl.specs.Meets.{Meets, Passes, rulesIn, rules1to8, Breaks, RefusedFor, by-walk, by-rule, InList}
 use Rattle.crl.specs.Rules.{readingsOf, rules2to8}
 use Rattle.crl.specs.Shape.{layoutOf}
 use Rattle.crl.proofs.Chains.{broken-later, broken-none}
@@ -72,7 +72,7 @@ module _ (s : List ℕ) where
   pub passes-exactly : (f : Fields) → (judgedOf s ≡ Passed f) ↔ Passes s f
   passes-exactly f = (passes-only f, passes-all f)
 
-  refused-by : (refusal : Refusal) → judgedOf s ≡ Refused refusal → Refusals s refusal
+  refused-by : (refusal : Refusal) → judgedOf s ≡ Refused refusal → RefusedFor s refusal
   unfolding judgedOf onWalk profileOf onShape rules1to8 rulesIn firstBroken
   refused-by refusal e = go (walkOf paper s) refl e
     where
@@ -82,17 +82,17 @@ module _ (s : List ℕ) where
       shaped :
           (count : ℕ) → walkOf paper s ≡ walked.Passed count → (shape : Shape) → layoutOf s ≡ shape
           → onShape shape (λ l. graded (firstBroken 2 (rules2to8 s l (readingsOf s l))) (fieldsOf l (readingsOf s l))) ≡ Refused refusal
-          → Refusals s refusal
+          → RefusedFor s refusal
       shaped count w Broken h e =
-          subst (Refusals s) (same e)
-          (profile (record { count = count; walks = w; smallest = rw h (told-smallest 1 (false ∷ []) refl λ (z : 1 ≡ 0). omega arith) }))
+          subst (RefusedFor s) (same e)
+          (by-rule (record { count = count; walks = w; smallest = rw h (told-smallest 1 (false ∷ []) refl λ (z : 1 ≡ 0). omega arith) }))
       shaped count w (Parts l) h e =
           let g = graded-refused _ _ e in
-          subst (Refusals s) (sym (g .0))
-          (profile (record { count = count; walks = w; smallest = rw h (told-smallest 1 (true ∷ rules2to8 s l (readingsOf s l)) refl (g .1)) }))
+          subst (RefusedFor s) (sym (g .0))
+          (by-rule (record { count = count; walks = w; smallest = rw h (told-smallest 1 (true ∷ rules2to8 s l (readingsOf s l)) refl (g .1)) }))
 
-      go : (w : Walked) → walkOf paper s ≡ w → onWalk w (profileOf s) ≡ Refused refusal → Refusals s refusal
-      go (walked.Refused own) w e = subst (Refusals s) (same e) (walk w)
+      go : (w : Walked) → walkOf paper s ≡ w → onWalk w (profileOf s) ≡ Refused refusal → RefusedFor s refusal
+      go (walked.Refused own) w e = subst (RefusedFor s) (same e) (by-walk w)
       go (walked.Passed count) w e = shaped count w (layoutOf s) refl e
 
   broken-refused : (k : ℕ) → Breaks s k → judgedOf s ≡ Refused (Profile k)
@@ -107,22 +107,22 @@ module _ (s : List ℕ) where
           let told : firstBroken 2 (rules2to8 s l (readingsOf s l)) ≡ k = smallest-told 1 (true ∷ rules2to8 s l (readingsOf s l)) least in
           rw (told, ne-eqb k 0 (λ (z : k ≡ 0). omega (arith, least .numbered)))
 
-  refusals-told : (refusal : Refusal) → Refusals s refusal → judgedOf s ≡ Refused refusal
+  refusals-told : (refusal : Refusal) → RefusedFor s refusal → judgedOf s ≡ Refused refusal
   unfolding judgedOf onWalk
-  refusals-told refusal (walk w) = rw w
-  refusals-told refusal (profile {k = k} b) = broken-refused k b
+  refusals-told refusal (by-walk w) = rw w
+  refusals-told refusal (by-rule {k = k} b) = broken-refused k b
 
   -- A CRL is refused exactly as the walk refuses it, and with 4 for a rule.
-  pub refusals : (refusal : Refusal) → (judgedOf s ≡ Refused refusal) ↔ Refusals s refusal
+  pub refusals : (refusal : Refusal) → (judgedOf s ≡ Refused refusal) ↔ RefusedFor s refusal
   refusals refusal = (refused-by refusal, refusals-told refusal)
 
   -- Rule k of the profile is told exactly when the walk passes and rule k is the smallest broken.
   pub detail-smallest : (k : ℕ) → (judgedOf s ≡ Refused (Profile k)) ↔ Breaks s k
   detail-smallest k = ((λ e. only (Profile k) refl (refused-by (Profile k) e)), broken-refused k)
     where
-      only : (refusal : Refusal) → refusal ≡ Profile k → Refusals s refusal → Breaks s k
-      only refusal e (walk w) = absurd (no-profile paper s {k = k} (w ∙ ap walked.Refused e))
-      only refusal e (profile {k = own} b) = let same : own ≡ k = cc in subst (Breaks s) same b
+      only : (refusal : Refusal) → refusal ≡ Profile k → RefusedFor s refusal → Breaks s k
+      only refusal e (by-walk w) = absurd (no-profile paper s {k = k} (w ∙ ap walked.Refused e))
+      only refusal e (by-rule {k = own} b) = let same : own ≡ k = cc in subst (Breaks s) same b
 
 module _ (s serial : List ℕ) where
   -- A serial is listed exactly when an entry has an INTEGER first whose contents are the serial.

@@ -62,9 +62,9 @@ pub record Breaks (s : List ℕ) (k : ℕ) : Type 0 where
   pub smallest : Smallest 1 (rules1to8 s) k
 
 -- what an item is refused for: what the walk refuses, 4 for a rule
-pub data Refusals (s : List ℕ) : Refusal → Type 0 where
-  walk : {refusal : Refusal} → walkOf paper s ≡ walked.Refused refusal → Refusals s refusal
-  profile : {k : ℕ} → Breaks s k → Refusals s (Profile k)
+pub data RefusedFor (s : List ℕ) : Refusal → Type 0 where
+  by-walk : {refusal : Refusal} → walkOf paper s ≡ walked.Refused refusal → RefusedFor s refusal
+  by-rule : {k : ℕ} → Breaks s k → RefusedFor s (Profile k)
 
 -- one of the entries has an INTEGER first whose contents are the serial
 pub record InList (s : List ℕ) (serial : List ℕ) (entries : List Element) : Type 0 where

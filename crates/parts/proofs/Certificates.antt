@@ -82,9 +82,9 @@ pub record Laid (s : List ℕ) (l : Layout) : Type 0 where
   pub times : validityOf s validity ≡ Times (l .start) (l .finish)
   pub named : nameOf s (l .issuer) ≡ Holds (l .«issuer_country»)
 
-pub laid : (s : List ℕ) (l : Layout) → layoutOf s ≡ Parts l → Laid s l
+pub laid-out : (s : List ℕ) (l : Layout) → layoutOf s ≡ Parts l → Laid s l
 unfolding layoutOf partsOf
-laid s l e =
+laid-out s l e =
     let p = by-parts (partsOf s) _ e in
     let m = p .0 in
     let a = by-envelope (envelopeOf s) Broken _ (Parts m) broken (p .1) in
@@ -136,11 +136,11 @@ opens-same :
     {a b c d e p q r t u : Element} → _≡_ {A = Front} (Opens a b c d e) (Opens p q r t u) → (b ≡ q) × (d ≡ t) × (e ≡ u)
 opens-same h = (cc, cc, cc)
 
-pub fronted :
+pub front-members :
     (s : List ℕ) (tbs a b c d v : Element) (members : Trees) → Spans s (tbs .contents) (tbs .end) members
     → frontOf s tbs ≡ Opens a b c d v → Fronted s (tbs .contents) (tbs .end) members b d v
 unfolding frontOf
-fronted s tbs a b c d v members sp e =
+front-members s tbs a b c d v members sp e =
     let r = Opens a b c d v in
     let f1 = went (foundTagged s (tbs .contents) (tbs .end) 0xA0) Frontless _ r frontless e in
     let t1 = tagged-first s _ (tbs .end) 0xA0 members (f1 .element) sp (f1 .there) in
@@ -201,11 +201,11 @@ times-shape a b c d = cc
 times-same : {a b p q : Element} → _≡_ {A = Validity} (Times a b) (Times p q) → (a ≡ p) × (b ≡ q)
 times-same h = (cc, cc)
 
-pub lasting :
+pub two-times :
     (s : List ℕ) (place : Place) (v a b : Element) (validity : Tree) → Part s place v validity → tagOf validity ≡ 0x30
     → validityOf s v ≡ Times a b → Lasting s place a b validity
 unfolding validityOf constructed
-lasting s place v a b validity part named e =
+two-times s place v a b validity part named e =
     let r = Times a b in
     let i = is-node validity 0x30 refl (part .sound) named in
     let f1 = went (timeAt s (v .contents) (v .end)) Timeless _ r timeless e in
@@ -249,11 +249,11 @@ closes-same :
     {a b d p q t : Element} {c r : Bool} → _≡_ {A = Back} (Closes a b c d) (Closes p q r t) → (a ≡ p) × (b ≡ q) × (c ≡ r) × (d ≡ t)
 closes-same h = (cc, cc, cc, cc)
 
-pub backed :
+pub back-members :
     (s : List ℕ) (from end : ℕ) (a b : Element) (c : Bool) (d : Element) (members : Trees) → Spans s from end members
     → backOf s from end ≡ Closes a b c d → c ≡ false → Backed s from end members a b d
 unfolding backOf constructed
-backed s from end a b c d members sp e bare =
+back-members s from end a b c d members sp e bare =
     let r = Closes a b c d in
     let f1 = went (foundTagged s from end 0x30) Backless _ r backless e in
     let t1 = tagged-first s from end 0x30 members (f1 .element) sp (f1 .there) in

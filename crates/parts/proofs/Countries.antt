@@ -34,7 +34,7 @@ use Rattle.parts.specs.Shown.{Lettered}
 use Rattle.parts.proofs.Inverse.{kept, both}
 use Rattle.parts.proofs.Spans.{Spans, Member, found-first, found-none, first-of}
 use Rattle.parts.proofs.Standing.{Part}
-use Rattle.parts.proofs.Enveloped.{Tagged, is-node, is-leaf, tagged-first}
+use Rattle.parts.proofs.Enveloped.{is-node, is-leaf, tagged-first}
 
 -- what holds of what is said of a missing element, and of one that is found
 found-by :
@@ -181,8 +181,8 @@ two-contents (x ∷ []) a b long first second = absurd (omega arith)
 two-contents (x ∷ y ∷ []) a b long first second = cc
 two-contents (x ∷ y ∷ z ∷ rest) a b long first second = absurd (omega arith)
 
-unfit : {a b : ℕ} → _≡_ {A = Letters} Unfit (Two a b) → ⊥
-unfit p = let z : _≡_ {A = ℕ} 0 1 = cc in omega arith
+never-unfit : {a b : ℕ} → _≡_ {A = Letters} Unfit (Two a b) → ⊥
+never-unfit p = let z : _≡_ {A = ℕ} 0 1 = cc in omega arith
 
 two-same : {a b c d : ℕ} → _≡_ {A = Letters} (Two a b) (Two c d) → (a ≡ c) × (b ≡ d)
 two-same p = (cc, cc)
@@ -190,7 +190,7 @@ two-same p = (cc, cc)
 letters-in : (tag : ℕ) (c : List ℕ) (a b : ℕ) → lettersIn tag c ≡ Two a b → (tag ≡ 0x13) × (c ≡ a ∷ b ∷ [])
 unfolding lettersIn
 letters-in tag c a b h =
-    let k = kept (eqb tag 0x13 && (eqb (length c) 2 && (isCapital (getD c 0 0) && isCapital (getD c 1 0)))) _ Unfit (Two a b) unfit h in
+    let k = kept (eqb tag 0x13 && (eqb (length c) 2 && (isCapital (getD c 0 0) && isCapital (getD c 1 0)))) _ Unfit (Two a b) never-unfit h in
     let p = both (eqb tag 0x13) _ (k .0) in
     let q = both (eqb (length c) 2) _ (p .1) in
     let e = two-same (k .1) in
@@ -201,8 +201,8 @@ leaf-of a b = cc
 
 seen-letters : (s : List ℕ) (seen : Seen) (trees : List Tree) (a b : ℕ) → Sees s seen trees → lettersOf s seen ≡ Two a b → trees ≡ leaf 0x13 (a ∷ b ∷ []) ∷ []
 unfolding lettersOf constructed
-seen-letters s seen trees a b never h = absurd (unfit h)
-seen-letters s seen trees a b often h = absurd (unfit h)
+seen-letters s seen trees a b never h = absurd (never-unfit h)
+seen-letters s seen trees a b often h = absurd (never-unfit h)
 seen-letters s seen trees a b (once {value = value} {tree = tree} like) h =
     let l = letters-in (value .tag) (elements.contentsOf s value) a b h in
     leaf-of (is-leaf tree 0x13 refl (like .sound) (sym (like .tag) ∙ l .0)) (sym (like .contents) ∙ l .1)

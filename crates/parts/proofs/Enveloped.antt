@@ -112,11 +112,11 @@ parts-same : {tbs outer x y : Element} → _≡_ {A = Envelope} (Parts x y) (Par
 parts-same e = cc
 
 -- where the outermost tree's stretch was left, the envelope tells its members
-pub enveloped :
+pub envelope-members :
     (s : List ℕ) (tree : Tree) (tbs outer : Element) → Spans s 0 (length s) (more tree none) → envelopeOf s ≡ Parts tbs outer
     → Enveloped s tree tbs
 unfolding envelopeOf constructed placeIn along numbered
-enveloped s tree tbs outer root e =
+envelope-members s tree tbs outer root e =
     let a = went (foundTagged s 0 (length s) 0x30) Formless _ (Parts tbs outer) formless e in
     let o = tagged-first s 0 (length s) 0x30 (more tree none) (a .element) root (a .there) in
     let i = members-inside s 0 (length s) 0x30 (more tree none) (a .element) refl o in

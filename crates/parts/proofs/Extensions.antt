@@ -3,7 +3,7 @@
 use Prim.Native.Nat.{ℕ, zero, suc, _≤_}
 use mathlib.Core.Path.{_≡_, refl, sym, ap, subst, _∙_}
 use mathlib.Core.Bool.{Bool, true, false, true≢false, cond}
-use mathlib.Core.List.{List}
+use mathlib.Core.List.{List, [], _∷_}
 use native.Mathlib.Omega.{arith}
 use borrow.Author.Tests.{eqb-true}
 use lib.Dec.{eqb}
@@ -21,7 +21,7 @@ use Rattle.octets.proofs.Likeness.{alike-is, is-alike}
 use Rattle.elements.proofs.Members.{found-within, members-none, members-more}
 use Rattle.extensions.specs.declared.Extension.{Extension}
 use Rattle.extensions.specs.declared.Extension.the-variants.{Is, Absent}
-use Rattle.extensions.specs.Extensions.{holdingOf, extensionOf, present, allShaped, hasOid, firstWith}
+use Rattle.extensions.specs.Extensions.{holdingOf, extensionOf, present, allShaped, hasOid, firstWith, sameOids, standsIn, doubledIn}
 use Rattle.parts.specs.Places.{Place, At, numbered, memberAt}
 use Rattle.parts.specs.Shown.{extension}
 use Rattle.parts.proofs.Inverse.{went, kept, parted, tagged-found}
@@ -66,12 +66,12 @@ held e own oid value flag critical next h =
 record Opened (s : List ℕ) (e oid : Element) (critical : Bool) (value : Element) : Type 0 where
   built : e .tag ≡ 0x30
   named : foundTagged s (e .contents) (e .end) 0x06 ≡ One oid
-  plain : critical ≡ false → foundTagged s (oid .end) (e .end) 0x04 ≡ One value
+  uncritical : critical ≡ false → foundTagged s (oid .end) (e .end) 0x04 ≡ One value
   last : value .end ≡ e .end
 
-opened : (s : List ℕ) (e oid : Element) (critical : Bool) (value : Element) → extensionOf s e ≡ Is oid critical value → Opened s e oid critical value
+open-extension : (s : List ℕ) (e oid : Element) (critical : Bool) (value : Element) → extensionOf s e ≡ Is oid critical value → Opened s e oid critical value
 unfolding extensionOf foundTagged
-opened s e oid critical value h =
+open-extension s e oid critical value h =
     let r = Is oid critical value in
     let k = kept (eqb (e .tag) 0x30) _ Absent r absent h in
     let a = went (foundTagged s (e .contents) (e .end) 0x06) Absent _ r absent (k .1) in
@@ -82,14 +82,14 @@ opened s e oid critical value h =
     record {
       built = eqb-true _ _ (k .0);
       named = a .there ∙ ap One (q .0);
-      plain = λ p. absurd (true≢false (q .1 ∙ p));
+      uncritical = λ p. absurd (true≢false (q .1 ∙ p));
       last = q .3;
     })
     (λ c. let q = held e (a .element) oid value false critical (One (b .element)) c in
     record {
       built = eqb-true _ _ (k .0);
       named = a .there ∙ ap One (q .0);
-      plain = λ p.
+      uncritical = λ p.
           subst (λ (x : Element). withTag 0x04 (foundAt s (x .end) (e .end)) ≡ One value) (q .0) (ap (withTag 0x04) (b .there) ∙ q .2);
       last = q .3;
     })
@@ -115,14 +115,14 @@ extension-tree :
     → extensionOf s e ≡ Is oid critical value → Extended s place tree oid critical value
 unfolding constructed
 extension-tree s place e tree oid critical value p h =
-    let o = opened s e oid critical value h in
+    let o = open-extension s e oid critical value h in
     let n = is-node tree 0x30 refl (p .sound) (sym (p .tag) ∙ o .built) in
     let t = tagged-first s (e .contents) (e .end) 0x06 (n .0) oid (p .inside 0x30 (n .0) (n .1)) (o .named) in
     let second = members-place p 0x30 (n .0) (n .1) 1 ∙ row-later (t .member) (t .split) 0 in
     record {
       rest = t .rest;
       shape = shape-of (n .1) (t .split) (found-leaf s (e .contents) (e .end) 0x06 (n .0) oid refl t);
-      uncritical = λ c. value-tree (t .rest) (o .plain c) (o .last) (t .member .next) second;
+      uncritical = λ c. value-tree (t .rest) (o .uncritical c) (o .last) (t .member .next) second;
     }
   where
     value-tree :
@@ -173,6 +173,21 @@ missed :
 missed true x rest e h = absurd (absent (sym h ∙ e))
 missed false x rest e h = (refl, h)
 
+-- what has no OID twice: neither the first stands among the others, nor one of those twice
+no-double : (b r : Bool) → cond b true r ≡ false → (b ≡ false) × (r ≡ false)
+no-double true r h = absurd (true≢false h)
+no-double false r h = (refl, h)
+
+-- an OID that does not stand among some is not found in them
+not-among :
+    (s : List ℕ) (own value : Element) (critical : Bool) (es : List Element) → standsIn s (Is own critical value) es ≡ false
+    → firstWith s (elements.contentsOf s own) es ≡ Absent
+unfolding standsIn sameOids firstWith
+not-among s own value critical [] h = refl
+not-among s own value critical (e ∷ rest) h =
+    let n = no-double (hasOid s (elements.contentsOf s own) (extensionOf s e)) (standsIn s (Is own critical value) rest) h in
+    rw (n .0) (not-among s own value critical rest (n .1))
+
 module _ (s oid : List ℕ) (end : ℕ) where
   -- the look-up, and the test of all shapes, over the first member and the others
   looks : (from : ℕ) (e : Element) → foundAt s from end ≡ One e → (r : Extension) → firstWith s oid (membersOf s from end) ≡ r
@@ -186,6 +201,13 @@ module _ (s oid : List ℕ) (end : ℕ) where
   tests from e f h =
       kept (present (extensionOf s e)) (allShaped s (membersOf s (e .end) end)) false true (λ p. true≢false (sym p))
       (sym (ap (allShaped s) (members-more s from end f)) ∙ h)
+
+  doubles : (from : ℕ) (e : Element) → foundAt s from end ≡ One e → doubledIn s (membersOf s from end) ≡ false
+      → (standsIn s (extensionOf s e) (membersOf s (e .end) end) ≡ false) × (doubledIn s (membersOf s (e .end) end) ≡ false)
+  unfolding doubledIn
+  doubles from e f h =
+      no-double (standsIn s (extensionOf s e) (membersOf s (e .end) end)) (doubledIn s (membersOf s (e .end) end))
+      (sym (ap (doubledIn s) (members-more s from end f)) ∙ h)
 
   -- the extension that a look-up finds, if it is not critical
   pub look-finds :
@@ -243,3 +265,37 @@ module _ (s oid : List ℕ) (end : ℕ) where
       let p = present-is (extensionOf s (x .0)) (shapes .0) in
       let rest = missed (hasOid s oid (extensionOf s (x .0))) _ _ (p .3) (looks from (x .0) (x .1) Absent h) in
       look-misses trees (x .0 .end) (x .2 .next) (shapes .1) (rest .1) number at members (sym (row-later (x .2) refl number) ∙ stands)
+
+  -- where no OID stands twice, one number has this one
+  apart :
+      {tree : Tree} {trees : Trees} (from : ℕ) → Spans s from end (more tree trees) → allShaped s (membersOf s from end) ≡ true
+      → doubledIn s (membersOf s from end) ≡ false → (members : Trees) → tree ≡ node 0x30 (more (leaf 0x06 oid) members) → (number at : ℕ) (others : Trees)
+      → numbered (more tree trees) (suc number) from ≡ At (node 0x30 (more (leaf 0x06 oid) others)) at → ⊥
+  apart {tree} {trees} from sp shaped single members shape number at others stands =
+      let x = found-first s from end tree trees sp in
+      let shapes = tests from (x .0) (x .1) shaped in
+      let p = present-is (extensionOf s (x .0)) (shapes .0) in
+      let t = extension-tree s (numbered (more tree trees) 0 from) (x .0) tree (p .0) (p .1) (p .2) (row-here (x .2) refl) (p .3) in
+      let alone = ap (λ (y : Extension). standsIn s y (membersOf s (x .0 .end) end)) (sym (p .3)) ∙ doubles from (x .0) (x .1) single .0 in
+      let same = oid-same (sym (t .shape) ∙ shape) in
+      let missed = not-among s (p .0) (p .2) (p .1) (membersOf s (x .0 .end) end) alone in
+      look-misses trees (x .0 .end) (x .2 .next) (shapes .1)
+      (subst (λ (c : List ℕ). firstWith s c (membersOf s (x .0 .end) end) ≡ Absent) same missed)
+      number at others (sym (row-later (x .2) refl number) ∙ stands)
+
+  pub oid-once :
+      (trees : Trees) (from : ℕ) → Spans s from end trees → allShaped s (membersOf s from end) ≡ true → doubledIn s (membersOf s from end) ≡ false
+      → (i j at other : ℕ) (members others : Trees) → numbered trees i from ≡ At (node 0x30 (more (leaf 0x06 oid) members)) at
+      → numbered trees j from ≡ At (node 0x30 (more (leaf 0x06 oid) others)) other → i ≡ j
+  unfolding numbered
+  oid-once none from sp shaped single i j at other members others a b = let z : _≡_ {A = ℕ} 0 1 = cc in absurd (omega arith)
+  oid-once (more tree trees) from sp shaped single zero zero at other members others a b = refl
+  oid-once (more tree trees) from sp shaped single zero (suc j) at other members others a b =
+      absurd (apart from sp shaped single members (tree-same a) j other others b)
+  oid-once (more tree trees) from sp shaped single (suc i) zero at other members others a b =
+      absurd (apart from sp shaped single others (tree-same b) i at members a)
+  oid-once (more tree trees) from sp shaped single (suc i) (suc j) at other members others a b =
+      let x = found-first s from end tree trees sp in
+      let later = row-later (x .2) refl in
+      ap suc (oid-once trees (x .0 .end) (x .2 .next) (tests from (x .0) (x .1) shaped .1) (doubles from (x .0) (x .1) single .1)
+      i j at other members others (sym (later i) ∙ a) (sym (later j) ∙ b))

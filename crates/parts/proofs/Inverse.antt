@@ -20,14 +20,14 @@ use Rattle.names.specs.Names.{onName}
 use Rattle.times.specs.Times.{timeTag, timeAt}
 
 -- the element that a step went on from
-pub record Went {A : Type 0} (f : Found) (next : Element → A) (r : A) : Type 0 where
+pub record Onward {A : Type 0} (f : Found) (next : Element → A) (r : A) : Type 0 where
   pub element : Element
   pub there : f ≡ One element
   pub then : next element ≡ r
 
 pub went :
     {A : Type 0} (f : Found) (missing : A) (next : Element → A) (r : A) → (missing ≡ r → ⊥) → onFound f missing next ≡ r
-    → Went f next r
+    → Onward f next r
 unfolding onFound
 went Missing missing next r other e = absurd (other e)
 went (One element) missing next r other e = record { element = element; there = refl; then = e }

@@ -22,7 +22,7 @@ use Rattle.elements.specs.Elements.{foundTagged, onFound, inside}
 use Rattle.elements.specs.Elements as elements
 use Rattle.extensions.specs.declared.Extension.{Extension}
 use Rattle.extensions.specs.declared.Extension.the-variants.{Is, Absent}
-use Rattle.extensions.specs.Extensions.{allShaped, extensionsShaped, lookupOf}
+use Rattle.extensions.specs.Extensions.{allShaped, extensionsShaped, lookupOf, doubledOf}
 use Rattle.certificate.specs.declared.keys.KeyId.{KeyId}
 use Rattle.certificate.specs.declared.keys.KeyId.the-variants.{Key, Misformed}
 use Rattle.certificate.specs.declared.rules.Readings.{Readings}
@@ -36,7 +36,7 @@ use Rattle.parts.proofs.Inverse.{kept, both}
 use Rattle.parts.proofs.Spans.{Spans}
 use Rattle.parts.proofs.Standing.{Part, row-here, part-at, contents-length, contents-part, members-place}
 use Rattle.parts.proofs.Enveloped.{Tagged, tagged-first, members-inside}
-use Rattle.parts.proofs.Extensions.{Holds, Met, found-leaf, look-finds, look-misses}
+use Rattle.parts.proofs.Extensions.{Holds, Met, found-leaf, look-finds, look-misses, oid-once}
 
 -- octets of the item that are those of a sound tree
 tree-span :
@@ -65,13 +65,13 @@ passes-count (Passed count) h = (count, refl)
 passes-count (Refused refusal) h = absurd (true≢false (sym h))
 
 -- the one tree of a value that passes the walk, in its place in the item
-record Walks (s : List ℕ) (value : Element) : Type 0 where
+record Walking (s : List ℕ) (value : Element) : Type 0 where
   tree : Tree
   octets : elements.contentsOf s value ≡ encoded tree
   sound : Sound paper tree
   span : Spans s (value .contents) (value .end) (more tree none)
 
-walks-tree : (s : List ℕ) (value : Element) → Holds s value → walks s value ≡ true → Walks s value
+walks-tree : (s : List ℕ) (value : Element) → Holds s value → walks s value ≡ true → Walking s value
 unfolding walks elements.contentsOf
 walks-tree s value h w =
     let p = passes-count (walkOf paper (elements.contentsOf s value)) w in
@@ -84,7 +84,7 @@ walks-tree s value h w =
     }
 
 -- a tree of a form, and the element in it that is told
-record Told (form : List ℕ → Trees → Tree) (path : List ℕ) (tree : Tree) (start : ℕ) (k : KeyId) : Type 0 where
+record Formed (form : List ℕ → Trees → Tree) (path : List ℕ) (tree : Tree) (start : ℕ) (k : KeyId) : Type 0 where
   key : List ℕ
   beside : Trees
   shape : tree ≡ form key beside
@@ -94,7 +94,7 @@ record Told (form : List ℕ → Trees → Tree) (path : List ℕ) (tree : Tree)
 abbrev Reads : List ℕ → (Element → KeyId) → (List ℕ → Trees → Tree) → List ℕ → Type 0
 Reads s read form path =
     (value : Element) (tree : Tree) → Spans s (value .contents) (value .end) (more tree none) → (read value ≡ Misformed → ⊥)
-    → Told form path tree (value .contents) (read value)
+    → Formed form path tree (value .contents) (read value)
 
 only-same : {x y : Tree} {rest : Trees} → _≡_ {A = Trees} (more x none) (more y rest) → x ≡ y
 only-same h = cc
@@ -109,7 +109,7 @@ octets-read s value tree sp good = go (foundTagged s (value .contents) (value .e
 
     go :
         (f : Found) → foundTagged s (value .contents) (value .end) 0x04 ≡ f → (onFound f Misformed next ≡ Misformed → ⊥)
-        → Told octetString [] tree (value .contents) (onFound f Misformed next)
+        → Formed octetString [] tree (value .contents) (onFound f Misformed next)
     go Missing h good = absurd (good refl)
     go (One key) h good =
         let t = tagged-first s (value .contents) (value .end) 0x04 (more tree none) key sp h in
@@ -139,7 +139,7 @@ first-read s value tree sp good = by-outer (foundTagged s (value .contents) (val
     by-key :
         (outer : Element) → (t : Tagged s (value .contents) (value .end) 0x30 (more tree none) outer)
         → (f : Found) → foundTagged s (outer .contents) (outer .end) 0x80 ≡ f → (onFound f Misformed next ≡ Misformed → ⊥)
-        → Told firstMember (0 ∷ []) tree (value .contents) (onFound f Misformed next)
+        → Formed firstMember (0 ∷ []) tree (value .contents) (onFound f Misformed next)
     by-key outer t Missing h good = absurd (good refl)
     by-key outer t (One key) h good =
         let i = members-inside s (value .contents) (value .end) 0x30 (more tree none) outer refl t in
@@ -154,7 +154,7 @@ first-read s value tree sp good = by-outer (foundTagged s (value .contents) (val
 
     by-outer :
         (f : Found) → foundTagged s (value .contents) (value .end) 0x30 ≡ f → (onFound f Misformed inner ≡ Misformed → ⊥)
-        → Told firstMember (0 ∷ []) tree (value .contents) (onFound f Misformed inner)
+        → Formed firstMember (0 ∷ []) tree (value .contents) (onFound f Misformed inner)
     by-outer Missing h good = absurd (good refl)
     by-outer (One outer) h good =
         by-key outer (tagged-first s (value .contents) (value .end) 0x30 (more tree none) outer sp h)
@@ -169,11 +169,14 @@ long :
 unfolding contentsOf
 long e p = contents-length p
 
-module _ (s : List ℕ) (root : Tree) (extensions : Element) (trees : Trees) (sp : Spans s (extensions .contents) (extensions .end) trees) (each : (k : ℕ) → placeIn root (0 ∷ 7 ∷ 0 ∷ k ∷ []) ≡ numbered trees k (extensions .contents)) (shaped : extensionsShaped s extensions ≡ true) where
+module _
+    (s : List ℕ) (root : Tree) (extensions : Element) (trees : Trees) (sp : Spans s (extensions .contents) (extensions .end) trees)
+    (each : (k : ℕ) → placeIn root (0 ∷ 7 ∷ 0 ∷ k ∷ []) ≡ numbered trees k (extensions .contents))
+    (shaped : extensionsShaped s extensions ≡ true) (single : doubledOf s extensions ≡ false) where
   key-part :
       (oid : List ℕ) (read : Element → KeyId) (form : List ℕ → Trees → Tree) (path : List ℕ) → Reads s read form path → (k : KeyId)
       → keyIn s (lookupOf s extensions oid) read ≡ k → (k ≡ Misformed → ⊥) → KeyPart root oid form path (keyAt k) (keyLength k)
-  unfolding keyIn keyAt keyLength lookupOf inside extensionsShaped placeIn along
+  unfolding keyIn keyAt keyLength lookupOf inside extensionsShaped doubledOf placeIn along
   key-part oid read form path reads k e good =
       subst (λ (x : KeyId). KeyPart root oid form path (keyAt x) (keyLength x)) e
       (go (lookupOf s extensions oid) refl (λ m. good (sym e ∙ m)))
@@ -195,6 +198,9 @@ module _ (s : List ℕ) (root : Tree) (extensions : Element) (trees : Trees) (sp
             from = l .at;
             inner = t .tree;
             stands = each (l .number) ∙ l .stands ∙ ap (λ (c : List ℕ). At (extension oid c) (l .at)) (t .octets);
+            once = λ other at members e.
+                oid-once s oid (extensions .end) trees (extensions .contents) sp all single other (l .number) at (l .at) members _
+                (sym (each other) ∙ e) (l .stands);
             start = value .contents;
             octets = sized (value .end - value .contents) (contents-part at) (long value at ∙ ap length (t .octets));
             sound = t .sound;

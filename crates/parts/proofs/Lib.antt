@@ -10,4 +10,5 @@ pub mod KeyIdentifiers
 pub mod Serials
 pub mod Lists
 pub mod Countries
+pub mod Unique
 pub mod Theorems

@@ -37,7 +37,7 @@ use Rattle.parts.specs.Shown as shown
 use Rattle.parts.proofs.Inverse.{went, kept, timed-found, by-envelope, by-name}
 use Rattle.parts.proofs.Spans.{Spans, first-of}
 use Rattle.parts.proofs.Members.{span-members, many-elements}
-use Rattle.parts.proofs.Standing.{Part, row-here, row-later, part-at, contents-part, members-place}
+use Rattle.parts.proofs.Standing.{Part, row-here, row-later, part-at, contents-part}
 use Rattle.parts.proofs.Enveloped.{tagged-first, members-inside, only-tree, only-inside}
 
 broken : {l : Layout} → _≡_ {A = Shape} Broken (Parts l) → ⊥
@@ -72,9 +72,9 @@ pub record Laid (s : List ℕ) (l : Layout) : Type 0 where
   pub last : lastOf s (l .listing .after) (tbs .end) ≡ One (l .extensions)
   pub survey : surveyOf s (l .listing .from) (l .listing .end) ≡ survey.Entries (l .count) (l .timely) (l .calm)
 
-pub laid : (s : List ℕ) (l : Layout) → layoutOf s ≡ Parts l → Laid s l
+pub laid-out : (s : List ℕ) (l : Layout) → layoutOf s ≡ Parts l → Laid s l
 unfolding layoutOf
-laid s l e =
+laid-out s l e =
     let a = by-envelope (envelopeOf s) Broken _ (Parts l) broken e in
     let b = by-front (frontOf s (a .0)) _ (a .3) in
     let c = by-name (nameOf s (b .2)) Broken _ (Parts l) broken (b .6) in
@@ -116,11 +116,11 @@ split-five a b c d e = cc
 opens-same : {a b c d e p q r t u : Element} → _≡_ {A = Front} (Opens a b c d e) (Opens p q r t u) → (c ≡ r) × (d ≡ t) × (e ≡ u)
 opens-same h = (cc, cc, cc)
 
-pub fronted :
+pub front-members :
     (s : List ℕ) (tbs a b c d e : Element) (members : Trees) → Spans s (tbs .contents) (tbs .end) members
     → frontOf s tbs ≡ Opens a b c d e → Fronted s (tbs .contents) (tbs .end) members c d e
 unfolding frontOf
-fronted s tbs a b c d e members sp p =
+front-members s tbs a b c d e members sp p =
     let r = Opens a b c d e in
     let f1 = went (foundTagged s (tbs .contents) (tbs .end) 0x02) Frontless _ r frontless p in
     let t1 = tagged-first s _ (tbs .end) 0x02 members (f1 .element) sp (f1 .there) in
@@ -206,14 +206,14 @@ none-found s = ap length (members-none s 0 0 (go (foundAt s 0 0) refl))
     go (One e) h = absurd (omega (arith, found-within s 0 0 h))
 
 -- the entry list, if it is there, and the extensions
-pub entered :
+pub entries-told :
     (s : List ℕ) (tree : Tree) (from end : ℕ) (rest : Trees) (listing : Listing) (extensions : Element) (n : ℕ) (timely calm : Bool)
     → Spans s from end rest → placeIn tree (0 ∷ 5 ∷ []) ≡ numbered rest 0 from
     → listing ≡ listingOf from (foundTagged s from end 0x30) → lastOf s (listing .after) end ≡ One extensions
     → surveyOf s (listing .from) (listing .end) ≡ survey.Entries n timely calm
     → Entered tree rest n (listing .from) (listing .end)
 unfolding listingOf constructed
-entered s tree from end rest listing extensions n timely calm sp sixth same last counted =
+entries-told s tree from end rest listing extensions n timely calm sp sixth same last counted =
     go (foundTagged s from end 0x30) refl same
   where
     go : (f : Found) → foundTagged s from end 0x30 ≡ f → listing ≡ listingOf from f → Entered tree rest n (listing .from) (listing .end)

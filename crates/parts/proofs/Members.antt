@@ -1,13 +1,11 @@
 -- Each element that is found is the first tree of what is left of the stretch, so the elements found are the trees, one for one.
 use Prim.Native.Nat.{ℕ, suc, _+_}
-use mathlib.Core.Path.{_≡_, refl, sym, ap, _∙_}
-use mathlib.Core.List.{List, [], _∷_, _++_}
-use native.Mathlib.Omega.{arith}
+use mathlib.Core.Path.{_≡_, refl, ap, _∙_}
+use mathlib.Core.List.{List, _∷_}
 use lib.ListN.{length}
-use Rattle.der.specs.Forms.{paper}
-use Rattle.tree.specs.Tree.{Tree, node, Trees, none, more, encoded, encodedAll, headerOf, Sound, SoundAll, sound-none, sound-more}
+use Rattle.tree.specs.Tree.{Trees, none, more, encoded}
 use Rattle.elements.specs.declared.elements.Element.{Element}
-use Rattle.elements.specs.Elements.{membersOf, inside}
+use Rattle.elements.specs.Elements.{membersOf}
 use Rattle.elements.proofs.Members.{members-none, members-more}
 use Rattle.parts.specs.Places.{elementOf, elementsOf}
 use Rattle.parts.specs.Shown.{many}

@@ -1,7 +1,7 @@
 -- The first tree of a stretch stands where the stretch starts and the others after it, so each element that is found in a row is
 -- the tree at the place with its number.
 use Prim.Native.Nat.{ℕ, suc, _+_, _-_}
-use mathlib.Core.Path.{_≡_, refl, sym, ap, _∙_}
+use mathlib.Core.Path.{_≡_, sym, ap, _∙_}
 use mathlib.Core.List.{List}
 use native.Mathlib.Omega.{arith}
 use lib.ListN.{length}

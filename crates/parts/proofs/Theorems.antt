@@ -1,11 +1,11 @@
 -- What the parts reported of a certificate or a CRL are, by their places in the item's tree.
 use Prim.Native.Nat.{ℕ, _+_}
 use mathlib.Core.Path.{_≡_, refl, sym, ap, ap₂, subst, _∙_}
-use mathlib.Core.Bool.{true, false, true≢false}
+use mathlib.Core.Bool.{true, true≢false, not}
 use mathlib.Core.List.{List, [], _∷_, _++_, append-assoc, append-nil}
 use native.Mathlib.Omega.{arith}
 use borrow.Author.Tests.{not-true}
-use lib.Dec.{lit≤}
+use lib.Dec.{eqb, lit≤}
 use lib.ListN.{length, take, drop, length-append}
 use Rattle.der.specs.Forms.{paper}
 use Rattle.der.specs.Heading.{constructed}
@@ -16,6 +16,7 @@ use Rattle.tree.proofs.Parts.{encoded-parts, length-parts}
 use Rattle.elements.specs.declared.elements.Element.{Element}
 use Rattle.elements.specs.Elements.{membersOf, inside}
 use Rattle.elements.specs.Elements as elements
+use Rattle.extensions.specs.Extensions.{doubledOf}
 use Rattle.names.specs.declared.Letters.{Letters}
 use Rattle.names.specs.declared.Letters.the-variants.{Two, Unfit}
 use Rattle.names.specs.Names.{firstLetter, secondLetter}
@@ -26,7 +27,7 @@ use Rattle.certificate.specs.declared.Fields as certificate
 use Rattle.certificate.specs.declared.Judged.the-variants as judged
 use Rattle.certificate.specs.Answer as answer
 use Rattle.certificate.specs.Meets.{Passes}
-use Rattle.certificate.specs.Rules.{readingsOf, rule3, sameTwo, rule5, rule6, rule7}
+use Rattle.certificate.specs.Rules.{readingsOf, rule3, sameTwo, rule5, rule6, rule7, rule8}
 use Rattle.certificate.proofs.Theorems as theorems
 use Rattle.crl.specs.declared.Fields as crl
 use Rattle.crl.specs.declared.Judged.the-variants as list-judged
@@ -34,7 +35,7 @@ use Rattle.crl.specs.Answer as list-answer
 use Rattle.crl.specs.Rules as list-rules
 use Rattle.crl.proofs.Theorems as list-theorems
 use Rattle.parts.specs.Places.{Place, At, numbered, memberAt, along, placeIn, elementOf, elementsOf}
-use Rattle.parts.specs.Shown.{Whole, Contents, Timed, signed, Certificate, Crl}
+use Rattle.parts.specs.Shown.{Timed, Certificate, Crl}
 use Rattle.parts.specs.Serial.{Positive}
 use Rattle.parts.proofs.Inverse.{both}
 use Rattle.parts.proofs.Lists as lists
@@ -42,11 +43,12 @@ use Rattle.parts.proofs.Spans.{Spans, members-sound}
 use Rattle.parts.proofs.Members.{span-members}
 use Rattle.parts.proofs.Standing.{Part, part-at, whole-part, contents-part}
 use Rattle.parts.proofs.Octets.{octets-at}
-use Rattle.parts.proofs.Enveloped.{Enveloped, enveloped, is-leaf}
-use Rattle.parts.proofs.Certificates.{Laid, laid, Fronted, fronted, lasting, backed}
+use Rattle.parts.proofs.Enveloped.{Enveloped, envelope-members, is-leaf}
+use Rattle.parts.proofs.Certificates.{Laid, laid-out, Fronted, front-members, two-times, back-members}
 use Rattle.parts.proofs.Countries.{name-letters}
 use Rattle.parts.proofs.KeyIdentifiers.{subject-key, authority-key, keys-formed}
 use Rattle.parts.proofs.Serials.{serial-positive}
+use Rattle.parts.proofs.Unique.{certificate-unique, crl-unique}
 
 -- The elements of a stretch that encodes sound trees are those trees, one for one and in order.
 pub members-trees :
@@ -135,14 +137,14 @@ Begun item role f p =
     (t : Encodes paper item (p .count)) × (l : Laid item (p .layout)) × (v : Enveloped item (t .tree) (l .tbs))
     × Fronted item (l .tbs .contents) (l .tbs .end) (v .members) (p .layout .serial) (p .layout .issuer) (l .validity)
 
-begun : (item : List ℕ) (role : ℕ) (f : certificate.Fields) → Octets item → (p : Passes item role f) → Begun item role f p
+begin : (item : List ℕ) (role : ℕ) (f : certificate.Fields) → Octets item → (p : Passes item role f) → Begun item role f p
 unfolding Begun
-begun item role f octets p =
+begin item role f octets p =
     let t = walk-passes paper (lit≤ tt) item (p .count) octets .0 (p .walks) in
     let y = p .layout in
-    let l = laid item y (p .shape) in
-    let v = enveloped item (t .tree) (l .tbs) (l .outer) (root item (p .count) t) (l .around) in
-    (t, l, v, fronted item (l .tbs) (l .version) (y .serial) (y .inner) (y .issuer) (l .validity) (v .members) (v .span) (l .front))
+    let l = laid-out item y (p .shape) in
+    let v = envelope-members item (t .tree) (l .tbs) (l .outer) (root item (p .count) t) (l .around) in
+    (t, l, v, front-members item (l .tbs) (l .version) (y .serial) (y .inner) (y .issuer) (l .validity) (v .members) (v .span) (l .front))
 
 -- Of a certificate that passes, each part reported is a member of the item's tree, told by its place: serial, issuer, the two
 -- times, subject and key by their numbers in the tbs, the letters in the issuer, the key identifiers in the extensions that have
@@ -150,14 +152,15 @@ begun item role f octets p =
 pub certificate-parts :
     (item : List ℕ) (role : ℕ) (f : certificate.Fields) → Octets item → answer.judgedOf item role ≡ judged.Passed f
     → Certificate item f
-unfolding Begun rule5 rule6 rule7 answer.fieldsOf readingsOf placeIn along
+unfolding Begun rule5 rule6 rule7 rule8 answer.fieldsOf readingsOf placeIn along
 certificate-parts item role f octets e =
     let p = theorems.passes-exactly item role f .0 e in
     let y = p .layout in
-    let (t, l, v, a) = begun item role f octets p in
-    let b = backed item (l .validity .end) (l .tbs .end) (y .subject) (y .key) (y .unique) (y .extensions) (a .rest) (a .next) (l .back) (not-true (y .unique) (p .meets .bare)) in
-    let c = lasting item (numbered (v .members) 4 (l .tbs .contents)) (l .validity) (y .start) (y .finish) (a .validity) (a .validity-part) (a .validity-tag) (l .times) in
+    let (t, l, v, a) = begin item role f octets p in
+    let b = back-members item (l .validity .end) (l .tbs .end) (y .subject) (y .key) (y .unique) (y .extensions) (a .rest) (a .next) (l .back) (not-true (y .unique) (p .meets .bare)) in
+    let c = two-times item (numbered (v .members) 4 (l .tbs .contents)) (l .validity) (y .start) (y .finish) (a .validity) (a .validity-part) (a .validity-tag) (l .times) in
     let k = keys-formed (readingsOf item y) role (p .meets .keys) in
+    let single = not-true (doubledOf item (y .extensions)) (both (not (eqb (length (inside item (y .extensions))) 0)) _ (p .meets .once) .1) in
     let m = moments (timeOf item (y .start)) (timeOf item (y .finish)) (p .meets .times) in
     let issuer = part-at (a .issuer-part) (v .each 3) in
     let each : (n : ℕ) → placeIn (t .tree) (0 ∷ 7 ∷ 0 ∷ n ∷ []) ≡ numbered (b .extensions) n (y .extensions .contents) =
@@ -188,8 +191,8 @@ certificate-parts item role f octets e =
       end-part = timed-part (part-at (c .end-part) (ap (λ (q : Place). memberAt q 1) (v .each 4))) (m .1);
       subject-part = whole-part (part-at (b .subject-part) (v .each 5 ∙ a .later 0));
       key-part = whole-part (part-at (b .key-part) (v .each 6 ∙ a .later 1));
-      subject-key-part = subject-key item (t .tree) (y .extensions) (b .extensions) (b .inside) each (l .shaped) (k .0);
-      authority-key-part = authority-key item (t .tree) (y .extensions) (b .extensions) (b .inside) each (l .shaped) (k .1);
+      subject-key-part = subject-key item (t .tree) (y .extensions) (b .extensions) (b .inside) each (l .shaped) single (k .0);
+      authority-key-part = authority-key item (t .tree) (y .extensions) (b .extensions) (b .inside) each (l .shaped) single (k .1);
     })
 
 -- Of a certificate that passes, the serial told is one to 20 octets that write a number above zero.
@@ -200,7 +203,7 @@ unfolding Begun rule3 answer.fieldsOf elements.contentsOf constructed
 certificate-serial item role f octets e =
     let p = theorems.passes-exactly item role f .0 e in
     let y = p .layout in
-    let (t, l, v, a) = begun item role f octets p in
+    let (t, l, v, a) = begin item role f octets p in
     let m = a .serial-part in
     let shape = is-leaf (a .serial) 0x02 refl (m .sound) (a .serial-tag) ∙ ap (leaf 0x02) (sym (m .contents)) in
     subst (λ (g : certificate.Fields). Positive (take (g .«serial_len») (drop (g .«serial_at») item))) (sym (p .fields))
@@ -215,9 +218,9 @@ crl-parts item f octets e =
     let p = list-theorems.passes-exactly item f .0 e in
     let y = p .parts in
     let t = walk-passes paper (lit≤ tt) item (p .count) octets .0 (p .walks) in
-    let l = lists.laid item y (p .meets .shape) in
-    let v = enveloped item (t .tree) (l .tbs) (l .outer) (root item (p .count) t) (l .around) in
-    let a = lists.fronted item (l .tbs) (y .version) (y .inner) (y .issuer) (y .current) (y .coming) (v .members) (v .span) (l .front) in
+    let l = lists.laid-out item y (p .meets .shape) in
+    let v = envelope-members item (t .tree) (l .tbs) (l .outer) (root item (p .count) t) (l .around) in
+    let a = lists.front-members item (l .tbs) (y .version) (y .inner) (y .issuer) (y .current) (y .coming) (v .members) (v .span) (l .front) in
     let m = moments (timeOf item (y .current)) (timeOf item (y .coming)) (both (inOrder (timeOf item (y .current)) (timeOf item (y .coming))) (y .timely) (p .meets .times) .0) in
     let issuer = part-at (a .issuer-part) (v .each 2) in
     subst (Crl item) (sym (p .fields))
@@ -241,6 +244,13 @@ crl-parts item f octets e =
       this-part = timed-part (part-at (a .current-part) (v .each 3)) (m .0);
       next-part = timed-part (part-at (a .coming-part) (v .each 4)) (m .1);
       entries-part =
-          lists.entered item (t .tree) (y .coming .end) (l .tbs .end) (a .rest) (y .listing) (y .extensions) (y .count) (y .timely) (y .calm)
+          lists.entries-told item (t .tree) (y .coming .end) (l .tbs .end) (a .rest) (y .listing) (y .extensions) (y .count) (y .timely) (y .calm)
           (a .next) (v .each 5 ∙ a .sixth) (l .listed) (l .last) (l .survey);
     })
+
+-- No second fields fit a certificate or a CRL so.
+pub certificate-one : (item : List ℕ) (f g : certificate.Fields) → Certificate item f → Certificate item g → f ≡ g
+certificate-one = certificate-unique
+
+pub crl-one : (item : List ℕ) (f g : crl.Fields) → Crl item f → Crl item g → f ≡ g
+crl-one = crl-unique

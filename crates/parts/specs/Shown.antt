@@ -45,13 +45,16 @@ pub record Lettered (place : Place) (first second : ℕ) : Type 0 where
 abbrev pub extension : List ℕ → List ℕ → Tree
 extension oid contents = node 0x30 (more (leaf 0x06 oid) (more (leaf 0x04 contents) none))
 
--- a key identifier in an extension: `inner` is the tree that the contents of the extension's OCTET STRING encode, `path` leads to
--- the key identifier in it
+-- A key identifier, in the one extension with the OID, the member `number` of the list. Its OCTET STRING's contents, which start
+-- at `start`, encode the tree `inner` of the form asked for, and in that `path` leads to the key identifier.
 pub record KeyTold (tree : Tree) (oid : List ℕ) (form : List ℕ → Trees → Tree) (path : List ℕ) (at size : ℕ) : Type 0 where
   pub number : ℕ
   pub from : ℕ
   pub inner : Tree
   pub stands : placeIn tree (0 ∷ 7 ∷ 0 ∷ number ∷ []) ≡ At (extension oid (encoded inner)) from
+  pub once :
+      (other at : ℕ) (members : Trees)
+      → placeIn tree (0 ∷ 7 ∷ 0 ∷ other ∷ []) ≡ At (node 0x30 (more (leaf 0x06 oid) members)) at → other ≡ number
   pub start : ℕ
   pub octets : Contents (placeIn tree (0 ∷ 7 ∷ 0 ∷ number ∷ 1 ∷ [])) start (length (encoded inner))
   pub sound : Sound paper inner
@@ -60,7 +63,7 @@ pub record KeyTold (tree : Tree) (oid : List ℕ) (form : List ℕ → Trees →
   pub shape : inner ≡ form key beside
   pub part : Contents (along (At inner start) path) at size
 
--- what is told of a key identifier: 0 and 0 where no extension has the OID
+-- what is told of a key identifier: offset and length of its contents, 0 and 0 where no extension has the OID
 pub data KeyPart (tree : Tree) (oid : List ℕ) (form : List ℕ → Trees → Tree) (path : List ℕ) (at size : ℕ) : Type 0 where
   told : KeyTold tree oid form path at size → KeyPart tree oid form path at size
   absent :
