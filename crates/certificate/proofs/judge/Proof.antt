@@ -16,11 +16,15 @@ returns-2 c = rw (le-leb _ _ (c .before .if1 .left), lt-leb _ _ (c .if2 .taken))
 
 returns-3 : tie.Need-returns-3
 unfolding judgedOf onWalk
-returns-3 c = rw (le-leb _ _ (c .before .before .before .before .before .if1 .left), le-leb _ _ (c .before .before .before .before .if2 .left), sym (c .before .before .before .walk .ensures .0) ∙ c .before .refusal .given .1)
+returns-3 c =
+    let back4 = c .before .before .before .before in
+    rw (le-leb _ _ (back4 .before .if1 .left), le-leb _ _ (c .before .before .before .before .if2 .left), sym (c .before .before .before .walk .ensures .0) ∙ c .before .refusal .given .1)
 
 returns-4 : tie.Need-returns-4
 unfolding judgedOf onWalk
-returns-4 c = rw (le-leb _ _ (c .before .before .before .before .before .if1 .left), le-leb _ _ (c .before .before .before .before .if2 .left), sym (c .before .before .before .walk .ensures .0) ∙ c .before .enum-told .given .1) (c .profile .ensures)
+returns-4 c =
+    let back4 = c .before .before .before .before in
+    rw (le-leb _ _ (back4 .before .if1 .left), le-leb _ _ (c .before .before .before .before .if2 .left), sym (c .before .before .before .walk .ensures .0) ∙ c .before .enum-told .given .1) (c .profile .ensures)
 
 pub judge-spec : {M : Type 1} → statement M
 judge-spec =

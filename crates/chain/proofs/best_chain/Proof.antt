@@ -13,7 +13,9 @@ returns : tie.Need-returns
 returns c = refused _ (sym (c .before .before .before .before .question .ensures) ∙ c .before .before .refusal .given .1) (c .refused .ensures)
 
 returns-2 : tie.Need-returns-2
-returns-2 c = answering _ _ _ _ (sym (c .before .before .before .before .before .question .ensures) ∙ c .before .before .before .places .given .1) (c .before .chain-among .ensures) (c .shown .ensures)
+returns-2 c =
+    let back4 = c .before .before .before .before in
+    answering _ _ _ _ (sym (back4 .before .question .ensures) ∙ c .before .before .before .places .given .1) (c .before .chain-among .ensures) (c .shown .ensures)
 
 pub best-chain-spec : {M : Type 1} → statement M
 best-chain-spec =

@@ -13,11 +13,15 @@ returns c = shape-missing _ (sym (c .before .before .layout-of .ensures) ∙ c .
 
 returns-2 : tie.Need-returns-2
 unfolding profileOf graded
-returns-2 c = shape-there _ (sym (c .before .before .before .before .before .before .layout-of .ensures) ∙ c .before .before .before .before .l .given .1) (rw (← c .before .before .readings-of .ensures, ← c .before .rules-2-to-8 .ensures, ne-eqb _ _ (c .if1 .taken)))
+returns-2 c =
+    let back4 = c .before .before .before .before in
+    shape-there _ (sym (back4 .before .before .layout-of .ensures) ∙ c .before .before .before .before .l .given .1) (rw (← c .before .before .readings-of .ensures, ← c .before .rules-2-to-8 .ensures, ne-eqb _ _ (c .if1 .taken)))
 
 returns-3 : tie.Need-returns-3
 unfolding profileOf graded
-returns-3 c = shape-there _ (sym (c .before .before .before .before .before .before .before .layout-of .ensures) ∙ c .before .before .before .before .before .l .given .1) (rw (← c .before .before .before .readings-of .ensures, ← c .before .before .rules-2-to-8 .ensures, eq-eqb _ _ (c .before .if1 .left), c .fields-of .ensures))
+returns-3 c =
+    let back4 = c .before .before .before .before in
+    shape-there _ (sym (back4 .before .before .before .layout-of .ensures) ∙ back4 .before .l .given .1) (rw (← c .before .before .before .readings-of .ensures, ← c .before .before .rules-2-to-8 .ensures, eq-eqb _ _ (c .before .if1 .left), c .fields-of .ensures))
 
 pub profile-spec : {M : Type 1} → statement M
 profile-spec =

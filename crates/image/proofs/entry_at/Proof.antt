@@ -16,8 +16,9 @@ cast-t9 c = omega (arith, c .before .before .shared-slice-known .given (c .befor
 returns : tie.Need-returns
 unfolding entryAt
 returns c =
-    let s = c .before .before .before .before .before .args .image .now in
-    let at = c .before .before .before .before .before .args .at in
+    let back4 = c .before .before .before .before in
+    let s = back4 .before .args .image .now in
+    let at = back4 .before .args .at in
     (rw (field-one s at (omega arith), field-one s (at + 1) (omega arith), c .before .two .ensures .0, c .four .ensures .0), c .before .two .ensures .1)
 
 pub entry-at-spec : {M : Type 1} → statement M

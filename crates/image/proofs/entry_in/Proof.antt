@@ -16,11 +16,15 @@ returns c =
 
 returns-2 : tie.Need-returns-2
 unfolding entryIn
-returns-2 c = c .entry-cut .ensures ∙ ap (λ (i : ℕ). entryAt (c .before .before .before .before .before .args .image .now) (i + 8 * c .before .before .before .before .before .args .place)) (c .before .before .index-start .ensures .0)
+returns-2 c =
+    let back4 = c .before .before .before .before in
+    c .entry-cut .ensures ∙ ap (λ (i : ℕ). entryAt (back4 .before .args .image .now) (i + 8 * back4 .before .args .place)) (c .before .before .index-start .ensures .0)
 
 returns-3 : tie.Need-returns-3
 unfolding entryIn
-returns-3 c = c .entry-at .ensures .0 ∙ ap (λ (i : ℕ). entryAt (c .before .before .before .before .before .args .image .now) (i + 8 * c .before .before .before .before .before .args .place)) (c .before .before .index-start .ensures .0)
+returns-3 c =
+    let back4 = c .before .before .before .before in
+    c .entry-at .ensures .0 ∙ ap (λ (i : ℕ). entryAt (back4 .before .args .image .now) (i + 8 * back4 .before .args .place)) (c .before .before .index-start .ensures .0)
 
 pub entry-in-spec : {M : Type 1} → statement M
 entry-in-spec =

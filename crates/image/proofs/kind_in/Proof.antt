@@ -10,11 +10,15 @@ use Rattle.image.proofs.kind_in.Statement.{statement}
 use Rattle.image.proofs.kind_in.Tie as tie
 
 cast-result : tie.Need-cast-result
-cast-result c = omega (arith, c .before .before .before .before .shared-slice-known .given (c .before .before .index-start .result + 8 * c .before .before .before .before .before .args .place))
+cast-result c =
+    let back4 = c .before .before .before .before in
+    omega (arith, c .before .before .before .before .shared-slice-known .given (c .before .before .index-start .result + 8 * back4 .before .args .place))
 
 returns : tie.Need-returns
 unfolding entryIn entryAt
-returns c = sym (field-one (c .before .before .before .before .before .args .image .now) (c .before .before .index-start .result + 8 * c .before .before .before .before .before .args .place) (c .before .if2 .taken)) ∙ ap (λ (k : ℕ). field (c .before .before .before .before .before .args .image .now) (k + 8 * c .before .before .before .before .before .args .place) 1) (c .before .before .index-start .ensures .0)
+returns c =
+    let back4 = c .before .before .before .before in
+    sym (field-one (back4 .before .args .image .now) (c .before .before .index-start .result + 8 * back4 .before .args .place) (c .before .if2 .taken)) ∙ ap (λ (k : ℕ). field (back4 .before .args .image .now) (k + 8 * back4 .before .args .place) 1) (c .before .before .index-start .ensures .0)
 
 returns-2 : tie.Need-returns-2
 returns-2 c = ap (λ (e : IndexEntry). e .kind) (c .entry-in .ensures)

@@ -26,7 +26,9 @@ one c = simp (le-leb _ _ (c .before .if1 .left), le-leb _ _ (c .if2 .left))
 
 returns-3 : tie.Need-returns-3
 unfolding rule2 versionIn
-returns-3 c = c .broken3 .ensures ∙ sym (breaks-2 (c .before .before .before .before .before .before .args .image .now) (one (c .before .before .before)) (ne-eqb _ _ λ e. c .before .if3 .taken (c .before .before .two .ensures .0 ∙ e)))
+returns-3 c =
+    let back4 = c .before .before .before .before in
+    c .broken3 .ensures ∙ sym (breaks-2 (back4 .before .before .args .image .now) (one (c .before .before .before)) (ne-eqb _ _ λ e. c .before .if3 .taken (c .before .before .two .ensures .0 ∙ e)))
 
 two : (c : tie.Else3) → rule2 (c .before .before .before .before .before .args .image .now) ≡ true
 unfolding rule2 versionIn
@@ -34,7 +36,10 @@ two c = eq-eqb _ _ (sym (c .before .two .ensures .0) ∙ c .if3 .left)
 
 returns-4 : tie.Need-returns-4
 unfolding rule3 entryCount
-returns-4 c = c .broken4 .ensures ∙ sym (breaks-3 (c .before .before .before .before .before .before .before .before .args .image .now) (one (c .before .before .before .before .before)) (two (c .before .before .before)) (lt-leb _ _ (rw (c .before .before .two2 .ensures .0) at (c .before .if4 .taken))))
+returns-4 c =
+    let back4 = c .before .before .before .before in
+    let back8 = back4 .before .before .before .before in
+    c .broken4 .ensures ∙ sym (breaks-3 (back8 .args .image .now) (one (back4 .before)) (two (c .before .before .before)) (lt-leb _ _ (rw (c .before .before .two2 .ensures .0) at (c .before .if4 .taken))))
 
 three : (c : tie.Else4) → rule3 (c .before .before .before .before .before .before .before .args .image .now) ≡ true
 unfolding rule3 entryCount
@@ -42,7 +47,10 @@ three c = le-leb _ _ (rw (c .before .two2 .ensures .0) at (c .if4 .left))
 
 returns-5 : tie.Need-returns-5
 unfolding rule4 dayIn
-returns-5 c = c .broken5 .ensures ∙ sym (breaks-4 (c .before .before .before .before .before .before .before .before .before .before .before .args .image .now) (one (c .before .before .before .before .before .before .before .before)) (two (c .before .before .before .before .before .before)) (three (c .before .before .before .before)) (rw (← c .before .before .before .four .ensures .0) (sym (c .before .before .real-day .ensures) ∙ not-true _ (c .before .if5 .taken))))
+returns-5 c =
+    let back4 = c .before .before .before .before in
+    let back8 = back4 .before .before .before .before in
+    c .broken5 .ensures ∙ sym (breaks-4 (back8 .before .before .before .args .image .now) (one back8) (two (back4 .before .before)) (three (c .before .before .before .before)) (rw (← c .before .before .before .four .ensures .0) (sym (c .before .before .real-day .ensures) ∙ not-true _ (c .before .if5 .taken))))
 
 four : (c : tie.Else5) → rule4 (c .before .before .before .before .before .before .before .before .before .before .args .image .now) ≡ true
 unfolding rule4 dayIn
@@ -58,13 +66,18 @@ ending : (c : tie.After-four2) →
     let s = c .before .before .before .before .before .before .before .before .before .before .before .args .image .now in
     c .four2 .result + 8 * c .before .before .before .before .before .two2 .result + 12 ≡ indexStart s + 8 * entryCount s + 12
 unfolding entryCount
-ending c = omega (arith, start c, c .before .before .before .before .before .two2 .ensures .0)
+ending c =
+    let back4 = c .before .before .before .before in
+    omega (arith, start c, back4 .before .two2 .ensures .0)
 
 returns-6 : tie.Need-returns-6
 unfolding rule5 indexStart entryCount
 returns-6 c =
+    let back4 = c .before .before .before .before in
+    let back8 = back4 .before .before .before .before in
+    let back12 = back8 .before .before .before .before in
     c .broken6 .ensures
-    ∙ sym (breaks-5 (c .before .before .before .before .before .before .before .before .before .before .before .before .before .args .image .now) (one (c .before .before .before .before .before .before .before .before .before .before)) (two (c .before .before .before .before .before .before .before .before)) (three (c .before .before .before .before .before .before)) (four (c .before .before .before)) (ne-eqb _ _ λ e. c .before .if6 .taken (ending (c .before .before) ∙ e)))
+    ∙ sym (breaks-5 (back12 .before .args .image .now) (one (back8 .before .before)) (two back8) (three (back4 .before .before)) (four (c .before .before .before)) (ne-eqb _ _ λ e. c .before .if6 .taken (ending (c .before .before) ∙ e)))
 
 five : (c : tie.Else6) → rule5 (c .before .before .before .before .before .before .before .before .before .before .before .before .args .image .now) ≡ true
 unfolding rule5
@@ -74,41 +87,57 @@ five c = eq-eqb _ _ (sym (ending (c .before)) ∙ c .if6 .left)
 kept : (c : tie.Else6) →
     let s = c .before .before .before .before .before .before .before .before .before .before .before .before .args .image .now in
     (rule1 s ≡ true) × (rule2 s ≡ true) × (rule3 s ≡ true) × (rule4 s ≡ true) × (rule5 s ≡ true)
-kept c = (
-  one (c .before .before .before .before .before .before .before .before .before),
-  two (c .before .before .before .before .before .before .before),
-  three (c .before .before .before .before .before),
-  four (c .before .before),
-  five c,
-)
+kept c =
+    let back4 = c .before .before .before .before in
+    let back8 = back4 .before .before .before .before in (
+      one (back8 .before),
+      two (back4 .before .before .before),
+      three (back4 .before),
+      four (c .before .before),
+      five c,
+    )
 
 returns-7 : tie.Need-returns-7
 unfolding rule6 totalOf fit indexStart entryCount
 returns-7 c =
+    let back4 = c .before .before .before .before in
+    let back8 = back4 .before .before .before .before in
+    let back12 = back8 .before .before .before .before in
+    let back16 = back12 .before .before .before .before in
     let k = kept (c .before .before .before .before) in
     c .broken7 .ensures
-    ∙ sym (breaks-6 (c .before .before .before .before .before .before .before .before .before .before .before .before .before .before .before .before .args .image .now) (k .0) (k .1) (k .2) (k .3) (k .4) (simp (sym (c .before .before .before .before .before .before .before .before .before .before .two2 .ensures .0), sym (c .before .before .before .before .before .four2 .ensures .0), sym (c .before .before .before .sum-entries .ensures) ∙ c .before .enum-told .given .1)))
+    ∙ sym (breaks-6 (back16 .args .image .now) (k .0) (k .1) (k .2) (k .3) (k .4) (simp (sym (back8 .before .before .two2 .ensures .0), sym (back4 .before .four2 .ensures .0), sym (c .before .before .before .sum-entries .ensures) ∙ c .before .enum-told .given .1)))
 
 total : (c : tie.After-known-told) →
     totalOf (c .before .before .before .before .before .before .before .before .before .before .before .before .before .before .before .before .args .image .now) ≡ Sum (c .before .sum .given .0 .0)
 unfolding totalOf indexStart entryCount
 total c =
-    rw (← c .before .before .before .before .before .four2 .ensures .0, ← c .before .before .before .before .before .before .before .before .before .before .two2 .ensures .0)
+    let back4 = c .before .before .before .before in
+    let back8 = back4 .before .before .before .before in
+    rw (← back4 .before .four2 .ensures .0, ← back8 .before .before .two2 .ensures .0)
     (sym (c .before .before .before .sum-entries .ensures) ∙ c .before .sum .given .1)
 
 returns-8 : tie.Need-returns-8
 unfolding rule6 rule7 fit summed
 returns-8 c =
-    let k = kept (c .before .before .before .before .before .before) in
+    let back4 = c .before .before .before .before in
+    let back8 = back4 .before .before .before .before in
+    let back12 = back8 .before .before .before .before in
+    let back16 = back12 .before .before .before .before in
+    let k = kept (back4 .before .before) in
     c .broken8 .ensures
-    ∙ sym (breaks-7 (c .before .before .before .before .before .before .before .before .before .before .before .before .before .before .before .before .before .before .args .image .now) (k .0) (k .1) (k .2) (k .3) (k .4) (simp (total (c .before .before))) (simp (total (c .before .before), ne-eqb _ _ λ e. c .before .if7 .taken (e ∙ sym (start (c .before .before .before .before .before .before .before))))))
+    ∙ sym (breaks-7 (back16 .before .before .args .image .now) (k .0) (k .1) (k .2) (k .3) (k .4) (simp (total (c .before .before))) (simp (total (c .before .before), ne-eqb _ _ λ e. c .before .if7 .taken (e ∙ sym (start (back4 .before .before .before))))))
 
 returns-9 : tie.Need-returns-9
 unfolding rule6 rule7 fit summed entryCount dayIn
 returns-9 c =
-    let k = kept (c .before .before .before .before .before) in
-    let all = keeps-all (c .before .before .before .before .before .before .before .before .before .before .before .before .before .before .before .before .before .args .image .now) (k .0) (k .1) (k .2) (k .3) (k .4) (simp (total (c .before))) (simp (total (c .before), eq-eqb _ _ (c .if7 .left ∙ start (c .before .before .before .before .before .before)))) in
-    rw (c .before .before .before .before .before .before .before .before .before .before .before .two2 .ensures .0, c .before .before .before .before .before .before .before .before .before .four .ensures .0) (sym all)
+    let back4 = c .before .before .before .before in
+    let back8 = back4 .before .before .before .before in
+    let back12 = back8 .before .before .before .before in
+    let back16 = back12 .before .before .before .before in
+    let k = kept (back4 .before) in
+    let all = keeps-all (back16 .before .args .image .now) (k .0) (k .1) (k .2) (k .3) (k .4) (simp (total (c .before))) (simp (total (c .before), eq-eqb _ _ (c .if7 .left ∙ start (back4 .before .before)))) in
+    rw (back8 .before .before .before .two2 .ensures .0, back8 .before .four .ensures .0) (sym all)
 
 pub open-spec : {M : Type 1} → statement M
 open-spec =

@@ -46,10 +46,11 @@ loop-less c = omega arith
 
 loop-again : tie.Need-loop-again Inv-loop μ-loop
 loop-again c =
-    let now = c .before .before .before .before .before .loop in
+    let back4 = c .before .before .before .before in
+    let now = back4 .before .loop in
     let one : suc (now .left - 1) ≡ now .left = omega arith in
     let good = sym (ap (λ e. entryGood e (now .sum)) (c .before .before .before .entry-at .ensures .0)) ∙ (sym (c .before .before .entry-good .ensures) ∙ not-false _ (c .before .if1 .left)) in
-    let s = c .before .before .before .before .before .before .before .args .image .now in
+    let s = back4 .before .before .before .args .image .now in
     let more = sum-more s (now .at) (now .left - 1) (now .sum) good in
     let step : sumOf s (now .at) (now .left) (now .sum) ≡ sumOf s (now .at + 8) (now .left - 1) (now .sum + c .before .before .before .entry-at .result .length) =
     ap (λ n. sumOf s (now .at) n (now .sum)) (sym one)

@@ -31,19 +31,31 @@ returns-2 c = simp (c .before .before .before .seen .given .1, ne-eqb _ _ (c .if
 
 returns-3 : tie.Need-returns-3
 unfolding lettersOf lettersIn
-returns-3 c = simp (c .before .before .before .before .before .seen .given .1, eq-eqb _ _ (c .before .before .if1 .left), sym (c .before .contents .ensures), ne-eqb _ _ (c .if2 .taken))
+returns-3 c =
+    let back4 = c .before .before .before .before in
+    simp (back4 .before .seen .given .1, eq-eqb _ _ (c .before .before .if1 .left), sym (c .before .contents .ensures), ne-eqb _ _ (c .if2 .taken))
 
 returns-4 : tie.Need-returns-4
 unfolding lettersOf lettersIn
-returns-4 c = simp (c .before .before .before .before .before .before .before .before .seen .given .1, eq-eqb _ _ (c .before .before .before .before .before .if1 .left), sym (c .before .before .before .before .contents .ensures), eq-eqb _ _ (c .before .before .before .if2 .left), sym (c .before .capital .ensures) ∙ not-true _ (c .if3 .taken))
+returns-4 c =
+    let back4 = c .before .before .before .before in
+    let back8 = back4 .before .before .before .before in
+    simp (back8 .seen .given .1, eq-eqb _ _ (back4 .before .if1 .left), sym (c .before .before .before .before .contents .ensures), eq-eqb _ _ (c .before .before .before .if2 .left), sym (c .before .capital .ensures) ∙ not-true _ (c .if3 .taken))
 
 returns-5 : tie.Need-returns-5
 unfolding lettersOf lettersIn
-returns-5 c = simp (c .before .before .before .before .before .before .before .before .before .before .before .seen .given .1, eq-eqb _ _ (c .before .before .before .before .before .before .before .before .if1 .left), sym (c .before .before .before .before .before .before .before .contents .ensures), eq-eqb _ _ (c .before .before .before .before .before .before .if2 .left), sym (c .before .before .before .before .capital .ensures) ∙ not-false _ (c .before .before .before .if3 .left), sym (c .before .capital2 .ensures) ∙ not-true _ (c .if4 .taken))
+returns-5 c =
+    let back4 = c .before .before .before .before in
+    let back8 = back4 .before .before .before .before in
+    simp (back8 .before .before .before .seen .given .1, eq-eqb _ _ (back8 .if1 .left), sym (back4 .before .before .before .contents .ensures), eq-eqb _ _ (back4 .before .before .if2 .left), sym (c .before .before .before .before .capital .ensures) ∙ not-false _ (c .before .before .before .if3 .left), sym (c .before .capital2 .ensures) ∙ not-true _ (c .if4 .taken))
 
 returns-6 : tie.Need-returns-6
 unfolding lettersOf lettersIn
-returns-6 c = simp (c .before .before .before .before .before .before .before .before .before .before .before .before .before .seen .given .1, eq-eqb _ _ (c .before .before .before .before .before .before .before .before .before .before .if1 .left), sym (c .before .before .before .before .before .before .before .before .before .contents .ensures), eq-eqb _ _ (c .before .before .before .before .before .before .before .before .if2 .left), sym (c .before .before .before .before .before .before .capital .ensures) ∙ not-false _ (c .before .before .before .before .before .if3 .left), sym (c .before .before .before .capital2 .ensures) ∙ not-false _ (c .before .before .if4 .left))
+returns-6 c =
+    let back4 = c .before .before .before .before in
+    let back8 = back4 .before .before .before .before in
+    let back12 = back8 .before .before .before .before in
+    simp (back12 .before .seen .given .1, eq-eqb _ _ (back8 .before .before .if1 .left), sym (back8 .before .contents .ensures), eq-eqb _ _ (back8 .if2 .left), sym (back4 .before .before .capital .ensures) ∙ not-false _ (back4 .before .if3 .left), sym (c .before .before .before .capital2 .ensures) ∙ not-false _ (c .before .before .if4 .left))
 
 pub letters-of-spec : {M : Type 1} → statement M
 letters-of-spec =

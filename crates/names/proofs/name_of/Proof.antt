@@ -41,19 +41,32 @@ loop-less-2 : tie.Need-loop-less-2 Inv-loop μ-loop
 loop-less-2 c = let p = c .before .before .country-set .ensures (c .before .if3 .taken) in omega (arith, p .ends, found-within _ _ _ (p .found))
 
 loop-again-2 : tie.Need-loop-again-2 Inv-loop μ-loop
-loop-again-2 c = rw (c .one-more .ensures) (sym (sets-country _ _ _ _ (c .before .before .country-set .ensures (c .before .if3 .taken))) ∙ c .before .before .before .before .before .loop .inv)
+loop-again-2 c =
+    let back4 = c .before .before .before .before in
+    rw (c .one-more .ensures) (sym (sets-country _ _ _ _ (c .before .before .country-set .ensures (c .before .if3 .taken))) ∙ back4 .before .loop .inv)
 
 returns-2 : tie.Need-returns-2 Inv-loop μ-loop
-returns-2 c = sym (sets-done _ _ _ _ (sym (c .before .before .element-at .ensures) ∙ c .enum-told .given .1)) ∙ c .before .before .before .before .before .before .before .loop .inv
+returns-2 c =
+    let back4 = c .before .before .before .before in
+    sym (sets-done _ _ _ _ (sym (c .before .before .element-at .ensures) ∙ c .enum-told .given .1)) ∙ back4 .before .before .before .loop .inv
 
 returns-3 : tie.Need-returns-3 Inv-loop μ-loop
-returns-3 c = sym (sets-bad _ _ _ _ (sym (c .before .before .before .before .before .before .element-at .ensures) ∙ c .before .before .before .before .set .given .1) (sym (c .before .before .set-of .ensures) ∙ c .enum-told2 .given .1)) ∙ c .before .before .before .before .before .before .before .before .before .before .before .loop .inv
+returns-3 c =
+    let back4 = c .before .before .before .before in
+    let back8 = back4 .before .before .before .before in
+    sym (sets-bad _ _ _ _ (sym (back4 .before .before .element-at .ensures) ∙ c .before .before .before .before .set .given .1) (sym (c .before .before .set-of .ensures) ∙ c .enum-told2 .given .1)) ∙ back8 .before .before .before .loop .inv
 
 loop-less-3 : tie.Need-loop-less-3 Inv-loop μ-loop
-loop-less-3 c = omega (arith, found-within _ _ _ (sym (c .before .before .before .before .before .before .before .element-at .ensures) ∙ c .before .before .before .before .before .set .given .1))
+loop-less-3 c =
+    let back4 = c .before .before .before .before in
+    omega (arith, found-within _ _ _ (sym (back4 .before .before .before .element-at .ensures) ∙ back4 .before .set .given .1))
 
 loop-again-3 : tie.Need-loop-again-3 Inv-loop μ-loop
-loop-again-3 c = sym (sets-more _ _ _ _ (sym (c .before .before .before .before .before .before .before .element-at .ensures) ∙ c .before .before .before .before .before .set .given .1) (sym (c .before .before .before .set-of .ensures) ∙ c .before .more .given .1)) ∙ c .before .before .before .before .before .before .before .before .before .before .before .before .loop .inv
+loop-again-3 c =
+    let back4 = c .before .before .before .before in
+    let back8 = back4 .before .before .before .before in
+    let back12 = back8 .before .before .before .before in
+    sym (sets-more _ _ _ _ (sym (back4 .before .before .before .element-at .ensures) ∙ back4 .before .set .given .1) (sym (c .before .before .before .set-of .ensures) ∙ c .before .more .given .1)) ∙ back12 .loop .inv
 
 pub name-of-spec : {M : Type 1} → statement M
 name-of-spec =

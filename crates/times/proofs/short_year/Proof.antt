@@ -19,20 +19,27 @@ returns-2 c = no-year _ _ (simp (eq-eqb _ _ (c .before .before .if1 .left), ne-e
 returns-3 : tie.Need-returns-3
 unfolding timeIn zulu
 returns-3 c =
-    a-year _ _ 2 _ (c .before .before .before .before .before .before .if1 .left) (omega arith)
-    (simp (eq-eqb _ _ (c .before .before .before .before .before .before .if1 .left), eq-eqb _ _ (c .before .before .before .before .if2 .left), short-read (c .before .before .before .before .before .before .before .before .args .c .now) (omega arith) (c .before .pair .ensures) (omega arith))
-    (sym (in-two-thousands _ (ten-left (c .before .before .before .before .before .before .before .before .args .c .now) 2 (omega arith)) _ (c .if3 .taken))))
+    let back4 = c .before .before .before .before in
+    let back8 = back4 .before .before .before .before in
+    a-year _ _ 2 _ (back4 .before .before .if1 .left) (omega arith)
+    (simp (eq-eqb _ _ (back4 .before .before .if1 .left), eq-eqb _ _ (c .before .before .before .before .if2 .left), short-read (back8 .args .c .now) (omega arith) (c .before .pair .ensures) (omega arith))
+    (sym (in-two-thousands _ (ten-left (back8 .args .c .now) 2 (omega arith)) _ (c .if3 .taken))))
 
 returns-4 : tie.Need-returns-4
 unfolding timeIn zulu
 returns-4 c =
-    a-year _ _ 2 _ (c .before .before .before .before .before .before .before .if1 .left) (omega arith)
-    (simp (eq-eqb _ _ (c .before .before .before .before .before .before .before .if1 .left), eq-eqb _ _ (c .before .before .before .before .before .if2 .left), short-read (c .before .before .before .before .before .before .before .before .before .args .c .now) (omega arith) (c .before .before .pair .ensures) (omega arith))
-    (sym (in-nineteen-hundreds _ (ten-left (c .before .before .before .before .before .before .before .before .before .args .c .now) 2 (omega arith)) _ (c .before .if3 .left))))
+    let back4 = c .before .before .before .before in
+    let back8 = back4 .before .before .before .before in
+    a-year _ _ 2 _ (back4 .before .before .before .if1 .left) (omega arith)
+    (simp (eq-eqb _ _ (back4 .before .before .before .if1 .left), eq-eqb _ _ (back4 .before .if2 .left), short-read (back8 .before .args .c .now) (omega arith) (c .before .before .pair .ensures) (omega arith))
+    (sym (in-nineteen-hundreds _ (ten-left (back8 .before .args .c .now) 2 (omega arith)) _ (c .before .if3 .left))))
 
 returns-5 : tie.Need-returns-5
 unfolding timeIn zulu inCentury
-returns-5 c = no-year _ _ (simp (eq-eqb _ _ (c .before .before .before .before .before .before .before .if1 .left), eq-eqb _ _ (c .before .before .before .before .before .if2 .left), short-wordy (c .before .before .before .before .before .before .before .before .before .args .c .now) (omega arith) (c .before .before .pair .ensures) (omega arith)))
+returns-5 c =
+    let back4 = c .before .before .before .before in
+    let back8 = back4 .before .before .before .before in
+    no-year _ _ (simp (eq-eqb _ _ (back4 .before .before .before .if1 .left), eq-eqb _ _ (back4 .before .if2 .left), short-wordy (back8 .before .args .c .now) (omega arith) (c .before .before .pair .ensures) (omega arith)))
 
 pub short-year-spec : {M : Type 1} → statement M
 short-year-spec =

@@ -24,11 +24,15 @@ returns-4 c = simp (sym (c .before .before .before .before .real-day .ensures) �
 
 returns-5 : tie.Need-returns-5
 unfolding argumentsGood
-returns-5 c = simp (sym (c .before .before .before .before .before .before .real-day .ensures) ∙ not-false _ (c .before .before .before .before .before .if1 .left), le-leb _ _ (c .before .before .before .before .if2 .left), eq-eqb _ _ (c .before .before .before .if3 .left), eq-eqb _ _ (c .before .before .if4 .left), sym (c .before .rows-good .ensures) ∙ not-true _ (c .if5 .taken))
+returns-5 c =
+    let back4 = c .before .before .before .before in
+    simp (sym (back4 .before .before .real-day .ensures) ∙ not-false _ (back4 .before .if1 .left), le-leb _ _ (c .before .before .before .before .if2 .left), eq-eqb _ _ (c .before .before .before .if3 .left), eq-eqb _ _ (c .before .before .if4 .left), sym (c .before .rows-good .ensures) ∙ not-true _ (c .if5 .taken))
 
 returns-6 : tie.Need-returns-6
 unfolding argumentsGood
-returns-6 c = simp (sym (c .before .before .before .before .before .before .before .real-day .ensures) ∙ not-false _ (c .before .before .before .before .before .before .if1 .left), le-leb _ _ (c .before .before .before .before .before .if2 .left), eq-eqb _ _ (c .before .before .before .before .if3 .left), eq-eqb _ _ (c .before .before .before .if4 .left), sym (c .before .before .rows-good .ensures) ∙ not-false _ (c .before .if5 .left), sym (c .sum-all .ensures))
+returns-6 c =
+    let back4 = c .before .before .before .before in
+    simp (sym (back4 .before .before .before .real-day .ensures) ∙ not-false _ (back4 .before .before .if1 .left), le-leb _ _ (back4 .before .if2 .left), eq-eqb _ _ (c .before .before .before .before .if3 .left), eq-eqb _ _ (c .before .before .before .if4 .left), sym (c .before .before .rows-good .ensures) ∙ not-false _ (c .before .if5 .left), sym (c .sum-all .ensures))
 
 pub arguments-good-spec : {M : Type 1} → statement M
 arguments-good-spec =

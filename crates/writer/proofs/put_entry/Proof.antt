@@ -25,32 +25,39 @@ put-two-requires c κs = simp (length-take, length-drop, length-set) (omega arit
 
 sub-put-four : tie.Need-sub-put-four
 sub-put-four c =
-    let a = c .before .before .before .before .before .args in
+    let back4 = c .before .before .before .before in
+    let a = back4 .before .args in
     omega (arith, c .before .out .given .1, length-set (a .out .now) 0 (a .kind), length-set (set (a .out .now) 0 (a .kind)) 1 (a .flags))
 
 part-put-four-start : tie.Need-part-put-four-start
 part-put-four-start c =
-    let a = c .before .before .before .before .before .args in
+    let back4 = c .before .before .before .before in
+    let a = back4 .before .args in
     omega (arith, c .before .out .given .1, length-set (a .out .now) 0 (a .kind), length-set (set (a .out .now) 0 (a .kind)) 1 (a .flags))
 
 put-four-requires : tie.Need-put-four-requires
 put-four-requires c κs =
-    let a = c .before .before .before .before .before .before .args in
+    let back4 = c .before .before .before .before in
+    let a = back4 .before .before .args in
     simp (length-take, length-drop) (omega (arith, c .before .before .out .given .1, length-set (a .out .now) 0 (a .kind), length-set (set (a .out .now) 0 (a .kind)) 1 (a .flags)))
 
 same-length : tie.Need-same-length
 same-length c =
-    let a = c .before .before .before .before .before .before .before .before .before .args in
-    omega (arith, c .before .before .before .before .before .out .given .1, c .before .out2 .given .1, length-set (a .out .now) 0 (a .kind), length-set (set (a .out .now) 0 (a .kind)) 1 (a .flags))
+    let back4 = c .before .before .before .before in
+    let back8 = back4 .before .before .before .before in
+    let a = back8 .before .args in
+    omega (arith, back4 .before .out .given .1, c .before .out2 .given .1, length-set (a .out .now) 0 (a .kind), length-set (set (a .out .now) 0 (a .kind)) 1 (a .flags))
 
 returns : tie.Need-returns
 unfolding entryBytes big
 returns c =
-    let a = c .before .before .before .before .before .before .before .before .before .args in
+    let back4 = c .before .before .before .before in
+    let back8 = back4 .before .before .before .before in
+    let a = back8 .before .args in
     let old = a .out .now in
-    let room : 2 ≤ length old = omega (arith, c .before .before .before .before .before .before .before .before .before .pre) in
+    let room : 2 ≤ length old = omega (arith, back8 .before .pre) in
     let two = a .kind ∷ a .flags ∷ [] in
-    let first = put-next old two (big 2 (a .size)) _ _ 2 2 refl (set-two old (a .kind) (a .flags) room) (c .before .before .before .before .before .before .put-two .ensures) in
+    let first = put-next old two (big 2 (a .size)) _ _ 2 2 refl (set-two old (a .kind) (a .flags) room) (back4 .before .before .put-two .ensures) in
     put-next old (two ++ big 2 (a .size)) (big 4 (a .offset)) _ _ 4 4 refl first (c .before .before .put-four .ensures)
 
 pub put-entry-spec : {M : Type 1} → statement M

@@ -12,11 +12,15 @@ returns c = on-missing _ (sym (c .before .before .element-tagged .ensures) ∙ c
 
 returns-2 : tie.Need-returns-2
 unfolding firstOf
-returns-2 c = on-found _ _ (sym (c .before .before .before .before .before .before .element-tagged .ensures) ∙ c .before .before .before .before .sequence .given .1) (on-missing _ (sym (c .before .before .element-tagged2 .ensures) ∙ c .enum-told2 .given .1))
+returns-2 c =
+    let back4 = c .before .before .before .before in
+    on-found _ _ (sym (back4 .before .before .element-tagged .ensures) ∙ c .before .before .before .before .sequence .given .1) (on-missing _ (sym (c .before .before .element-tagged2 .ensures) ∙ c .enum-told2 .given .1))
 
 returns-3 : tie.Need-returns-3
 unfolding firstOf
-returns-3 c = on-found _ _ (sym (c .before .before .before .before .before .before .before .element-tagged .ensures) ∙ c .before .before .before .before .before .sequence .given .1) (on-found _ _ (sym (c .before .before .before .element-tagged2 .ensures) ∙ c .before .key .given .1) (refl))
+returns-3 c =
+    let back4 = c .before .before .before .before in
+    on-found _ _ (sym (back4 .before .before .before .element-tagged .ensures) ∙ back4 .before .sequence .given .1) (on-found _ _ (sym (c .before .before .before .element-tagged2 .ensures) ∙ c .before .key .given .1) (refl))
 
 pub first-of-spec : {M : Type 1} → statement M
 first-of-spec =

@@ -9,11 +9,15 @@ use Rattle.certificate.proofs.rules.extensions_once.Tie as tie
 
 returns : tie.Need-returns
 unfolding rule8
-returns c = rw (none-inside (c .before .before .before .before .before .args .item .now) (c .before .before .before .before .before .args .l .extensions) (sym (c .before .before .element-at .ensures) ∙ c .enum-told2 .given .1))
+returns c =
+    let back4 = c .before .before .before .before in
+    rw (none-inside (back4 .before .args .item .now) (back4 .before .args .l .extensions) (sym (c .before .before .element-at .ensures) ∙ c .enum-told2 .given .1))
 
 returns-2 : tie.Need-returns-2
 unfolding rule8
-returns-2 c = rw (some-inside (c .before .before .before .before .before .args .item .now) (c .before .before .before .before .before .args .l .extensions) (sym (c .before .before .element-at .ensures) ∙ c .enum-told .given .1)) (ap not (c .before .before .before .before .before .pre))
+returns-2 c =
+    let back4 = c .before .before .before .before in
+    rw (some-inside (back4 .before .args .item .now) (back4 .before .args .l .extensions) (sym (c .before .before .element-at .ensures) ∙ c .enum-told .given .1)) (ap not (back4 .before .pre))
 
 pub extensions-once-spec : {M : Type 1} → statement M
 extensions-once-spec =

@@ -18,11 +18,16 @@ returns-2 c = λ s x p. rw (sym (c .before .before .before .before .there-uncrit
 
 returns-3 : tie.Need-returns-3
 unfolding rule12 oidOf heldOf
-returns-3 c = λ s x p. rw (sym (c .before .before .before .before .before .before .before .there-uncritical .ensures (lookupOf s x (oidOf 2)) (p .each 2 (omega arith))) ∙ not-false _ (c .before .before .before .before .before .before .if1 .left), sym (c .before .before .before .before .there-uncritical2 .ensures (lookupOf s x (oidOf 3)) (p .each 3 (omega arith))) ∙ not-false _ (c .before .before .before .if2 .left), sym (c .before .there-uncritical3 .ensures (lookupOf s x (oidOf 4)) (p .each 4 (omega arith))) ∙ not-true _ (c .if3 .taken))
+returns-3 c =
+    let back4 = c .before .before .before .before in
+    λ s x p. rw (sym (back4 .before .before .before .there-uncritical .ensures (lookupOf s x (oidOf 2)) (p .each 2 (omega arith))) ∙ not-false _ (back4 .before .before .if1 .left), sym (c .before .before .before .before .there-uncritical2 .ensures (lookupOf s x (oidOf 3)) (p .each 3 (omega arith))) ∙ not-false _ (c .before .before .before .if2 .left), sym (c .before .there-uncritical3 .ensures (lookupOf s x (oidOf 4)) (p .each 4 (omega arith))) ∙ not-true _ (c .if3 .taken))
 
 returns-4 : tie.Need-returns-4
 unfolding rule12 oidOf heldOf
-returns-4 c = λ s x p. rw (sym (c .before .before .before .before .before .before .before .before .before .there-uncritical .ensures (lookupOf s x (oidOf 2)) (p .each 2 (omega arith))) ∙ not-false _ (c .before .before .before .before .before .before .before .before .if1 .left), sym (c .before .before .before .before .before .before .there-uncritical2 .ensures (lookupOf s x (oidOf 3)) (p .each 3 (omega arith))) ∙ not-false _ (c .before .before .before .before .before .if2 .left), sym (c .before .before .before .there-uncritical3 .ensures (lookupOf s x (oidOf 4)) (p .each 4 (omega arith))) ∙ not-false _ (c .before .before .if3 .left)) (c .there-uncritical4 .ensures (lookupOf s x (oidOf 17)) (p .each 17 (omega arith)))
+returns-4 c =
+    let back4 = c .before .before .before .before in
+    let back8 = back4 .before .before .before .before in
+    λ s x p. rw (sym (back8 .before .there-uncritical .ensures (lookupOf s x (oidOf 2)) (p .each 2 (omega arith))) ∙ not-false _ (back8 .if1 .left), sym (back4 .before .before .there-uncritical2 .ensures (lookupOf s x (oidOf 3)) (p .each 3 (omega arith))) ∙ not-false _ (back4 .before .if2 .left), sym (c .before .before .before .there-uncritical3 .ensures (lookupOf s x (oidOf 4)) (p .each 4 (omega arith))) ∙ not-false _ (c .before .before .if3 .left)) (c .there-uncritical4 .ensures (lookupOf s x (oidOf 17)) (p .each 17 (omega arith)))
 
 pub four-there-spec : {M : Type 1} → statement M
 four-there-spec =

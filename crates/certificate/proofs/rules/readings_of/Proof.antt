@@ -9,7 +9,10 @@ use Rattle.certificate.proofs.rules.readings_of.Tie as tie
 
 returns : tie.Need-returns
 unfolding readingsOf subjectKey authorityKey oidOf heldOf
-returns c = rw (← c .before .before .before .before .before .time-of .ensures, ← c .before .before .before .before .time-of2 .ensures, ← c .before .before .before .letters-of .ensures, ← c .before .before .letters-of2 .ensures, ← c .before .subject-key .ensures _ (c .before .before .before .before .before .before .before .before .before .before .before .pre .each 0 (omega arith)), ← c .authority-key .ensures _ (c .before .before .before .before .before .before .before .before .before .before .before .pre .each 21 (omega arith)))
+returns c =
+    let back4 = c .before .before .before .before in
+    let back8 = back4 .before .before .before .before in
+    rw (← back4 .before .time-of .ensures, ← c .before .before .before .before .time-of2 .ensures, ← c .before .before .before .letters-of .ensures, ← c .before .before .letters-of2 .ensures, ← c .before .subject-key .ensures _ (back8 .before .before .before .pre .each 0 (omega arith)), ← c .authority-key .ensures _ (back8 .before .before .before .pre .each 21 (omega arith)))
 
 pub readings-of-spec : {M : Type 1} → statement M
 readings-of-spec =

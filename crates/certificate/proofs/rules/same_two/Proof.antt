@@ -15,11 +15,15 @@ returns-2 c = rw (c .before .before .before .one .given .1, c .enum-told2 .given
 
 returns-3 : tie.Need-returns-3
 unfolding sameTwo
-returns-3 c = rw (c .before .before .before .before .before .one .given .1, c .before .before .other .given .1, ne-eqb _ _ (c .if1 .taken))
+returns-3 c =
+    let back4 = c .before .before .before .before in
+    rw (back4 .before .one .given .1, c .before .before .other .given .1, ne-eqb _ _ (c .if1 .taken))
 
 returns-4 : tie.Need-returns-4
 unfolding sameTwo
-returns-4 c = rw (c .before .before .before .before .before .one .given .1, c .before .before .other .given .1, eq-eqb _ _ (c .if1 .left))
+returns-4 c =
+    let back4 = c .before .before .before .before in
+    rw (back4 .before .one .given .1, c .before .before .other .given .1, eq-eqb _ _ (c .if1 .left))
 
 pub same-two-spec : {M : Type 1} → statement M
 same-two-spec =

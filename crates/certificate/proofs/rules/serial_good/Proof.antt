@@ -33,7 +33,9 @@ returns-3 c = rw (← c .before .before .before .before .contents .ensures, le-l
 
 returns-4 : tie.Need-returns-4
 unfolding rule3 serialGood
-returns-4 c = rw (← c .before .before .before .before .before .before .contents .ensures, le-leb _ _ (c .before .before .before .before .before .if1 .left), lt-ltb _ _ (c .before .before .if3 .left)) (ap not (c .same .ensures))
+returns-4 c =
+    let back4 = c .before .before .before .before in
+    rw (← back4 .before .before .contents .ensures, le-leb _ _ (back4 .before .if1 .left), lt-ltb _ _ (c .before .before .if3 .left)) (ap not (c .same .ensures))
 
 pub serial-good-spec : {M : Type 1} → statement M
 serial-good-spec =

@@ -13,15 +13,23 @@ returns c = on-missing _ (sym (c .before .before .time-at .ensures) ∙ c .enum-
 
 returns-2 : tie.Need-returns-2
 unfolding validityOf
-returns-2 c = on-found _ _ (sym (c .before .before .before .before .before .before .time-at .ensures) ∙ c .before .before .before .before .start .given .1) (on-missing _ (sym (c .before .before .time-at2 .ensures) ∙ c .enum-told2 .given .1))
+returns-2 c =
+    let back4 = c .before .before .before .before in
+    on-found _ _ (sym (back4 .before .before .time-at .ensures) ∙ c .before .before .before .before .start .given .1) (on-missing _ (sym (c .before .before .time-at2 .ensures) ∙ c .enum-told2 .given .1))
 
 returns-3 : tie.Need-returns-3
 unfolding validityOf
-returns-3 c = on-found _ _ (sym (c .before .before .before .before .before .before .before .before .before .before .time-at .ensures) ∙ c .before .before .before .before .before .before .before .before .start .given .1) (on-found _ _ (sym (c .before .before .before .before .before .before .time-at2 .ensures) ∙ c .before .before .before .before .finish .given .1) (rw (eq-eqb _ _ (c .if1 .taken))))
+returns-3 c =
+    let back4 = c .before .before .before .before in
+    let back8 = back4 .before .before .before .before in
+    on-found _ _ (sym (back8 .before .before .time-at .ensures) ∙ back8 .start .given .1) (on-found _ _ (sym (back4 .before .before .time-at2 .ensures) ∙ c .before .before .before .before .finish .given .1) (rw (eq-eqb _ _ (c .if1 .taken))))
 
 returns-4 : tie.Need-returns-4
 unfolding validityOf
-returns-4 c = on-found _ _ (sym (c .before .before .before .before .before .before .before .before .before .before .time-at .ensures) ∙ c .before .before .before .before .before .before .before .before .start .given .1) (on-found _ _ (sym (c .before .before .before .before .before .before .time-at2 .ensures) ∙ c .before .before .before .before .finish .given .1) (rw (ne-eqb _ _ (c .if1 .left))))
+returns-4 c =
+    let back4 = c .before .before .before .before in
+    let back8 = back4 .before .before .before .before in
+    on-found _ _ (sym (back8 .before .before .time-at .ensures) ∙ back8 .start .given .1) (on-found _ _ (sym (back4 .before .before .time-at2 .ensures) ∙ c .before .before .before .before .finish .given .1) (rw (ne-eqb _ _ (c .if1 .left))))
 
 pub validity-of-spec : {M : Type 1} → statement M
 validity-of-spec =

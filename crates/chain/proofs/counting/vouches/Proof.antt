@@ -12,7 +12,9 @@ returns-2 : tie.Need-returns-2
 returns-2 c = sym (vouches-first _ _ (eq-eqb _ _ (c .before .before .before .if1 .left)) (ne-eqb _ _ (c .if2 .taken)))
 
 returns-3 : tie.Need-returns-3
-returns-3 c = sym (vouches-second _ _ (eq-eqb _ _ (c .before .before .before .before .before .if1 .left)) (eq-eqb _ _ (c .before .before .if2 .left)))
+returns-3 c =
+    let back4 = c .before .before .before .before in
+    sym (vouches-second _ _ (eq-eqb _ _ (back4 .before .if1 .left)) (eq-eqb _ _ (c .before .before .if2 .left)))
 
 pub vouches-spec : {M : Type 1} → statement M
 vouches-spec = tie.close (tie.spec returns returns-2 returns-3)

@@ -10,13 +10,21 @@ returns : tie.Need-returns
 returns c = sym (spoken-listed _ _ _ _ (eq-eqb _ _ (c .if1 .taken)))
 
 returns-2 : tie.Need-returns-2
-returns-2 c = sym (spoken-apart _ _ _ _ (ne-eqb _ _ (c .before .before .before .before .before .if1 .left)) (sym (covers-parts _ _ _ (c .before .same .ensures) (c .before .before .before .part2 .ensures) (c .before .before .before .before .part .ensures) (c .before .before .piece .ensures)) ∙ not-true _ (c .if2 .taken)))
+returns-2 c =
+    let back4 = c .before .before .before .before in
+    sym (spoken-apart _ _ _ _ (ne-eqb _ _ (back4 .before .if1 .left)) (sym (covers-parts _ _ _ (c .before .same .ensures) (c .before .before .before .part2 .ensures) (c .before .before .before .before .part .ensures) (c .before .before .piece .ensures)) ∙ not-true _ (c .if2 .taken)))
 
 returns-3 : tie.Need-returns-3
-returns-3 c = sym (spoken-lists _ _ _ _ (ne-eqb _ _ (c .before .before .before .before .before .before .before .before .if1 .left)) (sym (covers-parts _ _ _ (c .before .before .before .before .same .ensures) (c .before .before .before .before .before .before .part2 .ensures) (c .before .before .before .before .before .before .before .part .ensures) (c .before .before .before .before .before .piece .ensures)) ∙ not-false _ (c .before .before .before .if2 .left)) (sym (lists-parts _ _ _ (c .before .listed .ensures) (c .before .before .before .before .before .before .before .part .ensures) (c .before .before .piece2 .ensures)) ∙ c .if3 .taken))
+returns-3 c =
+    let back4 = c .before .before .before .before in
+    let back8 = back4 .before .before .before .before in
+    sym (spoken-lists _ _ _ _ (ne-eqb _ _ (back8 .if1 .left)) (sym (covers-parts _ _ _ (c .before .before .before .before .same .ensures) (back4 .before .before .part2 .ensures) (back4 .before .before .before .part .ensures) (back4 .before .piece .ensures)) ∙ not-false _ (c .before .before .before .if2 .left)) (sym (lists-parts _ _ _ (c .before .listed .ensures) (back4 .before .before .before .part .ensures) (c .before .before .piece2 .ensures)) ∙ c .if3 .taken))
 
 returns-4 : tie.Need-returns-4
-returns-4 c = sym (spoken-covers _ _ _ _ (ne-eqb _ _ (c .before .before .before .before .before .before .before .before .if1 .left)) (sym (covers-parts _ _ _ (c .before .before .before .before .same .ensures) (c .before .before .before .before .before .before .part2 .ensures) (c .before .before .before .before .before .before .before .part .ensures) (c .before .before .before .before .before .piece .ensures)) ∙ not-false _ (c .before .before .before .if2 .left)) (sym (lists-parts _ _ _ (c .before .listed .ensures) (c .before .before .before .before .before .before .before .part .ensures) (c .before .before .piece2 .ensures)) ∙ c .if3 .left))
+returns-4 c =
+    let back4 = c .before .before .before .before in
+    let back8 = back4 .before .before .before .before in
+    sym (spoken-covers _ _ _ _ (ne-eqb _ _ (back8 .if1 .left)) (sym (covers-parts _ _ _ (c .before .before .before .before .same .ensures) (back4 .before .before .part2 .ensures) (back4 .before .before .before .part .ensures) (back4 .before .piece .ensures)) ∙ not-false _ (c .before .before .before .if2 .left)) (sym (lists-parts _ _ _ (c .before .listed .ensures) (back4 .before .before .before .part .ensures) (c .before .before .piece2 .ensures)) ∙ c .if3 .left))
 
 pub spoken-by-spec : {M : Type 1} → statement M
 spoken-by-spec =

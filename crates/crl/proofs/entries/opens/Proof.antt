@@ -23,20 +23,26 @@ returns-5 : tie.Need-returns-5
 returns-5 c = λ no. never no
 
 cast-size : tie.Need-cast-size
-cast-size c = omega (arith, c .before .before .before .before .shared-slice-known .given (c .before .before .before .before .before .before .before .before .args .at + 1))
+cast-size c =
+    let back4 = c .before .before .before .before in
+    let back8 = back4 .before .before .before .before in
+    omega (arith, c .before .before .before .before .shared-slice-known .given (back8 .args .at + 1))
 
 returns-6 : tie.Need-returns-6
 returns-6 c = λ no. never no
 
 returns-7 : tie.Need-returns-7
-returns-7 c = λ some.
+returns-7 c =
+    let back4 = c .before .before .before .before in
+    let back8 = back4 .before .before .before .before in
+    λ some.
     record {
-      inside = c .before .before .before .before .before .before .before .before .if1 .left;
-      room = omega (arith, c .before .before .before .before .before .before .before .if2 .left, c .before .before .before .before .before .before .if3 .left);
+      inside = back8 .if1 .left;
+      room = omega (arith, back4 .before .before .before .if2 .left, back4 .before .before .if3 .left);
       tag = c .before .before .before .before .if4 .left;
       first = c .before .before .if5 .left;
       brief = c .if6 .left;
-      fits = left-told _ _ _ (omega (arith, c .before .before .before .before .before .before .before .if2 .left, c .before .before .before .before .before .before .if3 .left)) some;
+      fits = left-told _ _ _ (omega (arith, back4 .before .before .before .if2 .left, back4 .before .before .if3 .left)) some;
     }
 
 pub opens-spec : {M : Type 1} → statement M

@@ -50,21 +50,33 @@ loop-again c =
     )
 
 returns : tie.Need-returns Inv-loop μ-loop
-returns c = sym (c .before .before .before .before .before .loop .inv .1 ∙ survey-done _ _ _ _ _ _ (sym (c .before .before .element-at .ensures) ∙ c .enum-told .given .1))
+returns c =
+    let back4 = c .before .before .before .before in
+    sym (back4 .before .loop .inv .1 ∙ survey-done _ _ _ _ _ _ (sym (c .before .before .element-at .ensures) ∙ c .enum-told .given .1))
 
 returns-2 : tie.Need-returns-2 Inv-loop μ-loop
-returns-2 c = sym (c .before .before .before .before .before .before .before .before .before .loop .inv .1 ∙ survey-bad _ _ _ _ _ _ (sym (c .before .before .before .before .before .before .element-at .ensures) ∙ c .before .before .before .before .e .given .1) (sym (c .before .before .entry-of .ensures) ∙ c .enum-told2 .given .1))
+returns-2 c =
+    let back4 = c .before .before .before .before in
+    let back8 = back4 .before .before .before .before in
+    sym (back8 .before .loop .inv .1 ∙ survey-bad _ _ _ _ _ _ (sym (back4 .before .before .element-at .ensures) ∙ c .before .before .before .before .e .given .1) (sym (c .before .before .entry-of .ensures) ∙ c .enum-told2 .given .1))
 
 add-count-2 : tie.Need-add-count-2 Inv-loop μ-loop
-add-count-2 c = omega (arith, c .before .before .before .before .before .before .before .before .loop .inv .0, ap length (members-more _ _ _ (sym (c .before .before .before .before .before .element-at .ensures) ∙ c .before .before .before .e .given .1)))
+add-count-2 c =
+    let back4 = c .before .before .before .before in
+    let back8 = back4 .before .before .before .before in
+    omega (arith, back8 .loop .inv .0, ap length (members-more _ _ _ (sym (back4 .before .element-at .ensures) ∙ c .before .before .before .e .given .1)))
 
 loop-less-2 : tie.Need-loop-less-2 Inv-loop μ-loop
-loop-less-2 c = omega (arith, found-within _ _ _ (sym (c .before .before .before .before .before .element-at .ensures) ∙ c .before .before .before .e .given .1))
+loop-less-2 c =
+    let back4 = c .before .before .before .before in
+    omega (arith, found-within _ _ _ (sym (back4 .before .element-at .ensures) ∙ c .before .before .before .e .given .1))
 
 loop-again-2 : tie.Need-loop-again-2 Inv-loop μ-loop
 loop-again-2 c =
-    let was = c .before .before .before .before .before .before .before .before .loop in
-    let found = sym (c .before .before .before .before .before .element-at .ensures) ∙ c .before .before .before .e .given .1 in
+    let back4 = c .before .before .before .before in
+    let back8 = back4 .before .before .before .before in
+    let was = back8 .loop in
+    let found = sym (back4 .before .element-at .ensures) ∙ c .before .before .before .e .given .1 in
     let entry = sym (c .before .entry-of .ensures) in (
       omega (arith, was .inv .0, ap length (members-more _ _ _ found)),
       was .inv .1

@@ -14,16 +14,21 @@ returns-2 c = λ no. never no
 
 add-if3 : tie.Need-add-if3
 add-if3 c =
-    let octet = c .before .before .before .before .before .before .before .before .shared-slice-known .given in
+    let back4 = c .before .before .before .before in
+    let back8 = back4 .before .before .before .before in
+    let octet = back8 .shared-slice-known .given in
     omega (arith, c .before .four .ensures, octet 8 .fits, octet 9 .fits, octet 10 .fits, octet 11 .fits)
 
 returns-3 : tie.Need-returns-3
 returns-3 c = λ no. never no
 
 returns-4 : tie.Need-returns-4
-returns-4 c = λ some.
-    let clock = clock-told (c .before .before .before .before .before .before .before .before .before .before .before .args .c .now) (λ i. c .before .before .before .before .before .before .before .before .before .before .shared-slice-known .given i .fits) (c .before .before .before .four .ensures) (c .before .before .if2 .left) (c .before .if3 .left) in
-    utc-time (c .before .before .before .before .before .before .before .before .before .before .before .args .c .now) (c .before .before .before .before .before .before .before .before .before .before .before .pre) (c .before .before .before .before .before .before .before .before .before .usual-date .ensures (not-false _ (c .before .before .before .before .before .before .before .before .if1 .left))) clock (eqb-true _ _ some)
+returns-4 c =
+    let back4 = c .before .before .before .before in
+    let back8 = back4 .before .before .before .before in
+    λ some.
+    let clock = clock-told (back8 .before .before .before .args .c .now) (λ i. back8 .before .before .shared-slice-known .given i .fits) (c .before .before .before .four .ensures) (c .before .before .if2 .left) (c .before .if3 .left) in
+    utc-time (back8 .before .before .before .args .c .now) (back8 .before .before .before .pre) (back8 .before .usual-date .ensures (not-false _ (back8 .if1 .left))) clock (eqb-true _ _ some)
 
 pub usual-utc-spec : {M : Type 1} → statement M
 usual-utc-spec =

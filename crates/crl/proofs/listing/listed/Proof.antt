@@ -25,14 +25,20 @@ returns c = sym (c .before .before .before .before .loop .inv ∙ c .before .bef
 
 returns-2 : tie.Need-returns-2 Inv-loop μ-loop
 unfolding someLists
-returns-2 c = sym (c .before .before .before .before .before .before .before .loop .inv ∙ c .before .before .before .before .before .before .first-like .ensures .none ∙ rw (members-more _ _ _ (sym (c .before .before .before .before .before .element-at .ensures) ∙ c .before .before .before .e .given .1), ← c .before .has-serial .ensures, c .if1 .taken))
+returns-2 c =
+    let back4 = c .before .before .before .before in
+    sym (back4 .before .before .before .loop .inv ∙ back4 .before .before .first-like .ensures .none ∙ rw (members-more _ _ _ (sym (back4 .before .element-at .ensures) ∙ c .before .before .before .e .given .1), ← c .before .has-serial .ensures, c .if1 .taken))
 
 loop-less : tie.Need-loop-less Inv-loop μ-loop
-loop-less c = omega (arith, c .before .before .before .before .before .before .first-like .ensures .nearer, found-within _ _ _ (sym (c .before .before .before .before .before .element-at .ensures) ∙ c .before .before .before .e .given .1))
+loop-less c =
+    let back4 = c .before .before .before .before in
+    omega (arith, back4 .before .before .first-like .ensures .nearer, found-within _ _ _ (sym (back4 .before .element-at .ensures) ∙ c .before .before .before .e .given .1))
 
 loop-again : tie.Need-loop-again Inv-loop μ-loop
 unfolding someLists
-loop-again c = c .before .before .before .before .before .before .before .loop .inv ∙ c .before .before .before .before .before .before .first-like .ensures .none ∙ rw (members-more _ _ _ (sym (c .before .before .before .before .before .element-at .ensures) ∙ c .before .before .before .e .given .1), ← c .before .has-serial .ensures, c .if1 .left)
+loop-again c =
+    let back4 = c .before .before .before .before in
+    back4 .before .before .before .loop .inv ∙ back4 .before .before .first-like .ensures .none ∙ rw (members-more _ _ _ (sym (back4 .before .element-at .ensures) ∙ c .before .before .before .e .given .1), ← c .before .has-serial .ensures, c .if1 .left)
 
 pub listed-spec : {M : Type 1} → statement M
 listed-spec =

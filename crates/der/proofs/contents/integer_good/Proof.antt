@@ -52,12 +52,14 @@ returns-2 c = middle (c .before .before .before .before .args .c .now) (c .befor
 
 returns-3 : tie.Need-returns-3
 returns-3 c =
-    zeros (c .before .before .before .before .before .args .c .now) (c .before .before .before .before .if1 .left)
+    let back4 = c .before .before .before .before in
+    zeros (back4 .before .args .c .now) (c .before .before .before .before .if1 .left)
     (⊎-elim (λ w. absurd (omega (arith, w .1 .left, c .before .if4 .taken))) (λ w. omega (arith, w .left)) (c .before .before .if2 .came))
 
 returns-4 : tie.Need-returns-4
 returns-4 c =
-    ones (c .before .before .before .before .before .args .c .now) (c .before .before .before .before .if1 .left)
+    let back4 = c .before .before .before .before in
+    ones (back4 .before .args .c .now) (c .before .before .before .before .if1 .left)
     (⊎-elim (λ w. omega (arith, w .1 .left, c .before .before .before .shared-slice-known .given 0)) (λ w. absurd (omega (arith, w .left, c .before .if4 .left))) (c .before .before .if2 .came))
 
 pub integer-good-spec : {M : Type 1} → statement M

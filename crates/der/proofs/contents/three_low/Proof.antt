@@ -41,7 +41,9 @@ returns-3 : tie.Need-returns-3
 returns-3 c = λ e. no e
 
 returns-4 : tie.Need-returns-4
-returns-4 c = λ e. low _ (c .before .before .before .before .before .if1 .left) (c .before .before .before .if2 .left) (c .before .if3 .left) (ltb-true _ _ e)
+returns-4 c =
+    let back4 = c .before .before .before .before in
+    λ e. low _ (back4 .before .if1 .left) (c .before .before .before .if2 .left) (c .before .if3 .left) (ltb-true _ _ e)
 
 pub three-low-spec : {M : Type 1} → statement M
 three-low-spec =

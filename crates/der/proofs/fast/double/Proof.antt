@@ -21,13 +21,19 @@ returns-3 : tie.Need-returns-3
 returns-3 c = λ e. no e
 
 cast-result : tie.Need-cast-result
-cast-result c = omega (arith, c .shared-slice-known3 .given (c .before .before .before .before .before .before .args .i + 3))
+cast-result c =
+    let back4 = c .before .before .before .before in
+    omega (arith, c .shared-slice-known3 .given (back4 .before .before .args .i + 3))
 
 add-result-2 : tie.Need-add-result-2
-add-result-2 c = omega (arith, c .shared-slice-known3 .given (c .before .before .before .before .before .before .args .i + 3))
+add-result-2 c =
+    let back4 = c .before .before .before .before in
+    omega (arith, c .shared-slice-known3 .given (back4 .before .before .args .i + 3))
 
 cast-result-2 : tie.Need-cast-result-2
-cast-result-2 c = omega (arith, c .shared-slice-known4 .given (c .before .before .before .before .before .before .before .args .i + 1))
+cast-result-2 c =
+    let back4 = c .before .before .before .before in
+    omega (arith, c .shared-slice-known4 .given (back4 .before .before .before .args .i + 1))
 
 returns-4 : tie.Need-returns-4
 returns-4 c = λ e. record { outer = c .before .before .before .before .before .if1 .left; inner = c .before .before .if3 .left; fills = eqb-true _ _ e }

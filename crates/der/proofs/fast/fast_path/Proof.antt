@@ -7,8 +7,10 @@ use Rattle.der.proofs.fast.fast_path.Statement.{statement}
 use Rattle.der.proofs.fast.fast_path.Tie as tie
 
 returns-4 : tie.Need-returns-4
-returns-4 c = λ some.
-    let two = c .before .before .before .before .before in
+returns-4 c =
+    let back4 = c .before .before .before .before in
+    λ some.
+    let two = back4 .before in
     let start = two .before .before in
     (two .if1 .left, c .flat .ensures some (17 - start .args .left) (omega arith))
 
@@ -17,8 +19,10 @@ unfolding constructed
 primitive-requires c κs = (omega arith, omega arith, omega arith, ne-eqb _ _ (c .before .before .if2 .left))
 
 returns-7 : tie.Need-returns-7
-returns-7 c = λ some.
-    let two = c .before .before .before .before .before .before in
+returns-7 c =
+    let back4 = c .before .before .before .before in
+    λ some.
+    let two = back4 .before .before in
     let start = two .before .before in
     (two .if1 .left, c .before .primitive .ensures (c .if7 .taken) (17 - start .args .left) (start .args .count) (omega arith) (omega arith))
 

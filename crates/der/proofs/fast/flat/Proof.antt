@@ -29,10 +29,12 @@ leaves-requires c κs =
     ⊎-elim (λ w. omega (arith, w .1 .ensures (not-false _ (w .2 .left)) .fills, w .3, w .4)) (λ w. omega (arith, w .1, w .2)) (c .before .before .before .if1 .came)
 
 returns-4 : tie.Need-returns-4
-returns-4 c = λ some depth shallow.
+returns-4 c =
+    let back4 = c .before .before .before .before in
+    λ some depth shallow.
     ⊎-elim
-    (λ w. set-reads (c .before .before .before .before .before .before .before .args .s .now) (c .before .before .before .before .before .before .before .args .i) (c .before .before .before .before .before .before .before .args .end) _ (c .before .before .before .before .before .before .before .pre .0) (c .before .before .before .before .before .before .before .pre .1) refl (c .before .if4 .left) (c .before .before .if3 .left) depth (c .before .before .before .before .before .before .before .args .count) (c .before .before .before .before .if1 .from) (c .before .before .before .before .if1 .read) _ shallow (c .before .before .before .before .before .before .before .pre .3) (c .leaves .ensures some) (w .1 .ensures (not-false _ (w .2 .left))) (w .3) (w .4))
-    (λ w. sequence-reads (c .before .before .before .before .before .before .before .args .s .now) (c .before .before .before .before .before .before .before .args .i) (c .before .before .before .before .before .before .before .args .end) _ (c .before .before .before .before .before .before .before .pre .0) (c .before .before .before .before .before .before .before .pre .1) refl (c .before .if4 .left) (c .before .before .if3 .left) depth (c .before .before .before .before .before .before .before .args .count) (c .before .before .before .before .if1 .from) (c .before .before .before .before .if1 .read) _ shallow (c .before .before .before .before .before .before .before .pre .3) (c .leaves .ensures some) (w .0 .left) (w .1) (w .2))
+    (λ w. set-reads (back4 .before .before .before .args .s .now) (back4 .before .before .before .args .i) (back4 .before .before .before .args .end) _ (back4 .before .before .before .pre .0) (back4 .before .before .before .pre .1) refl (c .before .if4 .left) (c .before .before .if3 .left) depth (back4 .before .before .before .args .count) (c .before .before .before .before .if1 .from) (c .before .before .before .before .if1 .read) _ shallow (back4 .before .before .before .pre .3) (c .leaves .ensures some) (w .1 .ensures (not-false _ (w .2 .left))) (w .3) (w .4))
+    (λ w. sequence-reads (back4 .before .before .before .args .s .now) (back4 .before .before .before .args .i) (back4 .before .before .before .args .end) _ (back4 .before .before .before .pre .0) (back4 .before .before .before .pre .1) refl (c .before .if4 .left) (c .before .before .if3 .left) depth (back4 .before .before .before .args .count) (c .before .before .before .before .if1 .from) (c .before .before .before .before .if1 .read) _ shallow (back4 .before .before .before .pre .3) (c .leaves .ensures some) (w .0 .left) (w .1) (w .2))
     (c .before .before .before .before .if1 .came)
 
 pub flat-spec : {M : Type 1} → statement M

@@ -48,7 +48,9 @@ returns c = (least _, λ some. none some)
 
 returns-2 : tie.Need-returns-2
 returns-2 c =
-    answer (c .before .before .before .before .before .before .before .before .args .s .now) (c .before .before .before .before .before .before .before .before .args .i) (c .before .before .before .before .before .before .before .before .args .end) (c .before .before .before .before .before .before .before .before .pre .0) (c .before .before .before .before .before .before .before .before .pre .1) (c .before .before .before .before .before .before .before .before .pre .2) (c .before .before .before .before .before .before .shared-slice-known2 .given (c .before .before .before .before .before .before .before .before .args .i + 1) .fits)
+    let back4 = c .before .before .before .before in
+    let back8 = back4 .before .before .before .before in
+    answer (back8 .args .s .now) (back8 .args .i) (back8 .args .end) (back8 .pre .0) (back8 .pre .1) (back8 .pre .2) (back4 .before .before .shared-slice-known2 .given (back8 .args .i + 1) .fits)
     (leaf-oid (c .before .before .before .before .if1 .taken) (sym (c .before .oid-good .ensures) ∙ c .if3 .taken))
 
 returns-3 : tie.Need-returns-3
@@ -59,7 +61,9 @@ returns-4 c = (least _, λ some. none some)
 
 returns-5 : tie.Need-returns-5
 returns-5 c =
-    answer (c .before .before .before .before .before .before .before .before .before .args .s .now) (c .before .before .before .before .before .before .before .before .before .args .i) (c .before .before .before .before .before .before .before .before .before .args .end) (c .before .before .before .before .before .before .before .before .before .pre .0) (c .before .before .before .before .before .before .before .before .before .pre .1) (c .before .before .before .before .before .before .before .before .before .pre .2) (c .before .before .before .before .before .before .before .shared-slice-known2 .given (c .before .before .before .before .before .before .before .before .before .args .i + 1) .fits)
+    let back4 = c .before .before .before .before in
+    let back8 = back4 .before .before .before .before in
+    answer (back8 .before .args .s .now) (back8 .before .args .i) (back8 .before .args .end) (back8 .before .pre .0) (back8 .before .pre .1) (back8 .before .pre .2) (back4 .before .before .before .shared-slice-known2 .given (back8 .before .args .i + 1) .fits)
     (leaf-integer (c .before .before .before .before .if4 .taken) (sym (c .before .integer-good .ensures) ∙ c .if6 .taken))
 
 returns-6 : tie.Need-returns-6
@@ -67,7 +71,8 @@ returns-6 c = (least _, λ some. none some)
 
 returns-7 : tie.Need-returns-7
 returns-7 c =
-    answer (c .before .before .before .before .before .before .before .args .s .now) (c .before .before .before .before .before .before .before .args .i) (c .before .before .before .before .before .before .before .args .end) (c .before .before .before .before .before .before .before .pre .0) (c .before .before .before .before .before .before .before .pre .1) (c .before .before .before .before .before .before .before .pre .2) (c .before .before .before .before .before .shared-slice-known2 .given (c .before .before .before .before .before .before .before .args .i + 1) .fits)
+    let back4 = c .before .before .before .before in
+    answer (back4 .before .before .before .args .s .now) (back4 .before .before .before .args .i) (back4 .before .before .before .args .end) (back4 .before .before .before .pre .0) (back4 .before .before .before .pre .1) (back4 .before .before .before .pre .2) (back4 .before .shared-slice-known2 .given (back4 .before .before .before .args .i + 1) .fits)
     (leaf-unjudged (c .before .unjudged .ensures (c .if7 .taken)))
 
 returns-8 : tie.Need-returns-8
@@ -75,7 +80,10 @@ returns-8 c = (least _, λ some. none some)
 
 returns-9 : tie.Need-returns-9
 returns-9 c =
-    answer (c .before .before .before .before .before .before .before .before .before .before .before .before .args .s .now) (c .before .before .before .before .before .before .before .before .before .before .before .before .args .i) (c .before .before .before .before .before .before .before .before .before .before .before .before .args .end) (c .before .before .before .before .before .before .before .before .before .before .before .before .pre .0) (c .before .before .before .before .before .before .before .before .before .before .before .before .pre .1) (c .before .before .before .before .before .before .before .before .before .before .before .before .pre .2) (c .before .before .before .before .before .before .before .before .before .before .shared-slice-known2 .given (c .before .before .before .before .before .before .before .before .before .before .before .before .args .i + 1) .fits)
+    let back4 = c .before .before .before .before in
+    let back8 = back4 .before .before .before .before in
+    let back12 = back8 .before .before .before .before in
+    answer (back12 .args .s .now) (back12 .args .i) (back12 .args .end) (back12 .pre .0) (back12 .pre .1) (back12 .pre .2) (back8 .before .before .shared-slice-known2 .given (back12 .args .i + 1) .fits)
     (leaf-boolean (c .before .before .before .if9 .taken) (sym (c .before .boolean-good .ensures) ∙ c .if10 .taken))
 
 returns-10 : tie.Need-returns-10
@@ -83,8 +91,10 @@ returns-10 c = (least _, λ some. none some)
 
 returns-11 : tie.Need-returns-11
 returns-11 c =
-    answer (c .before .before .before .before .before .before .before .before .before .before .before .args .s .now) (c .before .before .before .before .before .before .before .before .before .before .before .args .i) (c .before .before .before .before .before .before .before .before .before .before .before .args .end) (c .before .before .before .before .before .before .before .before .before .before .before .pre .0) (c .before .before .before .before .before .before .before .before .before .before .before .pre .1) (c .before .before .before .before .before .before .before .before .before .before .before .pre .2) (c .before .before .before .before .before .before .before .before .before .shared-slice-known2 .given (c .before .before .before .before .before .before .before .before .before .before .before .args .i + 1) .fits)
-    (leaf-null (c .before .if11 .taken) (empty (c .before .before .before .before .before .before .before .before .before .before .before .args .s .now) (c .before .before .before .before .before .before .before .before .before .before .before .args .i) (c .before .before .before .before .before .before .before .before .before .before .before .args .end) (c .before .before .before .before .before .before .before .before .before .before .before .pre .2) (c .before .before .before .if8 .left) (c .if12 .taken)))
+    let back4 = c .before .before .before .before in
+    let back8 = back4 .before .before .before .before in
+    answer (back8 .before .before .before .args .s .now) (back8 .before .before .before .args .i) (back8 .before .before .before .args .end) (back8 .before .before .before .pre .0) (back8 .before .before .before .pre .1) (back8 .before .before .before .pre .2) (back8 .before .shared-slice-known2 .given (back8 .before .before .before .args .i + 1) .fits)
+    (leaf-null (c .before .if11 .taken) (empty (back8 .before .before .before .args .s .now) (back8 .before .before .before .args .i) (back8 .before .before .before .args .end) (back8 .before .before .before .pre .2) (c .before .before .before .if8 .left) (c .if12 .taken)))
 
 returns-12 : tie.Need-returns-12
 returns-12 c = (least _, λ some. none some)

@@ -44,8 +44,9 @@ loop-less c = omega (arith, c .before .leaf .ensures .1 (omega arith) .0)
 
 loop-again : tie.Need-loop-again Inv-loop μ-loop
 loop-again c =
+    let back4 = c .before .before .before .before in
     let here = c .before .before .before .loop in
-    let start = c .before .before .before .before .before in
+    let start = back4 .before in
     let few : here .read < 4096 = omega (arith, here .inv .2 (omega arith) .0) in (
       omega arith,
       omega (arith, c .before .leaf .ensures .1 (omega arith) .0),

@@ -60,8 +60,10 @@ returns-4 c = λ e.
     (leaf-unjudged (c .before .unjudged .ensures (c .if4 .taken)))
 
 returns-5 : tie.Need-returns-5
-returns-5 c = λ e.
-    let two = c .before .before .before .before .before .before in
+returns-5 c =
+    let back4 = c .before .before .before .before in
+    λ e.
+    let two = back4 .before .before in
     let start = two .before .before .before .before in
     good-reads (start .args .s .now) (start .args .at) (start .args .end) (start .pre .0) (start .pre .1) (two .before .if1 .left) (two .if2 .left)
     (c .judged .ensures e)

@@ -41,11 +41,15 @@ returns-4 : tie.Need-returns-4
 returns-4 c = simp (identified (c .before .before .before .before), c .before .if4 .taken) (c .one-octet .ensures)
 
 returns-5 : tie.Need-returns-5
-returns-5 c = simp (identified (c .before .before .before .before .before), c .before .if5 .taken) (c .two-octets .ensures)
+returns-5 c =
+    let back4 = c .before .before .before .before in
+    simp (identified (back4 .before), c .before .if5 .taken) (c .two-octets .ensures)
 
 returns-6 : tie.Need-returns-6
 returns-6 c =
-    let s = c .before .before .before .before .before .before .before .before .before .args .s .now in
+    let back4 = c .before .before .before .before in
+    let back8 = back4 .before .before .before .before in
+    let s = back8 .before .args .s .now in
     let first = getD s 1 0 in
     let not-one : first - 128 ≡ 1 → ⊥ = omega arith in
     let not-two : first - 128 ≡ 2 → ⊥ = omega arith in

@@ -26,9 +26,10 @@ returns-2 c =
 returns-3 : tie.Need-returns-3
 unfolding long smallest
 returns-3 c =
+    let back4 = c .before .before .before .before in
     simp (
       le-leb _ _ (c .before .before .before .if1 .left),
-      one-octet (c .before .before .before .before .before .args .s .now) (c .before .before .before .if1 .left),
+      one-octet (back4 .before .args .s .now) (c .before .before .before .if1 .left),
       le-leb _ _ (c .before .if2 .left),
     ) (c .ending .ensures)
 

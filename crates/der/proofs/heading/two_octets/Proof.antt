@@ -26,18 +26,20 @@ add-size c = omega (arith, c .shared-slice-known3 .given 2, c .shared-slice-know
 returns-2 : tie.Need-returns-2
 unfolding long smallest
 returns-2 c =
+    let back4 = c .before .before .before .before in
     simp (
       le-leb _ _ (c .before .before .before .if1 .left),
-      two-octets (c .before .before .before .before .before .args .s .now) (c .before .before .before .if1 .left),
+      two-octets (back4 .before .args .s .now) (c .before .before .before .if1 .left),
       lt-leb _ _ (c .if2 .taken),
     )
 
 returns-3 : tie.Need-returns-3
 unfolding long smallest
 returns-3 c =
+    let back4 = c .before .before .before .before in
     simp (
       le-leb _ _ (c .before .before .before .before .if1 .left),
-      two-octets (c .before .before .before .before .before .before .args .s .now) (c .before .before .before .before .if1 .left),
+      two-octets (back4 .before .before .args .s .now) (c .before .before .before .before .if1 .left),
       le-leb _ _ (c .before .if2 .left),
     ) (c .ending .ensures)
 

@@ -23,8 +23,9 @@ returns c = simp (sym (c .before .before .before .walk .ensures .0) ∙ c .befor
 returns-2 : tie.Need-returns-2
 unfolding integerOf asked held
 returns-2 c =
+    let back4 = c .before .before .before .before in
     simp (
-      sym (c .before .before .before .before .before .walk .ensures .0) ∙ c .before .before .before .enum-told .given .1,
+      sym (back4 .before .walk .ensures .0) ∙ c .before .before .before .enum-told .given .1,
       sym (c .before .before .header .ensures) ∙ c .enum-told2 .given .1,
     )
 
@@ -41,8 +42,9 @@ told : (c : tie.After-known-told2) →
     integerOf paper item ≡ held item (Header (h .0) (h .1 .0) (h .1 .1 .0))
 unfolding integerOf asked
 told c =
+    let back4 = c .before .before .before .before in
     simp (
-      sym (c .before .before .before .before .before .before .walk .ensures .0) ∙ c .before .before .before .before .enum-told .given .1,
+      sym (back4 .before .before .walk .ensures .0) ∙ c .before .before .before .before .enum-told .given .1,
       headed c,
     )
 

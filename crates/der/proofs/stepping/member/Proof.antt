@@ -26,7 +26,9 @@ ended : (c : tie.After-known-told) →
     let h = c .before .tag .given .0 in
     h .1 .0 + h .1 .1 .0 ≤ a .end - a .from
 ended c =
-    let a = c .before .before .before .before .before .before .before .before .args in
+    let back4 = c .before .before .before .before in
+    let back8 = back4 .before .before .before .before in
+    let a = back8 .args in
     let rest : a .end - a .from ≤ length (drop (a .from) (a .item .now)) = rw length-drop (omega arith) in
     let part : length (take (a .end - a .from) (drop (a .from) (a .item .now))) ≡ a .end - a .from = length-take-le _ _ rest in
     rw part at (heading-within paper _ _ _ _ (sym (c .before .before .before .header .ensures) ∙ c .before .tag .given .1) .1)
@@ -40,17 +42,19 @@ add-after c = omega (arith, ended c)
 returns-3 : tie.Need-returns-3
 unfolding memberOf placed
 returns-3 c =
+    let back4 = c .before .before .before .before in
     simp (
-      le-leb _ _ (c .before .before .before .before .before .before .if1 .left),
-      le-leb _ _ (c .before .before .before .before .before .if2 .left),
+      le-leb _ _ (back4 .before .before .if1 .left),
+      le-leb _ _ (back4 .before .if2 .left),
       sym (c .before .before .before .header .ensures) ∙ c .before .tag .given .1,
     )
 
 returns-4 : tie.Need-returns-4
 unfolding memberOf placed
 returns-4 c =
+    let back4 = c .before .before .before .before in
     simp (
-      le-leb _ _ (c .before .before .before .before .before .if1 .left),
+      le-leb _ _ (back4 .before .if1 .left),
       le-leb _ _ (c .before .before .before .before .if2 .left),
       sym (c .before .before .header .ensures) ∙ c .enum-told .given .1,
     )

@@ -17,11 +17,15 @@ returns-2 c = sym (tag-missing _ (sym (c .before .before .element-at .ensures) �
 
 returns-3 : tie.Need-returns-3
 unfolding foundTagged
-returns-3 c = sym (tag-kept _ (sym (c .before .before .before .before .before .element-at .ensures) ∙ c .before .before .before .e .given .1) (c .if3 .taken))
+returns-3 c =
+    let back4 = c .before .before .before .before in
+    sym (tag-kept _ (sym (back4 .before .element-at .ensures) ∙ c .before .before .before .e .given .1) (c .if3 .taken))
 
 returns-4 : tie.Need-returns-4
 unfolding foundTagged
-returns-4 c = sym (tag-other _ (sym (c .before .before .before .before .before .element-at .ensures) ∙ c .before .before .before .e .given .1) (c .if3 .left))
+returns-4 c =
+    let back4 = c .before .before .before .before in
+    sym (tag-other _ (sym (back4 .before .element-at .ensures) ∙ c .before .before .before .e .given .1) (c .if3 .left))
 
 pub any-tagged-spec : {M : Type 1} → statement M
 any-tagged-spec =

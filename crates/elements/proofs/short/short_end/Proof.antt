@@ -19,7 +19,9 @@ returns-4 : tie.Need-returns-4
 returns-4 c = short-other _ _ _ _ (omega arith) (omega arith) (c .if4 .taken)
 
 cast-size : tie.Need-cast-size
-cast-size c = omega (arith, c .shared-slice-known2 .given (c .before .before .before .before .before .before .args .from + 1))
+cast-size c =
+    let back4 = c .before .before .before .before in
+    omega (arith, c .shared-slice-known2 .given (back4 .before .before .args .from + 1))
 
 returns-5 : tie.Need-returns-5
 returns-5 c = short-long _ _ _ _ (omega arith) (omega arith) (c .before .before .if4 .left) (c .if5 .taken)

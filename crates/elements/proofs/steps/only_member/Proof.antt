@@ -13,11 +13,15 @@ returns c = on-missing _ (sym (c .before .before .element-tagged .ensures) ∙ c
 
 returns-2 : tie.Need-returns-2
 unfolding onlyOf
-returns-2 c = on-found _ _ (sym (c .before .before .before .before .before .before .element-tagged .ensures) ∙ c .before .before .before .before .member .given .1) (simp (eq-eqb _ _ (c .if1 .taken)))
+returns-2 c =
+    let back4 = c .before .before .before .before in
+    on-found _ _ (sym (back4 .before .before .element-tagged .ensures) ∙ c .before .before .before .before .member .given .1) (simp (eq-eqb _ _ (c .if1 .taken)))
 
 returns-3 : tie.Need-returns-3
 unfolding onlyOf
-returns-3 c = on-found _ _ (sym (c .before .before .before .before .before .before .element-tagged .ensures) ∙ c .before .before .before .before .member .given .1) (simp (ne-eqb _ _ (c .if1 .left)))
+returns-3 c =
+    let back4 = c .before .before .before .before in
+    on-found _ _ (sym (back4 .before .before .element-tagged .ensures) ∙ c .before .before .before .before .member .given .1) (simp (ne-eqb _ _ (c .if1 .left)))
 
 pub only-member-spec : {M : Type 1} → statement M
 only-member-spec =

@@ -21,11 +21,15 @@ add-if3 : tie.Need-add-if3
 add-if3 c = omega (arith, short-within _ _ _ _ (c .before .short-end2 .ensures) (omega arith))
 
 add-t13 : tie.Need-add-t13
-add-t13 c = omega (arith, short-within _ _ _ _ (sym (c .if3 .taken) ∙ c .before .short-end3 .ensures) (omega (arith, short-within _ _ _ _ (c .before .before .before .before .before .short-end .ensures) (omega arith))))
+add-t13 c =
+    let back4 = c .before .before .before .before in
+    omega (arith, short-within _ _ _ _ (sym (c .if3 .taken) ∙ c .before .short-end3 .ensures) (omega (arith, short-within _ _ _ _ (back4 .before .short-end .ensures) (omega arith))))
 
 returns-3 : tie.Need-returns-3
 unfolding endOf
-returns-3 c = λ _. member-uncritical _ _ _ (omega arith) (c .before .before .before .before .before .short-end .ensures) (omega arith) (c .before .before .before .short-end2 .ensures) (sym (c .if3 .taken) ∙ c .before .short-end3 .ensures)
+returns-3 c =
+    let back4 = c .before .before .before .before in
+    λ _. member-uncritical _ _ _ (omega arith) (back4 .before .short-end .ensures) (omega arith) (c .before .before .before .short-end2 .ensures) (sym (c .if3 .taken) ∙ c .before .short-end3 .ensures)
 
 returns-4 : tie.Need-returns-4
 returns-4 c = nothing-told
@@ -46,11 +50,19 @@ returns-7 : tie.Need-returns-7
 returns-7 c = nothing-told
 
 add-t12 : tie.Need-add-t12
-add-t12 c = omega (arith, short-within _ _ _ _ (sym (c .if7 .left) ∙ c .before .short-end5 .ensures) (omega (arith, short-within _ _ _ _ (c .before .before .before .before .before .before .before .before .before .before .before .before .short-end .ensures) (omega arith))))
+add-t12 c =
+    let back4 = c .before .before .before .before in
+    let back8 = back4 .before .before .before .before in
+    let back12 = back8 .before .before .before .before in
+    omega (arith, short-within _ _ _ _ (sym (c .if7 .left) ∙ c .before .short-end5 .ensures) (omega (arith, short-within _ _ _ _ (back12 .short-end .ensures) (omega arith))))
 
 returns-8 : tie.Need-returns-8
 unfolding endOf
-returns-8 c = λ _. member-critical _ _ _ (omega arith) (c .before .before .before .before .before .before .before .before .before .before .before .before .short-end .ensures) (omega arith) (c .before .before .before .before .before .before .before .before .before .before .short-end2 .ensures) (omega arith) (c .before .before .before .before .before .before .short-end4 .ensures) (c .before .before .if6 .left) (sym (c .if7 .left) ∙ c .before .short-end5 .ensures)
+returns-8 c =
+    let back4 = c .before .before .before .before in
+    let back8 = back4 .before .before .before .before in
+    let back12 = back8 .before .before .before .before in
+    λ _. member-critical _ _ _ (omega arith) (back12 .short-end .ensures) (omega arith) (back8 .before .before .short-end2 .ensures) (omega arith) (back4 .before .before .short-end4 .ensures) (c .before .before .if6 .left) (sym (c .if7 .left) ∙ c .before .short-end5 .ensures)
 
 pub brief-at-spec : {M : Type 1} → statement M
 brief-at-spec =

@@ -13,7 +13,9 @@ returns c = place-none _ _ _ _ (c .before .before .before .place-of .ensures) (s
 
 returns-2 : tie.Need-returns-2
 unfolding lookupOf inside
-returns-2 c = c .any-extension .ensures ∙ place-one _ _ _ _ (c .before .before .before .before .before .place-of .ensures) (sym (c .before .before .before .before .element-at .ensures) ∙ c .before .before .e .given .1)
+returns-2 c =
+    let back4 = c .before .before .before .before in
+    c .any-extension .ensures ∙ place-one _ _ _ _ (back4 .before .place-of .ensures) (sym (c .before .before .before .before .element-at .ensures) ∙ c .before .before .e .given .1)
 
 pub lookup-spec : {M : Type 1} → statement M
 lookup-spec =

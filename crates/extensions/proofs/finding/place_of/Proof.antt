@@ -19,11 +19,15 @@ loop-holds : tie.Need-loop-holds Inv-loop μ-loop
 loop-holds c = refl
 
 loop-less : tie.Need-loop-less Inv-loop μ-loop
-loop-less c = omega (arith, found-within _ _ _ (sym (c .before .before .before .before .before .before .element-at .ensures) ∙ c .before .before .before .before .e .given .1))
+loop-less c =
+    let back4 = c .before .before .before .before in
+    omega (arith, found-within _ _ _ (sym (back4 .before .before .element-at .ensures) ∙ c .before .before .before .before .e .given .1))
 
 loop-again : tie.Need-loop-again Inv-loop μ-loop
 unfolding placeIn
-loop-again c = c .before .before .before .before .before .before .before .loop .inv ∙ rw (members-more _ _ _ (sym (c .before .before .before .before .before .before .element-at .ensures) ∙ c .before .before .before .before .e .given .1), ← c .before .before .any-extension .ensures, ← c .before .has-oid .ensures, c .if1 .left)
+loop-again c =
+    let back4 = c .before .before .before .before in
+    back4 .before .before .before .loop .inv ∙ rw (members-more _ _ _ (sym (back4 .before .before .element-at .ensures) ∙ c .before .before .before .before .e .given .1), ← c .before .before .any-extension .ensures, ← c .before .has-oid .ensures, c .if1 .left)
 
 returns : tie.Need-returns Inv-loop μ-loop
 unfolding placeIn
@@ -31,7 +35,9 @@ returns c = sym (c .before .before .before .loop .inv ∙ rw (members-none _ _ _
 
 returns-2 : tie.Need-returns-2 Inv-loop μ-loop
 unfolding placeIn
-returns-2 c = sym (c .before .before .before .before .before .before .before .loop .inv ∙ rw (members-more _ _ _ (sym (c .before .before .before .before .before .before .element-at .ensures) ∙ c .before .before .before .before .e .given .1), ← c .before .before .any-extension .ensures, ← c .before .has-oid .ensures, c .if1 .taken) (found-within _ _ _ (sym (c .before .before .before .before .before .before .element-at .ensures) ∙ c .before .before .before .before .e .given .1) .0))
+returns-2 c =
+    let back4 = c .before .before .before .before in
+    sym (back4 .before .before .before .loop .inv ∙ rw (members-more _ _ _ (sym (back4 .before .before .element-at .ensures) ∙ c .before .before .before .before .e .given .1), ← c .before .before .any-extension .ensures, ← c .before .has-oid .ensures, c .if1 .taken) (found-within _ _ _ (sym (back4 .before .before .element-at .ensures) ∙ c .before .before .before .before .e .given .1) .0))
 
 pub place-of-spec : {M : Type 1} → statement M
 place-of-spec =

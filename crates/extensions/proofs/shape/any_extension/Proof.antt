@@ -18,23 +18,40 @@ returns-2 c = rw (eq-eqb _ _ (c .before .before .before .if1 .left)) (on-missing
 
 returns-3 : tie.Need-returns-3
 unfolding extensionOf
-returns-3 c = rw (eq-eqb _ _ (c .before .before .before .before .before .before .before .if1 .left)) (on-found _ _ (sym (c .before .before .before .before .before .before .element-tagged .ensures) ∙ c .before .before .before .before .oid .given .1) (on-missing _ (sym (c .before .before .element-at .ensures) ∙ c .enum-told2 .given .1)))
+returns-3 c =
+    let back4 = c .before .before .before .before in
+    rw (eq-eqb _ _ (back4 .before .before .before .if1 .left)) (on-found _ _ (sym (back4 .before .before .element-tagged .ensures) ∙ c .before .before .before .before .oid .given .1) (on-missing _ (sym (c .before .before .element-at .ensures) ∙ c .enum-told2 .given .1)))
 
 returns-4 : tie.Need-returns-4
 unfolding extensionOf
-returns-4 c = rw (eq-eqb _ _ (c .before .before .before .before .before .before .before .before .before .before .before .if1 .left)) (on-found _ _ (sym (c .before .before .before .before .before .before .before .before .before .before .element-tagged .ensures) ∙ c .before .before .before .before .before .before .before .before .oid .given .1) (on-found _ _ (sym (c .before .before .before .before .before .before .element-at .ensures) ∙ c .before .before .before .before .next .given .1) (rw (ne-eqb _ _ (c .before .if2 .taken)) (c .holding .ensures))))
+returns-4 c =
+    let back4 = c .before .before .before .before in
+    let back8 = back4 .before .before .before .before in
+    rw (eq-eqb _ _ (back8 .before .before .before .if1 .left)) (on-found _ _ (sym (back8 .before .before .element-tagged .ensures) ∙ back8 .oid .given .1) (on-found _ _ (sym (back4 .before .before .element-at .ensures) ∙ c .before .before .before .before .next .given .1) (rw (ne-eqb _ _ (c .before .if2 .taken)) (c .holding .ensures))))
 
 returns-5 : tie.Need-returns-5
 unfolding extensionOf
-returns-5 c = rw (eq-eqb _ _ (c .before .before .before .before .before .before .before .before .before .before .before .if1 .left)) (on-found _ _ (sym (c .before .before .before .before .before .before .before .before .before .before .element-tagged .ensures) ∙ c .before .before .before .before .before .before .before .before .oid .given .1) (on-found _ _ (sym (c .before .before .before .before .before .before .element-at .ensures) ∙ c .before .before .before .before .next .given .1) (rw (eq-eqb _ _ (c .before .if2 .left), List·getD-eq-default (c .before .before .before .before .before .before .before .before .before .before .before .before .before .before .args .item .now) 0 (c .if3 .taken)))))
+returns-5 c =
+    let back4 = c .before .before .before .before in
+    let back8 = back4 .before .before .before .before in
+    let back12 = back8 .before .before .before .before in
+    rw (eq-eqb _ _ (back8 .before .before .before .if1 .left)) (on-found _ _ (sym (back8 .before .before .element-tagged .ensures) ∙ back8 .oid .given .1) (on-found _ _ (sym (back4 .before .before .element-at .ensures) ∙ c .before .before .before .before .next .given .1) (rw (eq-eqb _ _ (c .before .if2 .left), List·getD-eq-default (back12 .before .before .args .item .now) 0 (c .if3 .taken)))))
 
 returns-6 : tie.Need-returns-6
 unfolding extensionOf
-returns-6 c = rw (eq-eqb _ _ (c .before .before .before .before .before .before .before .before .before .before .before .before .before .if1 .left)) (on-found _ _ (sym (c .before .before .before .before .before .before .before .before .before .before .before .before .element-tagged .ensures) ∙ c .before .before .before .before .before .before .before .before .before .before .oid .given .1) (on-found _ _ (sym (c .before .before .before .before .before .before .before .before .element-at .ensures) ∙ c .before .before .before .before .before .before .next .given .1) (rw (eq-eqb _ _ (c .before .before .before .if2 .left), ne-eqb _ _ (c .if4 .taken)))))
+returns-6 c =
+    let back4 = c .before .before .before .before in
+    let back8 = back4 .before .before .before .before in
+    let back12 = back8 .before .before .before .before in
+    rw (eq-eqb _ _ (back12 .before .if1 .left)) (on-found _ _ (sym (back12 .element-tagged .ensures) ∙ back8 .before .before .oid .given .1) (on-found _ _ (sym (back8 .element-at .ensures) ∙ back4 .before .before .next .given .1) (rw (eq-eqb _ _ (c .before .before .before .if2 .left), ne-eqb _ _ (c .if4 .taken)))))
 
 returns-7 : tie.Need-returns-7
 unfolding extensionOf
-returns-7 c = rw (eq-eqb _ _ (c .before .before .before .before .before .before .before .before .before .before .before .before .before .before .before .if1 .left)) (on-found _ _ (sym (c .before .before .before .before .before .before .before .before .before .before .before .before .before .before .element-tagged .ensures) ∙ c .before .before .before .before .before .before .before .before .before .before .before .before .oid .given .1) (on-found _ _ (sym (c .before .before .before .before .before .before .before .before .before .before .element-at .ensures) ∙ c .before .before .before .before .before .before .before .before .next .given .1) (rw (eq-eqb _ _ (c .before .before .before .before .before .if2 .left), eq-eqb _ _ (c .before .before .if4 .left), ← c .before .element-at2 .ensures) (c .holding2 .ensures))))
+returns-7 c =
+    let back4 = c .before .before .before .before in
+    let back8 = back4 .before .before .before .before in
+    let back12 = back8 .before .before .before .before in
+    rw (eq-eqb _ _ (back12 .before .before .before .if1 .left)) (on-found _ _ (sym (back12 .before .before .element-tagged .ensures) ∙ back12 .oid .given .1) (on-found _ _ (sym (back8 .before .before .element-at .ensures) ∙ back8 .next .given .1) (rw (eq-eqb _ _ (back4 .before .if2 .left), eq-eqb _ _ (c .before .before .if4 .left), ← c .before .element-at2 .ensures) (c .holding2 .ensures))))
 
 pub any-extension-spec : {M : Type 1} → statement M
 any-extension-spec =

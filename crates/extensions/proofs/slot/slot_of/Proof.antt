@@ -16,15 +16,36 @@ returns c = record { there = rw (c .enum-told .given .1); each = λ k l. rw (c .
 
 returns-2 : tie.Need-returns-2
 unfolding hasOid present
-returns-2 c = record { there = rw (c .before .before .before .before .before .before .before .extension .given .1, ne-eqb (c .slot-by .result) 24 (λ q. omega (arith, c .slot-by .ensures .0))); each = λ k l. c .slot-by .ensures .1 k l ∙ (ap (λ o. alike o (oidOf k)) (sym (three _ (c .before .before .before .before .if1 .taken)) ∙ c .before .before .before .before .before .contents .ensures) ∙ rw (c .before .before .before .before .before .before .before .extension .given .1)) }
+returns-2 c =
+    let back4 = c .before .before .before .before in
+    record {
+      there = rw (back4 .before .before .before .extension .given .1, ne-eqb (c .slot-by .result) 24 (λ q. omega (arith, c .slot-by .ensures .0)));
+      each =
+          let back4 = c .before .before .before .before in
+          λ k l. c .slot-by .ensures .1 k l ∙ (ap (λ o. alike o (oidOf k)) (sym (three _ (c .before .before .before .before .if1 .taken)) ∙ back4 .before .contents .ensures) ∙ rw (back4 .before .before .before .extension .given .1));
+    }
 
 returns-3 : tie.Need-returns-3
 unfolding hasOid present
-returns-3 c = record { there = rw (c .before .before .before .before .before .before .extension .given .1); each = λ k l. slot-types _ k l (sym (c .before .same .ensures) ∙ c .if2 .taken) ∙ rw (c .before .before .before .before .contents .ensures, c .before .before .before .before .before .before .extension .given .1) }
+returns-3 c =
+    let back4 = c .before .before .before .before in
+    record {
+      there = rw (back4 .before .before .extension .given .1);
+      each =
+          let back4 = c .before .before .before .before in
+          λ k l. slot-types _ k l (sym (c .before .same .ensures) ∙ c .if2 .taken) ∙ rw (c .before .before .before .before .contents .ensures, back4 .before .before .extension .given .1);
+    }
 
 returns-4 : tie.Need-returns-4
 unfolding hasOid present
-returns-4 c = record { there = rw (c .before .before .before .before .before .before .extension .given .1); each = λ k l. slot-none _ k l (c .before .before .before .if1 .left) (sym (c .before .same .ensures) ∙ c .if2 .left) ∙ rw (c .before .before .before .before .contents .ensures, c .before .before .before .before .before .before .extension .given .1) }
+returns-4 c =
+    let back4 = c .before .before .before .before in
+    record {
+      there = rw (back4 .before .before .extension .given .1);
+      each =
+          let back4 = c .before .before .before .before in
+          λ k l. slot-none _ k l (c .before .before .before .if1 .left) (sym (c .before .same .ensures) ∙ c .if2 .left) ∙ rw (c .before .before .before .before .contents .ensures, back4 .before .before .extension .given .1);
+    }
 
 pub slot-of-spec : {M : Type 1} → statement M
 slot-of-spec =

@@ -52,22 +52,32 @@ add-if6 : tie.Need-add-if6
 add-if6 c = omega (arith, c .before .before .if4 .left, short-within _ _ _ _ (c .before .before .before .before .short-end3 .ensures) (omega arith))
 
 shared-slice-read-if6 : tie.Need-shared-slice-read-if6
-shared-slice-read-if6 c = omega (arith, c .before .before .before .if4 .left, short-within _ _ _ _ (c .before .before .before .before .before .short-end3 .ensures) (omega arith), short-inside _ _ _ _ (c .before .before .before .before .before .short-end3 .ensures) (omega arith))
+shared-slice-read-if6 c =
+    let back4 = c .before .before .before .before in
+    omega (arith, c .before .before .before .if4 .left, short-within _ _ _ _ (back4 .before .short-end3 .ensures) (omega arith), short-inside _ _ _ _ (back4 .before .short-end3 .ensures) (omega arith))
 
 returns-6 : tie.Need-returns-6
 returns-6 c = λ some. absurd (omega arith)
 
 add-if7 : tie.Need-add-if7
-add-if7 c = omega (arith, c .before .before .before .before .if4 .left, short-within _ _ _ _ (c .before .before .before .before .before .before .short-end3 .ensures) (omega arith))
+add-if7 c =
+    let back4 = c .before .before .before .before in
+    omega (arith, c .before .before .before .before .if4 .left, short-within _ _ _ _ (back4 .before .before .short-end3 .ensures) (omega arith))
 
 shared-slice-read-if7 : tie.Need-shared-slice-read-if7
-shared-slice-read-if7 c = omega (arith, c .before .before .before .before .before .if4 .left, short-within _ _ _ _ (c .before .before .before .before .before .before .before .short-end3 .ensures) (omega arith), short-inside _ _ _ _ (c .before .before .before .before .before .before .before .short-end3 .ensures) (omega arith))
+shared-slice-read-if7 c =
+    let back4 = c .before .before .before .before in
+    omega (arith, back4 .before .if4 .left, short-within _ _ _ _ (back4 .before .before .before .short-end3 .ensures) (omega arith), short-inside _ _ _ _ (back4 .before .before .before .short-end3 .ensures) (omega arith))
 
 returns-7 : tie.Need-returns-7
 returns-7 c = λ some. absurd (omega arith)
 
 returns-8 : tie.Need-returns-8
-returns-8 c = λ some. at-nine _ _ _ _ (c .before .before .before .before .before .before .before .before .before .before .short-end3 .ensures) (short-within _ _ _ _ (c .before .before .before .before .before .before .before .before .before .before .short-end3 .ensures) (omega arith) .0) (c .before .before .before .before .before .before .before .before .if4 .left) (sym (c .if8 .taken) ∙ c .before .short-end4 .ensures) λ oid last. country-set _ _ _ some (c .before .before .before .before .before .before .before .before .before .before .before .before .before .before .short-end .ensures) (sym (c .before .before .before .before .before .before .before .before .before .before .before .if2 .left) ∙ c .before .before .before .before .before .before .before .before .before .before .before .before .short-end2 .ensures) oid (c .before .before .before .before .before .before .if5 .left) (c .before .before .before .before .if6 .left) (c .before .before .if7 .left) last
+returns-8 c =
+    let back4 = c .before .before .before .before in
+    let back8 = back4 .before .before .before .before in
+    let back12 = back8 .before .before .before .before in
+    λ some. at-nine _ _ _ _ (back8 .before .before .short-end3 .ensures) (short-within _ _ _ _ (back8 .before .before .short-end3 .ensures) (omega arith) .0) (back8 .if4 .left) (sym (c .if8 .taken) ∙ c .before .short-end4 .ensures) λ oid last. country-set _ _ _ some (back12 .before .before .short-end .ensures) (sym (back8 .before .before .before .if2 .left) ∙ back12 .short-end2 .ensures) oid (back4 .before .before .if5 .left) (c .before .before .before .before .if6 .left) (c .before .before .if7 .left) last
 
 returns-9 : tie.Need-returns-9
 returns-9 c = λ some. absurd (omega arith)

@@ -31,11 +31,17 @@ returns-4 c = λ some. absurd (omega arith)
 
 returns-5 : tie.Need-returns-5
 unfolding identifierGood
-returns-5 c = λ some. other-set _ _ _ 0x13 some (c .before .before .before .before .before .before .before .before .before .short-end .ensures) (sym (c .before .before .before .before .before .before .if2 .left) ∙ c .before .before .before .before .before .before .before .short-end2 .ensures) (omega arith) (c .before .before .before .before .before .short-end3 .ensures) (c .before .before .if4 .left) refl (sym (c .if5 .taken) ∙ c .before .short-end4 .ensures)
+returns-5 c =
+    let back4 = c .before .before .before .before in
+    let back8 = back4 .before .before .before .before in
+    λ some. other-set _ _ _ 0x13 some (back8 .before .short-end .ensures) (sym (back4 .before .before .if2 .left) ∙ back4 .before .before .before .short-end2 .ensures) (omega arith) (back4 .before .short-end3 .ensures) (c .before .before .if4 .left) refl (sym (c .if5 .taken) ∙ c .before .short-end4 .ensures)
 
 returns-6 : tie.Need-returns-6
 unfolding identifierGood
-returns-6 c = λ some. other-set _ _ _ 0x0C some (c .before .before .before .before .before .before .before .before .before .before .before .short-end .ensures) (sym (c .before .before .before .before .before .before .before .before .if2 .left) ∙ c .before .before .before .before .before .before .before .before .before .short-end2 .ensures) (omega arith) (c .before .before .before .before .before .before .before .short-end3 .ensures) (c .before .before .before .before .if4 .left) refl (sym (c .if6 .taken) ∙ c .before .short-end5 .ensures)
+returns-6 c =
+    let back4 = c .before .before .before .before in
+    let back8 = back4 .before .before .before .before in
+    λ some. other-set _ _ _ 0x0C some (back8 .before .before .before .short-end .ensures) (sym (back8 .if2 .left) ∙ back8 .before .short-end2 .ensures) (omega arith) (back4 .before .before .before .short-end3 .ensures) (c .before .before .before .before .if4 .left) refl (sym (c .if6 .taken) ∙ c .before .short-end5 .ensures)
 
 returns-7 : tie.Need-returns-7
 returns-7 c = λ some. absurd (omega arith)

@@ -21,7 +21,9 @@ same-part-requires : tie.Need-same-part-requires Inv-loop μ-loop
 same-part-requires c κs = (omega arith, omega arith)
 
 returns-2 : tie.Need-returns-2 Inv-loop μ-loop
-returns-2 c = c .same-part .ensures ∙ alike-last (c .before .before .before .before .before .args .a .now) (c .before .before .before .before .before .args .b .now) 0 0 (length (c .before .before .before .before .before .args .a .now)) (omega arith) (omega arith) (omega arith) refl
+returns-2 c =
+    let back4 = c .before .before .before .before in
+    c .same-part .ensures ∙ alike-last (back4 .before .args .a .now) (back4 .before .args .b .now) 0 0 (length (back4 .before .args .a .now)) (omega arith) (omega arith) (omega arith) refl
 
 loop-holds : tie.Need-loop-holds Inv-loop μ-loop
 loop-holds c = (omega arith, refl)
@@ -45,7 +47,9 @@ same-part-requires-3 : tie.Need-same-part-requires-3 Inv-loop μ-loop
 same-part-requires-3 c κs = (omega arith, omega arith)
 
 returns-4 : tie.Need-returns-4 Inv-loop μ-loop
-returns-4 c = c .same-part3 .ensures ∙ alike-last (c .before .before .before .before .before .before .before .args .a .now) (c .before .before .before .before .before .before .before .args .b .now) (length (c .before .before .before .before .before .before .before .args .a .now) - 16) (c .before .before .loop .i) 16 (omega arith) (omega arith) (omega arith) (c .before .before .loop .inv .1)
+returns-4 c =
+    let back4 = c .before .before .before .before in
+    c .same-part3 .ensures ∙ alike-last (back4 .before .before .before .args .a .now) (back4 .before .before .before .args .b .now) (length (back4 .before .before .before .args .a .now) - 16) (c .before .before .loop .i) 16 (omega arith) (omega arith) (omega arith) (c .before .before .loop .inv .1)
 
 pub same-spec : {M : Type 1} → statement M
 same-spec =

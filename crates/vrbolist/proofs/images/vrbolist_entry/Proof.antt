@@ -11,7 +11,9 @@ returns c = rw (sym (c .before .before .before .entry .ensures) ∙ c .before .f
 
 returns-2 : tie.Need-returns-2
 unfolding entryTold
-returns-2 c = rw (sym (c .before .before .before .before .before .entry .ensures) ∙ c .before .before .before .refusal .given .1, c .before .number .ensures, c .detail .ensures)
+returns-2 c =
+    let back4 = c .before .before .before .before in
+    rw (sym (back4 .before .entry .ensures) ∙ c .before .before .before .refusal .given .1, c .before .number .ensures, c .detail .ensures)
 
 pub vrbolist-entry-spec : {M : Type 1} → statement M
 vrbolist-entry-spec =

@@ -7,11 +7,15 @@ use Rattle.vrbolist.proofs.images.vrbolist_write.Tie as tie
 
 returns : tie.Need-returns
 unfolding writeTold
-returns c = (rw (sym (c .before .before .before .before .before .write .ensures .0) ∙ c .before .length .given .1), c .before .before .before .before .before .write .ensures .1)
+returns c =
+    let back4 = c .before .before .before .before in
+    (rw (sym (back4 .before .write .ensures .0) ∙ c .before .length .given .1), back4 .before .write .ensures .1)
 
 returns-2 : tie.Need-returns-2
 unfolding writeTold
-returns-2 c = (rw (sym (c .before .before .before .before .before .before .before .write .ensures .0) ∙ c .before .before .before .refusal .given .1, c .before .number .ensures, c .detail .ensures), c .before .before .before .before .before .before .before .write .ensures .1)
+returns-2 c =
+    let back4 = c .before .before .before .before in
+    (rw (sym (back4 .before .before .before .write .ensures .0) ∙ c .before .before .before .refusal .given .1, c .before .number .ensures, c .detail .ensures), back4 .before .before .before .write .ensures .1)
 
 pub vrbolist-write-spec : {M : Type 1} → statement M
 vrbolist-write-spec =

@@ -13,7 +13,9 @@ returns c = rw (sym (c .before .before .before .integer .ensures) ∙ c .before 
 
 returns-2 : tie.Need-returns-2
 unfolding integerTold
-returns-2 c = rw (sym (c .before .before .before .before .before .integer .ensures) ∙ c .before .before .before .refusal .given .1, c .before .number .ensures, c .detail .ensures)
+returns-2 c =
+    let back4 = c .before .before .before .before in
+    rw (sym (back4 .before .integer .ensures) ∙ c .before .before .before .refusal .given .1, c .before .number .ensures, c .detail .ensures)
 
 pub vrbolist-integer-spec : {M : Type 1} → statement M
 vrbolist-integer-spec =
