@@ -8,6 +8,7 @@ use native.Mathlib.Omega.{arith}
 use lib.ListN.{length, getD, take, drop}
 use lib.Seq.{take-at, drop-at}
 use Rattle.refusal.specs.declared.Refusal.{Refusal}
+use Rattle.refusal.specs.declared.Refusal.the-variants.{Image as Broken}
 use Rattle.refusal.specs.Rules.{Smallest}
 use Rattle.octets.specs.Octets.{Octets}
 use Rattle.image.specs.declared.Opened.the-variants as image
