@@ -12,7 +12,7 @@ use Rattle.der.specs.declared.walking.Walked.the-variants.{Passed}
 use Rattle.der.specs.Forms.{paper}
 use Rattle.der.specs.Heading.{identifierGood, headingOf, constructed}
 use Rattle.der.specs.Contents.{booleanGood, integerGood, bitStringGood, oidGood, contentsGood}
-use Rattle.der.specs.Looks.{stretch, Reads, Fills, Double, Unjudged, Leaf}
+use Rattle.der.specs.Fast.{stretch, Reads, Fills, Double, Unjudged, Leaf}
 use Rattle.der.specs.Walk.{filled}
 use Rattle.der.proofs.Laws.{short-header}
 use Rattle.der.proofs.Bounds.{element-within}

@@ -8,7 +8,7 @@ use lib.ListN.{length, take, drop, length-take, length-drop}
 use lib.Seq.{take-take, drop-drop}
 use Rattle.der.specs.declared.walking.Read.the-variants.{Past}
 use Rattle.der.specs.Forms.{paper}
-use Rattle.der.specs.Looks.{stretch, Fills}
+use Rattle.der.specs.Fast.{stretch, Fills}
 use Rattle.der.proofs.Laws.{list-done, list-more}
 use Rattle.der.proofs.Enough.{ElementIs}
 

@@ -4,4 +4,4 @@ pub mod Contents
 pub mod Walk
 pub mod Integer
 pub mod Member
-pub mod Looks
+pub mod Fast

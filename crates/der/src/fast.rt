@@ -9,7 +9,7 @@ ghost use mathlib.Core.Bool.{true, false};
 ghost use Prim.Native.Nat.{ℕ, _+_, _-_, _≤_, _<_};
 ghost use lib.ListN.{length, getD};
 ghost use Rattle.der.specs.Heading.{constructed};
-ghost use Rattle.der.specs.Looks.{stretch, Reads, Fills, Double, Unjudged, Leaf};
+ghost use Rattle.der.specs.Fast.{stretch, Reads, Fills, Double, Unjudged, Leaf};
 
 // The count of elements when the one at `at` has been read, if nothing is wrong with it and it is a primitive with a header of two
 // octets, or holds nothing but such; else 0.

@@ -46,16 +46,16 @@ standing-at-requires-2 c κs =
     omega (arith, back8 .pre, c .loop2-test .taken)
 
 mul-octet : tie.Need-mul-octet Inv-loop2 μ-loop2 Inv-loop μ-loop
-mul-octet c = let m : c .before .before .before .loop2 .anchor * c .before .before .before .before .before .before .before .before .before .before .args .places ≤ 96 * 96 = mul-le-mul {n₂ = 96} {m₂ =
+mul-octet c =
     let back4 = c .before .before .before .before in
     let back8 = back4 .before .before .before .before in
-    96} (omega (arith, back8 .before .before .pre, back4 .before .before .before .loop-test .taken, c .before .before .loop2-test .taken)) (omega (arith, back8 .before .before .pre)) in omega (arith, m, back8 .before .before .pre, back4 .before .before .before .loop-test .taken, c .before .before .loop2-test .taken)
+    let m : c .before .before .before .loop2 .anchor * back8 .before .before .args .places ≤ 96 * 96 = mul-le-mul {n₂ = 96} {m₂ = 96} (omega (arith, back8 .before .before .pre, back4 .before .before .before .loop-test .taken, c .before .before .loop2-test .taken)) (omega (arith, back8 .before .before .pre)) in omega (arith, m, back8 .before .before .pre, back4 .before .before .before .loop-test .taken, c .before .before .loop2-test .taken)
 
 add-octet : tie.Need-add-octet Inv-loop2 μ-loop2 Inv-loop μ-loop
-add-octet c = let m : c .before .before .before .loop2 .anchor * c .before .before .before .before .before .before .before .before .before .before .args .places ≤ 96 * 96 = mul-le-mul {n₂ = 96} {m₂ =
+add-octet c =
     let back4 = c .before .before .before .before in
     let back8 = back4 .before .before .before .before in
-    96} (omega (arith, back8 .before .before .pre, back4 .before .before .before .loop-test .taken, c .before .before .loop2-test .taken)) (omega (arith, back8 .before .before .pre)) in omega (arith, m, back8 .before .before .pre, back4 .before .before .before .loop-test .taken, c .before .before .loop2-test .taken)
+    let m : c .before .before .before .loop2 .anchor * back8 .before .before .args .places ≤ 96 * 96 = mul-le-mul {n₂ = 96} {m₂ = 96} (omega (arith, back8 .before .before .pre, back4 .before .before .before .loop-test .taken, c .before .before .loop2-test .taken)) (omega (arith, back8 .before .before .pre)) in omega (arith, m, back8 .before .before .pre, back4 .before .before .before .loop-test .taken, c .before .before .loop2-test .taken)
 
 row-at-requires-2 : tie.Need-row-at-requires-2 Inv-loop2 μ-loop2 Inv-loop μ-loop
 row-at-requires-2 c κs =

@@ -37,9 +37,9 @@ row-at-requires c κs =
     omega (arith, back4 .before .before .pre, c .before .before .loop-test .taken)
 
 mul-part : tie.Need-mul-part Inv-loop2 μ-loop2 Inv-loop μ-loop
-mul-part c = let m : c .before .before .before .before .loop .u * c .before .before .before .before .before .before .before .args .places ≤ 96 * 96 = mul-le-mul {n₂ = 96} {m₂ =
+mul-part c =
     let back4 = c .before .before .before .before in
-    96} (omega (arith, back4 .before .before .before .pre, c .before .before .before .loop-test .taken)) (omega (arith, back4 .before .before .before .pre)) in omega (arith, m)
+    let m : c .before .before .before .before .loop .u * back4 .before .before .before .args .places ≤ 96 * 96 = mul-le-mul {n₂ = 96} {m₂ = 96} (omega (arith, back4 .before .before .before .pre, c .before .before .before .loop-test .taken)) (omega (arith, back4 .before .before .before .pre)) in omega (arith, m)
 
 loop2-holds : tie.Need-loop2-holds Inv-loop2 μ-loop2 Inv-loop μ-loop
 loop2-holds c =
@@ -50,56 +50,56 @@ shared-slice-read-if2 : tie.Need-shared-slice-read-if2 Inv-loop2 μ-loop2 Inv-lo
 shared-slice-read-if2 c = omega (arith, c .before .loop2-test .taken)
 
 row-at-requires-2 : tie.Need-row-at-requires-2 Inv-loop2 μ-loop2 Inv-loop μ-loop
-row-at-requires-2 c κs = let k =
+row-at-requires-2 c κs =
     let back4 = c .before .before .before .before in
     let back8 = back4 .before .before .before .before in
     let back12 = back8 .before .before .before .before in
-    line-short (back12 .args .table .now) (back12 .args .places) (back8 .before .loop .u) (c .before .before .before .before .part .ensures) in omega (arith, k, back12 .pre, c .before .before .loop2-test .taken)
+    let k = line-short (back12 .args .table .now) (back12 .args .places) (back8 .before .loop .u) (c .before .before .before .before .part .ensures) in omega (arith, k, back12 .pre, c .before .before .loop2-test .taken)
 
 array-read-matched : tie.Need-array-read-matched Inv-loop2 μ-loop2 Inv-loop μ-loop
-array-read-matched c = let k =
+array-read-matched c =
     let back4 = c .before .before .before .before in
     let back8 = back4 .before .before .before .before in
     let back12 = back8 .before .before .before .before in
-    line-short (back12 .before .args .table .now) (back12 .before .args .places) (back8 .before .before .loop .u) (back4 .before .part .ensures) in omega (arith, k, back12 .before .pre, c .before .before .before .loop2-test .taken)
+    let k = line-short (back12 .before .args .table .now) (back12 .before .args .places) (back8 .before .before .loop .u) (back4 .before .part .ensures) in omega (arith, k, back12 .before .pre, c .before .before .before .loop2-test .taken)
 
 mul-steps : tie.Need-mul-steps Inv-loop2 μ-loop2 Inv-loop μ-loop
-mul-steps c = let k =
+mul-steps c =
     let back4 = c .before .before .before .before in
     let back8 = back4 .before .before .before .before in
     let back12 = back8 .before .before .before .before in
-    line-short (back12 .before .before .args .table .now) (back12 .before .before .args .places) (back8 .before .before .before .loop .u) (back4 .before .before .part .ensures) in omega (arith, k, back12 .before .before .pre, back8 .before .before .loop-test .taken, c .before .before .before .before .loop2-test .taken)
+    let k = line-short (back12 .before .before .args .table .now) (back12 .before .before .args .places) (back8 .before .before .before .loop .u) (back4 .before .before .part .ensures) in omega (arith, k, back12 .before .before .pre, back8 .before .before .loop-test .taken, c .before .before .before .before .loop2-test .taken)
 
 add-steps : tie.Need-add-steps Inv-loop2 μ-loop2 Inv-loop μ-loop
-add-steps c = let k =
+add-steps c =
     let back4 = c .before .before .before .before in
     let back8 = back4 .before .before .before .before in
     let back12 = back8 .before .before .before .before in
-    line-short (back12 .before .before .args .table .now) (back12 .before .before .args .places) (back8 .before .before .before .loop .u) (back4 .before .before .part .ensures) in omega (arith, k, back12 .before .before .pre, back8 .before .before .loop-test .taken, c .before .before .before .before .loop2-test .taken)
+    let k = line-short (back12 .before .before .args .table .now) (back12 .before .before .args .places) (back8 .before .before .before .loop .u) (back4 .before .before .part .ensures) in omega (arith, k, back12 .before .before .pre, back8 .before .before .loop-test .taken, c .before .before .before .before .loop2-test .taken)
 
 array-write-steps : tie.Need-array-write-steps Inv-loop2 μ-loop2 Inv-loop μ-loop
-array-write-steps c = let k =
+array-write-steps c =
     let back4 = c .before .before .before .before in
     let back8 = back4 .before .before .before .before in
     let back12 = back8 .before .before .before .before in
-    line-short (back12 .before .before .args .table .now) (back12 .before .before .args .places) (back8 .before .before .before .loop .u) (back4 .before .before .part .ensures) in omega (arith, k, back12 .before .before .pre, back8 .before .before .loop-test .taken, c .before .before .before .before .loop2-test .taken)
+    let k = line-short (back12 .before .before .args .table .now) (back12 .before .before .args .places) (back8 .before .before .before .loop .u) (back4 .before .before .part .ensures) in omega (arith, k, back12 .before .before .pre, back8 .before .before .loop-test .taken, c .before .before .before .before .loop2-test .taken)
 
 add-v : tie.Need-add-v Inv-loop2 μ-loop2 Inv-loop μ-loop
-add-v c = let k =
+add-v c =
     let back4 = c .before .before .before .before in
     let back8 = back4 .before .before .before .before in
     let back12 = back8 .before .before .before .before in
-    line-short (back12 .args .table .now) (back12 .args .places) (back8 .before .loop .u) (c .before .before .before .before .part .ensures) in omega (arith, k, back12 .pre, c .before .before .loop2-test .taken)
+    let k = line-short (back12 .args .table .now) (back12 .args .places) (back8 .before .loop .u) (c .before .before .before .before .part .ensures) in omega (arith, k, back12 .pre, c .before .before .loop2-test .taken)
 
 loop2-less : tie.Need-loop2-less Inv-loop2 μ-loop2 Inv-loop μ-loop
 loop2-less c = omega (arith, c .before .before .loop2-test .taken)
 
 loop2-again : tie.Need-loop2-again Inv-loop2 μ-loop2 Inv-loop μ-loop
-loop2-again c = let inside : c .before .before .before .loop2 .v < c .before .before .before .before .before .before .before .before .before .before .before .before .args .places = (let k =
+loop2-again c =
     let back4 = c .before .before .before .before in
     let back8 = back4 .before .before .before .before in
     let back12 = back8 .before .before .before .before in
-    line-short (back12 .args .table .now) (back12 .args .places) (back8 .before .loop .u) (c .before .before .before .before .part .ensures) in omega (arith, k, c .before .before .loop2-test .taken)) in (omega (arith, c .before .before .loop2-test .taken), ⊎-elim (λ w. rw (w .3, length-set) (c .before .before .before .loop2 .inv .1)) (λ w. rw (w .1) (c .before .before .before .loop2 .inv .1)) (c .if2 .came), ⊎-elim (λ w. rw (w .3) (cell-set (back12 .pre) (c .before .before .before .loop2 .inv .2) inside (omega (arith, c .before .before .before .loop2 .inv .1, back12 .pre, back8 .loop-test .taken, inside)) (step-asked _ _ _ _ _ _ _ (back4 .before .row-at .ensures) (w .1 .ensures) refl refl (sym (back4 .before .before .before .leads .ensures) ∙ back4 .before .before .if1 .taken) (line-read (back12 .args .table .now) (back12 .args .places) (back8 .before .loop .u) (c .before .before .before .loop2 .v) (c .before .before .before .before .part .ensures) inside) (w .0 .taken) (w .2 .ensures)))) (λ w. rw (w .1) (cell-left (back12 .pre) (c .before .before .before .loop2 .inv .2) inside (step-unasked _ _ _ _ _ _ _ refl (sym (back4 .before .before .before .leads .ensures) ∙ back4 .before .before .if1 .taken) (line-read (back12 .args .table .now) (back12 .args .places) (back8 .before .loop .u) (c .before .before .before .loop2 .v) (c .before .before .before .before .part .ensures) inside) (w .0 .left)))) (c .if2 .came))
+    let inside : c .before .before .before .loop2 .v < back12 .args .places = (let k = line-short (back12 .args .table .now) (back12 .args .places) (back8 .before .loop .u) (c .before .before .before .before .part .ensures) in omega (arith, k, c .before .before .loop2-test .taken)) in (omega (arith, c .before .before .loop2-test .taken), ⊎-elim (λ w. rw (w .3, length-set) (c .before .before .before .loop2 .inv .1)) (λ w. rw (w .1) (c .before .before .before .loop2 .inv .1)) (c .if2 .came), ⊎-elim (λ w. rw (w .3) (cell-set (back12 .pre) (c .before .before .before .loop2 .inv .2) inside (omega (arith, c .before .before .before .loop2 .inv .1, back12 .pre, back8 .loop-test .taken, inside)) (step-asked _ _ _ _ _ _ _ (back4 .before .row-at .ensures) (w .1 .ensures) refl refl (sym (back4 .before .before .before .leads .ensures) ∙ back4 .before .before .if1 .taken) (line-read (back12 .args .table .now) (back12 .args .places) (back8 .before .loop .u) (c .before .before .before .loop2 .v) (c .before .before .before .before .part .ensures) inside) (w .0 .taken) (w .2 .ensures)))) (λ w. rw (w .1) (cell-left (back12 .pre) (c .before .before .before .loop2 .inv .2) inside (step-unasked _ _ _ _ _ _ _ refl (sym (back4 .before .before .before .leads .ensures) ∙ back4 .before .before .if1 .taken) (line-read (back12 .args .table .now) (back12 .args .places) (back8 .before .loop .u) (c .before .before .before .loop2 .v) (c .before .before .before .before .part .ensures) inside) (w .0 .left)))) (c .if2 .came))
 
 add-u : tie.Need-add-u Inv-loop2 μ-loop2 Inv-loop μ-loop
 add-u c =

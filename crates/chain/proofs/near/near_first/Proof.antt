@@ -33,9 +33,9 @@ loop-less : tie.Need-loop-less Inv-loop μ-loop
 loop-less c = omega (arith, c .before .before .loop-test .taken)
 
 loop-again : tie.Need-loop-again Inv-loop μ-loop
-loop-again c = let inv =
+loop-again c =
     let back4 = c .before .before .before .before in
-    c .before .before .before .loop .inv in (omega (arith, c .before .before .loop-test .taken), rw length-set (inv .1), slot-set (inv .2) (omega (arith, inv .1, back4 .before .pre, c .before .before .loop-test .taken)) (rw (c .before .kind-in .ensures) at (c .first .ensures)))
+    let inv = c .before .before .before .loop .inv in (omega (arith, c .before .before .loop-test .taken), rw length-set (inv .1), slot-set (inv .2) (omega (arith, inv .1, back4 .before .pre, c .before .before .loop-test .taken)) (rw (c .before .kind-in .ensures) at (c .first .ensures)))
 
 returns : tie.Need-returns Inv-loop μ-loop
 returns c = let all : c .before .loop .place ≡ c .before .before .before .args .places = omega (arith, c .loop-test .left, c .before .loop .inv .0) in λ k h. c .before .loop .inv .2 .before k (omega arith)

@@ -45,19 +45,19 @@ add-time-2 : tie.Need-add-time-2
 add-time-2 c = let o = c .before .before .before .before .opens .ensures (not-false _ (c .before .before .before .if1 .left)) in omega (arith, o .fits, o .inside, c .if2 .left)
 
 shared-slice-read-four : tie.Need-shared-slice-read-four
-shared-slice-read-four c = let o =
+shared-slice-read-four c =
     let back4 = c .before .before .before .before in
-    back4 .before .opens .ensures (not-false _ (c .before .before .before .before .if1 .left)) in omega (arith, o .fits, o .inside, c .before .if2 .left)
+    let o = back4 .before .opens .ensures (not-false _ (c .before .before .before .before .if1 .left)) in omega (arith, o .fits, o .inside, c .before .if2 .left)
 
 add-four : tie.Need-add-four
-add-four c = let o =
+add-four c =
     let back4 = c .before .before .before .before in
-    back4 .before .opens .ensures (not-false _ (c .before .before .before .before .if1 .left)) in omega (arith, o .fits, o .inside, c .before .if2 .left)
+    let o = back4 .before .opens .ensures (not-false _ (c .before .before .before .before .if1 .left)) in omega (arith, o .fits, o .inside, c .before .if2 .left)
 
 shared-slice-read-four-2 : tie.Need-shared-slice-read-four-2
-shared-slice-read-four-2 c = let o =
+shared-slice-read-four-2 c =
     let back4 = c .before .before .before .before in
-    back4 .before .before .opens .ensures (not-false _ (back4 .before .if1 .left)) in omega (arith, o .fits, o .inside, c .before .before .if2 .left)
+    let o = back4 .before .before .opens .ensures (not-false _ (back4 .before .if1 .left)) in omega (arith, o .fits, o .inside, c .before .before .if2 .left)
 
 returns-3 : tie.Need-returns-3
 returns-3 c = λ some. absurd (omega arith)

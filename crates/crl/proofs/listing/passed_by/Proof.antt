@@ -61,9 +61,9 @@ returns-4 : tie.Need-returns-4
 returns-4 c = λ some. absurd (omega arith)
 
 shared-slice-read-if5 : tie.Need-shared-slice-read-if5
-shared-slice-read-if5 c = let o =
+shared-slice-read-if5 c =
     let back4 = c .before .before .before .before in
-    back4 .before .before .before .opens .ensures (not-false _ (back4 .before .before .if1 .left)) in omega (arith, o .room, o .fits, o .inside, c .before .before .before .if2 .left)
+    let o = back4 .before .before .before .opens .ensures (not-false _ (back4 .before .before .if1 .left)) in omega (arith, o .room, o .fits, o .inside, c .before .before .before .if2 .left)
 
 returns-5 : tie.Need-returns-5
 returns-5 c =

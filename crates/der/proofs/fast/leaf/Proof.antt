@@ -5,7 +5,7 @@ use mathlib.Core.Path.{_≡_, refl, sym, _∙_}
 use native.Mathlib.Omega.{arith}
 use borrow.Author.Needs.{needs}
 use lib.ListN.{length, getD}
-use Rattle.der.specs.Looks.{stretch, Reads, Leaf}
+use Rattle.der.specs.Fast.{stretch, Reads, Leaf}
 use Rattle.der.proofs.Parts.{part-length}
 use Rattle.der.proofs.Flat.{leaf-boolean, leaf-integer, leaf-null, leaf-oid, leaf-unjudged, leaf-reads}
 use Rattle.der.proofs.fast.leaf.Statement.{statement}

@@ -3,7 +3,7 @@ use Prim.Native.Nat.{ℕ, _+_, _-_, _*_, _≤_, _<_}
 use mathlib.Core.List.{List}
 use native.Mathlib.Omega.{arith}
 use lib.ListN.{length}
-use Rattle.der.specs.Looks.{stretch, Reads, Fills}
+use Rattle.der.specs.Fast.{stretch, Reads, Fills}
 use Rattle.der.proofs.Flat.{reads-on, fills-none}
 use Rattle.der.proofs.fast.leaves.Statement.{statement}
 use Rattle.der.proofs.fast.leaves.Tie as tie

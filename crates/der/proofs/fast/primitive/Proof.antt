@@ -9,7 +9,7 @@ use borrow.Author.Tests.{le-leb}
 use lib.Dec.{eqb}
 use lib.ListN.{length, getD}
 use Rattle.der.specs.Heading.{identifierGood, constructed}
-use Rattle.der.specs.Looks.{stretch, Reads, Leaf}
+use Rattle.der.specs.Fast.{stretch, Reads, Leaf}
 use Rattle.der.proofs.Laws.{unjudged}
 use Rattle.der.proofs.Flat.{leaf-unjudged, leaf-reads}
 use Rattle.der.proofs.fast.primitive.Statement.{statement}

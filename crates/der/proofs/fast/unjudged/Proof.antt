@@ -10,7 +10,7 @@ use borrow.Author.Needs.{needs}
 use lib.Dec.{eqb}
 use Rattle.der.specs.Heading.{identifierGood, constructed}
 use Rattle.der.specs.Contents.{contentsGood}
-use Rattle.der.specs.Looks.{Unjudged}
+use Rattle.der.specs.Fast.{Unjudged}
 use Rattle.der.proofs.Laws.{and-left, and-right}
 use Rattle.der.proofs.fast.unjudged.Statement.{statement}
 use Rattle.der.proofs.fast.unjudged.Tie as tie
