@@ -8,7 +8,9 @@ fn main() {
     let archive = folder.join("libvrbolist.a");
     println!("cargo:rerun-if-changed={}", archive.display());
     if !archive.exists() {
-        println!("cargo:warning=libvrbolist.a is missing: run `rt staticlib vrbolist` at the root of the repository first");
+        println!(
+            "cargo:warning=libvrbolist.a is missing: run `rt staticlib vrbolist` at the root of the repository first"
+        );
         std::process::exit(1);
     }
     println!("cargo:rustc-link-search=native={}", folder.display());

@@ -1,5 +1,5 @@
 /*
- * Calls every function of libvrbolist.a, passing and refused, and checks every field of each answer.
+ * Calls every function of libvrbolist.a, passing and refused, and checks every field of each answer, and where it stands.
  *
  *   vrbolist_test DATA    where DATA is the folder tests/data/made
  *
@@ -127,6 +127,85 @@ static struct item read_item(const char *folder, const char *name) {
 /* Whether a part of an item is these bytes. */
 static int part_is(struct item item, uint64_t at, uint64_t len, const void *wanted, size_t wanted_len) {
     return len == wanted_len && at <= item.len && len <= item.len - at && memcmp(item.at + at, wanted, wanted_len) == 0;
+}
+
+/* Layout: the size of every answer, and offset and size of its fields. rust/vrbolist/src/raw.rs has numbers of its own. */
+
+struct field {
+    const char *name;
+    size_t at_in_header, at, len_in_header, len;
+};
+#define AT(type, field, at, len) \
+    {#type "." #field, offsetof(vrbolist_##type##_answer, field), at, sizeof(((vrbolist_##type##_answer *)0)->field), len}
+#define HEAD_AT(type) AT(type, number, 0, 8), AT(type, detail, 8, 8)
+
+static const struct field walk_fields[] = {HEAD_AT(walk), AT(walk, count, 16, 8)};
+static const struct field integer_fields[] = {HEAD_AT(integer), AT(integer, value, 16, 8)};
+static const struct field certificate_fields[] = {
+    HEAD_AT(certificate), AT(certificate, start, 16, 8), AT(certificate, end, 24, 8), AT(certificate, issuer_at, 32, 8),
+    AT(certificate, issuer_len, 40, 8), AT(certificate, subject_at, 48, 8), AT(certificate, subject_len, 56, 8),
+    AT(certificate, key_at, 64, 8), AT(certificate, key_len, 72, 8), AT(certificate, serial_at, 80, 8),
+    AT(certificate, serial_len, 88, 8), AT(certificate, subject_key_id_at, 96, 8),
+    AT(certificate, subject_key_id_len, 104, 8), AT(certificate, authority_key_id_at, 112, 8),
+    AT(certificate, authority_key_id_len, 120, 8), AT(certificate, country, 128, 2),
+};
+static const struct field crl_fields[] = {
+    HEAD_AT(crl), AT(crl, this_update, 16, 8), AT(crl, next_update, 24, 8), AT(crl, entries, 32, 8),
+    AT(crl, issuer_at, 40, 8), AT(crl, issuer_len, 48, 8), AT(crl, country, 56, 2),
+};
+static const struct field days_fields[] = {HEAD_AT(days), AT(days, days, 16, 8)};
+static const struct field image_fields[] = {HEAD_AT(image), AT(image, entries, 16, 8), AT(image, day, 24, 8)};
+static const struct field entry_fields[] = {
+    HEAD_AT(entry), AT(entry, kind, 16, 8), AT(entry, flags, 24, 8), AT(entry, length, 32, 8), AT(entry, offset, 40, 8),
+};
+static const struct field write_fields[] = {HEAD_AT(write), AT(write, length, 16, 8)};
+static const struct field chain_fields[] = {HEAD_AT(chain), AT(chain, length, 16, 8), AT(chain, places, 24, 96)};
+
+/* The functions as the convention of x86-64 calls them: an answer of more than 16 bytes is written where a first argument
+ * points. So the answer can be lent a buffer of its size that ends at a page that may not be touched. */
+void walk_to(void *answer, const uint8_t *item, size_t len) __asm__("vrbolist_walk");
+void integer_to(void *answer, const uint8_t *item, size_t len) __asm__("vrbolist_integer");
+void certificate_to(void *answer, const uint8_t *item, size_t len, uint64_t role) __asm__("vrbolist_certificate");
+void crl_to(void *answer, const uint8_t *item, size_t len) __asm__("vrbolist_crl");
+void difference_to(void *answer, uint64_t first, uint64_t second) __asm__("vrbolist_day_difference");
+void age_to(void *answer, const uint8_t *item, size_t len, uint64_t day) __asm__("vrbolist_crl_age");
+void image_to(void *answer, const uint8_t *image, size_t len) __asm__("vrbolist_image");
+void image_for_day_to(void *answer, const uint8_t *image, size_t len, uint64_t wanted) __asm__("vrbolist_image_for_day");
+void entry_to(void *answer, const uint8_t *image, size_t len, uint64_t place) __asm__("vrbolist_entry");
+void write_to(void *answer, const uint8_t *items, size_t items_len, const uint8_t *kinds, size_t kinds_len,
+              const uint8_t *flags, size_t flags_len, const uint32_t *lengths, size_t lengths_len, uint64_t day, uint8_t *out,
+              size_t out_len) __asm__("vrbolist_write");
+void chain_to(void *answer, const uint8_t *image, size_t image_len, const uint8_t *table, size_t table_len, uint64_t moment,
+              uint64_t target) __asm__("vrbolist_chain");
+
+/* The header has these sizes and offsets, and the library wrote each field. */
+static void laid_out(int line, const uint8_t *answer, size_t in_header, size_t size, const struct field *fields, size_t count) {
+    size_t i;
+    check(line, "size", (long long)in_header, (long long)size);
+    for (i = 0; i < count; i++) {
+        check(line, fields[i].name, (long long)fields[i].at_in_header, (long long)fields[i].at);
+        check(line, fields[i].name, (long long)fields[i].len_in_header, (long long)fields[i].len);
+        check(line, fields[i].name, filled(answer + fields[i].at, fields[i].len), 0);
+    }
+}
+
+#define LAID_OUT(type, size, call) \
+    (to = output(size), call, \
+     laid_out(__LINE__, to, sizeof(vrbolist_##type##_answer), size, type##_fields, sizeof type##_fields / sizeof(struct field)))
+
+static void layout(void) {
+    uint8_t *to;
+    LAID_OUT(walk, 24, walk_to(to, NULL, 0));
+    LAID_OUT(integer, 24, integer_to(to, NULL, 0));
+    LAID_OUT(certificate, 136, certificate_to(to, NULL, 0, VRBOLIST_KIND_LINK));
+    LAID_OUT(crl, 64, crl_to(to, NULL, 0));
+    LAID_OUT(days, 24, difference_to(to, DAY, DAY));
+    LAID_OUT(days, 24, age_to(to, NULL, 0, DAY));
+    LAID_OUT(image, 32, image_to(to, NULL, 0));
+    LAID_OUT(image, 32, image_for_day_to(to, NULL, 0, DAY));
+    LAID_OUT(entry, 48, entry_to(to, NULL, 0, 0));
+    LAID_OUT(write, 24, write_to(to, NULL, 0, NULL, 0, NULL, 0, NULL, 0, DAY, NULL, 0));
+    LAID_OUT(chain, 120, chain_to(to, NULL, 0, NULL, 0, MOMENT, 0));
 }
 
 /* Walk. */
@@ -506,6 +585,7 @@ int main(int argc, char **argv) {
     anchor = read_item(argv[1], "ut-anchor-1.der");
     signer = read_item(argv[1], "ut-signer-1.der");
     crl = read_item(argv[1], "ut-crl-yesterday.der");
+    layout();
     walks();
     integers();
     days(crl, anchor);

@@ -209,7 +209,7 @@ def inner_limits():
                                     many(count), many(4096)))
 
 
-def plain_four():
+def four_of_rule_12():
     four = (('private_period', PRIVATE_PERIOD), ('subject_names', SUBJECT_NAMES), ('issuer_names', ISSUER_NAMES),
             ('points', POINTS))
     for role in ROLES:
@@ -306,4 +306,4 @@ def critical():
 
 
 def cases():
-    yield from with_mended(doubled, key_usage, constraints, key_identifiers, inner_limits, plain_four, types, critical)
+    yield from with_mended(doubled, key_usage, constraints, key_identifiers, inner_limits, four_of_rule_12, types, critical)

@@ -131,17 +131,17 @@ def one_extension():
         ('with an INTEGER for TRUE', sequence(number, integer(-1), value)),
         ('with an 81 for TRUE', sequence(number, element(0x81, b'\xff'), value)),
         ('with an 86 for its OBJECT IDENTIFIER', sequence(element(0x86, b'\x2a'), value)))
-    plain = sequence(number, value)
+    good = sequence(number, value)
     for label, odd in wrong:
         yield from shapes(SIGNER, ('an extension more, ' + label, {'extensions': extensions(SIGNER, odd)},
-                                   {'extensions': extensions(SIGNER, plain)}))
+                                   {'extensions': extensions(SIGNER, good)}))
     yield from shapes(
         LINK, ('the first of the extensions empty', {'extensions': [sequence()] + extensions(LINK)}),
         ('a list of one empty extension', {'extensions': [sequence()]}),
         ('keyUsage with an explicit FALSE', {'extensions': extensions(LINK, key_usage=sequence(
             oid(KEY_USAGE), boolean(False), octet_string(SIGNS_CERTIFICATES)))}))
-    yield from rows(SIGNER, ('an extension more, with an empty value', (), {'extensions': extensions(SIGNER, plain)}),
-                    ('an extension more, first', (), {'extensions': [plain] + extensions(SIGNER)}),
+    yield from rows(SIGNER, ('an extension more, with an empty value', (), {'extensions': extensions(SIGNER, good)}),
+                    ('an extension more, first', (), {'extensions': [good] + extensions(SIGNER)}),
                     ('an extension more, its value not DER', (), {'extensions': extensions(
                         SIGNER, extension(NO_MEANING, octets('30 80')))}))
 

@@ -1,7 +1,6 @@
 """Cases of days, moments and the days between two days."""
 import oracle_days
-from oracle_days import ALL_YEARS, SHOP_YEARS
-from record import ANY_DAY, ANY_MOMENT, DIFFERENCE, REAL_DAY, REAL_MOMENT, Case
+from record import DIFFERENCE, REAL_DAY, REAL_MOMENT, Case
 from refused import Refused
 
 MOST = 2 ** 64 - 1
@@ -11,49 +10,40 @@ def told(real):
     return 'real' if real else 'not real'
 
 
-def day(number, shop, every):
-    """Whether the number is a real day of 1950 to 2099, and of any year to 9999."""
-    yield Case('real day %08d' % number, REAL_DAY, told(oracle_days.real_day(number, SHOP_YEARS)), numbers=(number,),
-               stated=told(shop))
-    yield Case('any day %08d' % number, ANY_DAY, told(oracle_days.real_day(number, ALL_YEARS)), numbers=(number,),
-               stated=told(every))
+def day(number, real):
+    return Case('real day %08d' % number, REAL_DAY, told(oracle_days.real_day(number)), numbers=(number,), stated=told(real))
 
 
-def moment(number, shop, every):
-    yield Case('real moment %014d' % number, REAL_MOMENT, told(oracle_days.real_moment(number, SHOP_YEARS)),
-               numbers=(number,), stated=told(shop))
-    yield Case('any moment %014d' % number, ANY_MOMENT, told(oracle_days.real_moment(number, ALL_YEARS)),
-               numbers=(number,), stated=told(every))
+def moment(number, real):
+    return Case('real moment %014d' % number, REAL_MOMENT, told(oracle_days.real_moment(number)), numbers=(number,),
+                stated=told(real))
 
 
 def days():
-    both = (19500101, 20991231, 19520229, 20000229, 20240229, 20960229, 20230228, 20240131, 20240331, 20240430,
+    real = (19500101, 20991231, 19520229, 20000229, 20240229, 20960229, 20230228, 20240131, 20240331, 20240430,
             20240531, 20240630, 20240731, 20240831, 20240930, 20241031, 20241130, 20241231)
-    for number in both:
-        yield from day(number, True, True)
-    outside = (19491231, 21000101, 19000228, 21000228, 21001231, 101, 1231, 229, 10101, 99991231, 99960229, 4000229)
-    for number in outside:
-        yield from day(number, False, True)
-    neither = (0, 1, 99, 100, 19000229, 21000229, 20230229, 19510229, 20240230, 20230230, 99990229, 20240001, 20241301,
-               20240100, 20240132, 20240332, 20240431, 20240532, 20240631, 20240732, 20240832, 20240931, 20241032,
-               20241131, 20241232, 20240199, 20249901, 20240000, 19500100, 20991232, 100000101, 100001231, 120240301,
-               18446744073709550301, 2 ** 32 + 20240301, 2 ** 63, MOST)
-    for number in neither:
-        yield from day(number, False, False)
+    for number in real:
+        yield day(number, True)
+    other_years = (19491231, 21000101, 19000228, 21000228, 21001231, 101, 1231, 229, 10101, 99991231, 99960229, 4000229)
+    no_day = (0, 1, 99, 100, 19000229, 21000229, 20230229, 19510229, 20240230, 20230230, 99990229, 20240001, 20241301,
+              20240100, 20240132, 20240332, 20240431, 20240532, 20240631, 20240732, 20240832, 20240931, 20241032,
+              20241131, 20241232, 20240199, 20249901, 20240000, 19500100, 20991232, 100000101, 100001231, 120240301,
+              18446744073709550301, 2 ** 32 + 20240301, 2 ** 63, MOST)
+    for number in other_years + no_day:
+        yield day(number, False)
 
 
 def moments():
-    both = (19500101000000, 20991231235959, 20240229120000, 20240301230000, 20240301005900, 20240301000059,
+    real = (19500101000000, 20991231235959, 20240229120000, 20240301230000, 20240301005900, 20240301000059,
             20240301235959)
-    for number in both:
-        yield from moment(number, True, True)
-    for number in (19491231235959, 21000101000000, 101000000, 99991231235959, 4000229235959):
-        yield from moment(number, False, True)
-    neither = (0, 20240301240000, 20240301006000, 20240301000060, 20240301990000, 20240301009900, 20240301000099,
-               20240301235960, 20230229000000, 20240001000000, 20241301000000, 20240100000000, 20240132000000,
-               21000229000000, 100000101000000, 20240301, 2 ** 63, MOST)
-    for number in neither:
-        yield from moment(number, False, False)
+    for number in real:
+        yield moment(number, True)
+    other_years = (19491231235959, 21000101000000, 101000000, 99991231235959, 4000229235959)
+    no_moment = (0, 20240301240000, 20240301006000, 20240301000060, 20240301990000, 20240301009900, 20240301000099,
+                 20240301235960, 20230229000000, 20240001000000, 20241301000000, 20240100000000, 20240132000000,
+                 21000229000000, 100000101000000, 20240301, 2 ** 63, MOST)
+    for number in other_years + no_moment:
+        yield moment(number, False)
 
 
 def difference(first, second, stated):

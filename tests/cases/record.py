@@ -5,9 +5,9 @@ numbers of eight octets, then the label and the bytes. Numbers are big-endian.
 """
 import struct
 
-WALK, INTEGER, REAL_DAY, REAL_MOMENT, ANY_DAY, ANY_MOMENT, DIFFERENCE, MEMBER = range(1, 9)
-CERTIFICATE, CRL, LISTED, AGE = range(9, 13)
-IMAGE, IMAGE_FOR, ENTRY, ITEM, WRITE, WRITE_FILLED, CHAIN = range(13, 20)
+WALK, INTEGER, REAL_DAY, REAL_MOMENT, DIFFERENCE, MEMBER = range(1, 7)
+CERTIFICATE, CRL, LISTED, AGE = range(7, 11)
+IMAGE, IMAGE_FOR, ENTRY, ITEM, WRITE, WRITE_FILLED, CHAIN = range(11, 18)
 NO_KIND = 255
 
 # the octets that the program has room for, label and bytes together

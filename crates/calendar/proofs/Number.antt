@@ -101,20 +101,20 @@ unfolding dayNumber
 number-on y m d hm hd = rw (year-on y m d hm hd, month-on y m d hm hd, day-on y m d hm hd)
 
 -- the number of a day, counted from 1, with the leap days of the years before but not that of its own
-abbrev pub plain : ℕ → ℕ
-plain day =
+abbrev pub byRule : ℕ → ℕ
+byRule day =
     (yearOf day - 1950) * 365 + (yearOf day - 1950 + 1) / 4 + daysOfMonths 1951 (monthOf day - 1) + dayOf day
 
 module _ (day : ℕ) (r : Real 1950 2099 day) where
   years-before : daysOfYears (yearOf day - 1950) ≡ 365 * (yearOf day - 1950) + (yearOf day - 1950 + 1) / 4
   years-before = years (yearOf day - 1950) (omega (arith, r))
 
-  pub number-to-february : monthOf day < 3 → dayNumber day + 1 ≡ plain day
+  pub number-to-february : monthOf day < 3 → dayNumber day + 1 ≡ byRule day
   unfolding dayNumber
   number-to-february h =
       omega (arith, r, years-before, months-to-february (yearOf day) (monthOf day - 1) (omega (arith, r)))
 
-  from-march : 3 ≤ monthOf day → dayNumber day + 29 ≡ plain day + february (yearOf day)
+  from-march : 3 ≤ monthOf day → dayNumber day + 29 ≡ byRule day + february (yearOf day)
   unfolding dayNumber
   from-march h =
       omega (arith, r, years-before, months-from-march (yearOf day) (monthOf day - 1) (omega (arith, r)))
@@ -122,10 +122,10 @@ module _ (day : ℕ) (r : Real 1950 2099 day) where
   fourth : leap (yearOf day) ≡ eqb (yearOf day % 4) 0
   fourth = leap-fourth (yearOf day) (r .since) (r .until)
 
-  pub number-common : 3 ≤ monthOf day → (yearOf day % 4 ≡ 0 → ⊥) → dayNumber day + 1 ≡ plain day
+  pub number-common : 3 ≤ monthOf day → (yearOf day % 4 ≡ 0 → ⊥) → dayNumber day + 1 ≡ byRule day
   number-common h e = omega (arith, from-march h, february-common (yearOf day) (fourth ∙ ne-eqb _ _ e))
 
-  pub number-leap : 3 ≤ monthOf day → yearOf day % 4 ≡ 0 → dayNumber day ≡ plain day
+  pub number-leap : 3 ≤ monthOf day → yearOf day % 4 ≡ 0 → dayNumber day ≡ byRule day
   number-leap h e = omega (arith, from-march h, february-leap (yearOf day) (fourth ∙ eq-eqb _ _ e))
 
   -- a real day lies before the next month, and so before the next year

@@ -17,27 +17,34 @@ pub enum Difference {
 pub fn real_day(day: u64) -> bool
     ensures { λ r. ⌜ r ≡ realDay 1950 2099 day ⌝ }
 {
-    day_within(1950, 2099, day)
+    let year = day / 10000;
+    if year < 1950 {
+        return false;
+    }
+    if 2099 < year {
+        return false;
+    }
+    let of_month = day % 100;
+    if of_month < 1 {
+        return false;
+    }
+    of_month <= month_length(year, day / 100 % 100)
 }
 
 // Whether a number YYYYMMDDHHMMSS is a real moment of 1950 to 2099.
 pub fn real_moment(moment: u64) -> bool
     ensures { λ r. ⌜ r ≡ realMoment 1950 2099 moment ⌝ }
 {
-    moment_within(1950, 2099, moment)
-}
-
-// The same of any year to 9999, as the times of certificates and lists need it.
-pub fn any_day(day: u64) -> bool
-    ensures { λ r. ⌜ r ≡ realDay 0 9999 day ⌝ }
-{
-    day_within(0, 9999, day)
-}
-
-pub fn any_moment(moment: u64) -> bool
-    ensures { λ r. ⌜ r ≡ realMoment 0 9999 moment ⌝ }
-{
-    moment_within(0, 9999, moment)
+    if !real_day(moment / 1000000) {
+        return false;
+    }
+    if 23 < moment / 10000 % 100 {
+        return false;
+    }
+    if 59 < moment / 100 % 100 {
+        return false;
+    }
+    moment % 100 <= 59
 }
 
 // The number of days from the first day to the second, negative when the second is earlier.
@@ -53,40 +60,6 @@ pub fn day_difference(first: u64, second: u64) -> Difference
     let from = day_number(first);
     let to = day_number(second);
     Difference::Days(to as i64 - from as i64)
-}
-
-// Whether a number YYYYMMDD is a real day of the years from `first` to `last`.
-fn day_within(first: u64, last: u64, day: u64) -> bool
-    ensures { λ r. ⌜ r ≡ realDay first last day ⌝ }
-{
-    let year = day / 10000;
-    if year < first {
-        return false;
-    }
-    if last < year {
-        return false;
-    }
-    let of_month = day % 100;
-    if of_month < 1 {
-        return false;
-    }
-    of_month <= month_length(year, day / 100 % 100)
-}
-
-// Whether a number YYYYMMDDHHMMSS is a real moment of the years from `first` to `last`.
-fn moment_within(first: u64, last: u64, moment: u64) -> bool
-    ensures { λ r. ⌜ r ≡ realMoment first last moment ⌝ }
-{
-    if !day_within(first, last, moment / 1000000) {
-        return false;
-    }
-    if 23 < moment / 10000 % 100 {
-        return false;
-    }
-    if 59 < moment / 100 % 100 {
-        return false;
-    }
-    moment % 100 <= 59
 }
 
 fn leap_year(year: u64) -> bool

@@ -10,14 +10,6 @@ pub(crate) fn real_moment(moment: u64) {
     real(calendar::real_moment(moment));
 }
 
-pub(crate) fn any_day(day: u64) {
-    real(calendar::any_day(day));
-}
-
-pub(crate) fn any_moment(moment: u64) {
-    real(calendar::any_moment(moment));
-}
-
 pub(crate) fn difference(first: u64, second: u64) {
     tell(calendar::day_difference(first, second));
 }

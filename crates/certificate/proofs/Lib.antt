@@ -4,3 +4,4 @@ pub mod Chains
 pub mod Runs
 pub mod Theorems
 pub mod Lone
+pub mod Compared

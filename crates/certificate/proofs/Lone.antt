@@ -9,7 +9,7 @@ use Rattle.der.specs.declared.walking.Walked.the-variants.{Passed}
 use Rattle.der.specs.Forms.{paper}
 use Rattle.der.specs.Heading.{identifierGood, constructed}
 use Rattle.der.specs.Contents.{contentsGood}
-use Rattle.der.specs.Looks.{stretch, Reads}
+use Rattle.der.specs.Fast.{stretch, Reads}
 use Rattle.der.specs.Walk.{walkOf}
 use Rattle.der.proofs.Laws.{walk-passed}
 use Rattle.der.proofs.Flat.{leaf-reads, node-reads, reads-on, fills-none}

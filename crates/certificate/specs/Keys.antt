@@ -10,9 +10,8 @@ use Rattle.der.specs.Forms.{paper}
 use Rattle.der.specs.Walk.{walkOf}
 use Rattle.elements.specs.declared.elements.Element.{Element}
 use Rattle.extensions.specs.declared.Extension.{Extension}
-use Rattle.extensions.specs.declared.Held.{Held}
 use Rattle.extensions.specs.declared.Extension.the-variants.{Is, Absent}
-use Rattle.elements.specs.Octets.{alike}
+use Rattle.octets.specs.Alike.{alike}
 use Rattle.elements.specs.Elements.{foundTagged, onFound, inside, contentsOf}
 use Rattle.extensions.specs.Extensions.{lookupOf}
 use Rattle.certificate.specs.declared.keys.KeyId.{KeyId}
@@ -40,10 +39,6 @@ walks s value = passes (walkOf paper (contentsOf s value))
 unfoldable pub keyIn : List ℕ → Extension → (Element → KeyId) → KeyId
 keyIn s Absent form = Keyless
 keyIn s (Is oid critical value) form = cond critical Misformed (cond (walks s value) (form value) Misformed)
-
--- the value of an extension that is held, from its contents on
-unfoldable pub valueOf : Held → Element
-valueOf held = record { tag = 0x04; at = held .start; contents = held .start; end = held .end }
 
 -- one OCTET STRING
 unfoldable pub octetString : List ℕ → Element → KeyId

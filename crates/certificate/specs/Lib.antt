@@ -1,5 +1,6 @@
 pub mod Shape
 pub mod Keys
+pub mod Values
 pub mod Rules
 pub mod Answer
 pub mod Meets

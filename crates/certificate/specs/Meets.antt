@@ -1,12 +1,14 @@
 -- What it is to pass, rule by rule, and what a rule's number in a refusal says.
-use Prim.Native.Nat.{ℕ, _-_, _≤_, _<_}
+use Prim.Native.Nat.{ℕ, _≤_}
 use mathlib.Core.Bool.{Bool, true, false}
 use mathlib.Core.List.{List, [], _∷_}
 use mathlib.Core.Path.{_≡_}
-use lib.ListN.{getD}
+use Rattle.refusal.specs.declared.Refusal.{Refusal}
+use Rattle.refusal.specs.declared.Refusal.the-variants.{Argument, Profile}
 use Rattle.der.specs.declared.walking.Walked.the-variants as walked
 use Rattle.der.specs.Forms.{paper}
 use Rattle.der.specs.Walk.{walkOf}
+use Rattle.refusal.specs.Rules.{Smallest}
 use Rattle.certificate.specs.declared.shapes.Layout.{Layout}
 use Rattle.certificate.specs.declared.shapes.Shape.{Shape}
 use Rattle.certificate.specs.declared.shapes.Shape.the-variants.{Parts, Broken}
@@ -27,7 +29,7 @@ pub record Meets (s : List ℕ) (role : ℕ) (l : Layout) : Type 0 where
   pub usage : rule9 s (l .extensions) role ≡ true  -- 9
   pub constraints : rule10 s (l .extensions) role ≡ true  -- 10
   pub keys : rule11 (readingsOf s l) role ≡ true  -- 11
-  pub plain : rule12 s (l .extensions) ≡ true  -- 12
+  pub four : rule12 s (l .extensions) ≡ true  -- 12
   pub documents : rule13 s (l .extensions) role ≡ true  -- 13
   pub uncritical : rule14 s (l .extensions) ≡ true  -- 14
 
@@ -49,3 +51,18 @@ rulesIn s role (Parts l) = true ∷ rulesOf s l (readingsOf s l) role
 
 unfoldable pub rules1to14 : List ℕ → ℕ → List Bool
 rules1to14 s role = rulesIn s role (layoutOf s)
+
+-- an item that is walked in a role, and of whose rules k is the smallest broken
+pub record Breaks (s : List ℕ) (role k : ℕ) : Type 0 where
+  pub low : 1 ≤ role
+  pub high : role ≤ 3
+  pub count : ℕ
+  pub walks : walkOf paper s ≡ walked.Passed count
+  pub smallest : Smallest 1 (rules1to14 s role) k
+
+-- what an item is refused for: 1 for another role, what the walk refuses, 4 for a rule
+pub data RefusedFor (s : List ℕ) (role : ℕ) : Refusal → Type 0 where
+  by-role : (1 ≤ role → role ≤ 3 → ⊥) → RefusedFor s role Argument
+  by-walk :
+      {refusal : Refusal} → 1 ≤ role → role ≤ 3 → walkOf paper s ≡ walked.Refused refusal → RefusedFor s role refusal
+  by-rule : {k : ℕ} → Breaks s role k → RefusedFor s role (Profile k)

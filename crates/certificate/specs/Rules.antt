@@ -9,7 +9,7 @@ use Rattle.extensions.specs.declared.Extension.{Extension}
 use Rattle.extensions.specs.declared.Extension.the-variants.{Is, Absent}
 use Rattle.names.specs.declared.Letters.{Letters}
 use Rattle.names.specs.declared.Letters.the-variants.{Two, Unfit}
-use Rattle.elements.specs.Octets.{alike}
+use Rattle.octets.specs.Alike.{alike}
 use Rattle.elements.specs.Elements.{inside, wholeOf, contentsOf}
 use Rattle.extensions.specs.Extensions.{lookupOf, present, doubledOf, criticalOf}
 use Rattle.names.specs.Names.{lettersOf}
@@ -109,16 +109,16 @@ unfoldable pub rule11 : Readings → ℕ → Bool
 rule11 r role = bothKeys (r .own) (r .authority) role
 
 -- 12: 2.5.29.16, .17, .18 and .31 present, not critical
-unfoldable pub plain : Extension → Bool
-plain Absent = false
-plain (Is oid critical value) = not critical
+unfoldable pub uncritical : Extension → Bool
+uncritical Absent = false
+uncritical (Is oid critical value) = not critical
 
 unfoldable pub rule12 : List ℕ → Element → Bool
 rule12 s extensions =
-    plain (lookupOf s extensions (0x55 ∷ 0x1D ∷ 0x10 ∷ []))
-    && (plain (lookupOf s extensions (0x55 ∷ 0x1D ∷ 0x11 ∷ []))
-    && (plain (lookupOf s extensions (0x55 ∷ 0x1D ∷ 0x12 ∷ []))
-    && plain (lookupOf s extensions (0x55 ∷ 0x1D ∷ 0x1F ∷ []))))
+    uncritical (lookupOf s extensions (0x55 ∷ 0x1D ∷ 0x10 ∷ []))
+    && (uncritical (lookupOf s extensions (0x55 ∷ 0x1D ∷ 0x11 ∷ []))
+    && (uncritical (lookupOf s extensions (0x55 ∷ 0x1D ∷ 0x12 ∷ []))
+    && uncritical (lookupOf s extensions (0x55 ∷ 0x1D ∷ 0x1F ∷ []))))
 
 -- 13: DS: the document type list
 unfoldable pub rule13 : List ℕ → Element → ℕ → Bool

@@ -6,14 +6,15 @@ use elements::Found;
 use elements::contents;
 use elements::element_at;
 use elements::element_tagged;
-use elements::same;
+use elements::holds;
 use elements::short_end;
 use extensions::Held;
 ghost use mathlib.Core.Path.{_≡_};
 ghost use mathlib.Core.Bool.{true};
 ghost use Rattle.extensions.specs.declared.Extension.{Extension};
 ghost use Rattle.extensions.specs.Extensions.{heldOf};
-ghost use Rattle.certificate.specs.Keys.{walks, octetString, firstOf, keyIn, valueOf, typesIn, listGood, documentsIn};
+ghost use Rattle.certificate.specs.Keys.{walks, octetString, firstOf, keyIn, typesIn, listGood, documentsIn};
+ghost use Rattle.certificate.specs.Values.{valueOf, valueIn};
 
 // Where the contents of a key identifier start and end; that there is none; that it has not its form.
 pub enum KeyId {
@@ -22,36 +23,48 @@ pub enum KeyId {
     Misformed,
 }
 
+// The value of an extension that is there and not critical, and whose contents pass the walk; that there is none; that it is
+// otherwise.
+pub enum Value {
+    Stands(Element),
+    Missing,
+    Unfit,
+}
+
 pub(crate) fn subject_key(item: &[u8], held: Held) -> KeyId
     ensures { λ r. ⌜ ((x : Extension) → held ≡ heldOf x → r ≡ keyIn (now (item .entry)) x (octetString (now (item .entry)))) ⌝ }
 {
-    if !held.there {
-        return KeyId::Keyless;
+    match value_in(item, held) {
+        Value::Missing => KeyId::Keyless,
+        Value::Unfit => KeyId::Misformed,
+        Value::Stands(value) => octet_string(item, value),
     }
-    if held.critical {
-        return KeyId::Misformed;
-    }
-    let value = value_of(held);
-    if !walks_alone(item, value) {
-        return KeyId::Misformed;
-    }
-    octet_string(item, value)
 }
 
 pub(crate) fn authority_key(item: &[u8], held: Held) -> KeyId
     ensures { λ r. ⌜ ((x : Extension) → held ≡ heldOf x → r ≡ keyIn (now (item .entry)) x (firstOf (now (item .entry)))) ⌝ }
 {
+    match value_in(item, held) {
+        Value::Missing => KeyId::Keyless,
+        Value::Unfit => KeyId::Misformed,
+        Value::Stands(value) => first_of(item, value),
+    }
+}
+
+fn value_in(item: &[u8], held: Held) -> Value
+    ensures { λ r. ⌜ r ≡ valueIn (now (item .entry)) held ⌝ }
+{
     if !held.there {
-        return KeyId::Keyless;
+        return Value::Missing;
     }
     if held.critical {
-        return KeyId::Misformed;
+        return Value::Unfit;
     }
     let value = value_of(held);
-    if !walks_alone(item, value) {
-        return KeyId::Misformed;
+    if walks_alone(item, value) {
+        return Value::Stands(value);
     }
-    first_of(item, value)
+    Value::Unfit
 }
 
 // The value of an extension, from its contents on.
@@ -131,17 +144,11 @@ fn first_of(item: &[u8], value: Element) -> KeyId
 pub(crate) fn document_types(item: &[u8], held: Held) -> bool
     ensures { λ r. ⌜ ((x : Extension) → held ≡ heldOf x → r ≡ documentsIn (now (item .entry)) x) ⌝ }
 {
-    if !held.there {
-        return false;
+    match value_in(item, held) {
+        Value::Missing => false,
+        Value::Unfit => false,
+        Value::Stands(value) => list_good(item, value),
     }
-    if held.critical {
-        return false;
-    }
-    let value = value_of(held);
-    if !walks_alone(item, value) {
-        return false;
-    }
-    list_good(item, value)
 }
 
 // SEQUENCE {INTEGER 0, SET of one or more PrintableStrings of 1 or 2 octets}.
@@ -160,7 +167,7 @@ fn list_good(item: &[u8], value: Element) -> bool
     if types.end != sequence.end {
         return false;
     }
-    if !same(contents(item, version), b"\x00") {
+    if !holds(item, version, b"\x00") {
         return false;
     }
     types_good(item, types)

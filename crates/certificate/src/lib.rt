@@ -5,11 +5,11 @@ mod shapes;
 
 use der::Walked;
 use der::walk;
-use elements::between;
 use extensions::one_pass;
 use keys::KeyId;
 use names::first_letter;
 use names::second_letter;
+use octets::between;
 use refusal::Refusal;
 use rules::Readings;
 use rules::readings_of;

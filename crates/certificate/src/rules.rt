@@ -9,11 +9,12 @@ use elements::Element;
 use elements::Found;
 use elements::contents;
 use elements::element_at;
-use elements::same;
-use elements::whole;
+use elements::holds;
+use elements::twins;
 use extensions::Held;
 use names::Letters;
 use names::letters_of;
+use octets::same;
 use times::Time;
 use times::in_order;
 use times::time_of;
@@ -26,7 +27,7 @@ ghost use Rattle.extensions.specs.declared.Extension.{Extension};
 ghost use Rattle.extensions.specs.Extensions.{heldOf, Placed, criticalOf, doubledOf};
 ghost use Rattle.refusal.specs.Rules.{firstBroken};
 ghost use Rattle.certificate.specs.Keys.{documentsIn};
-ghost use Rattle.certificate.specs.Rules.{bothKeys, constrained, criticalWith, keyGood, plain, readingsOf, rule2, rule3, rule4, rule8, rule12, rules2to8, rules9to14, sameTwo, usageOf};
+ghost use Rattle.certificate.specs.Rules.{bothKeys, constrained, criticalWith, keyGood, uncritical, readingsOf, rule3, rule8, rule12, rules2to8, rules9to14, sameTwo, usageOf};
 
 // What several rules and the answer read, each once.
 pub struct Readings {
@@ -69,13 +70,16 @@ pub(crate) fn rules_2_to_8(item: &[u8], l: Layout, r: Readings, doubled: bool) -
     requires { ⌜ doubled ≡ doubledOf (now item) (l .extensions) ⌝ }
     ensures { λ rule. ⌜ rule ≡ firstBroken 2 (rules2to8 (now (item .entry)) l r) ⌝ }
 {
-    if !version_good(item, l) {
+    let version = l.version;
+    if !holds(item, version, b"\x02") {
         return 2;
     }
     if !serial_good(item, l) {
         return 3;
     }
-    if !algorithms_same(item, l) {
+    let inner = l.inner;
+    let outer = l.outer;
+    if !twins(item, inner, outer) {
         return 4;
     }
     let issuer = r.issuer;
@@ -120,7 +124,7 @@ pub(crate) fn rules_9_to_14(
     if !keys_good(own, authority, role) {
         return 11;
     }
-    if !four_plain(slots) {
+    if !four_there(slots) {
         return 12;
     }
     let documents = slots[22];
@@ -131,14 +135,6 @@ pub(crate) fn rules_9_to_14(
         return 14;
     }
     0
-}
-
-// 2: version number 2 (v3).
-fn version_good(item: &[u8], l: Layout) -> bool
-    ensures { λ r. ⌜ r ≡ rule2 (now (item .entry)) l ⌝ }
-{
-    let version = l.version;
-    same(contents(item, version), b"\x02")
 }
 
 // 3: serial positive, at most 20 octets.
@@ -157,15 +153,6 @@ fn serial_good(item: &[u8], l: Layout) -> bool
         return false;
     }
     !same(c, b"\x00")
-}
-
-// 4: inner and outer algorithm equal octet by octet.
-fn algorithms_same(item: &[u8], l: Layout) -> bool
-    ensures { λ r. ⌜ r ≡ rule4 (now (item .entry)) l ⌝ }
-{
-    let inner = l.inner;
-    let outer = l.outer;
-    same(whole(item, inner), whole(item, outer))
 }
 
 // 5: the same two letters in issuer and subject.
@@ -231,7 +218,7 @@ fn critical_with(item: &[u8], octets: &[u8], held: Held) -> bool
     if !held.critical {
         return false;
     }
-    same(contents(item, value_of(held)), octets)
+    holds(item, value_of(held), octets)
 }
 
 // 11: the subject's key identifier in anchor and link, the authority's in link and document signer.
@@ -255,23 +242,23 @@ fn key_good(wanted: bool, key: KeyId) -> bool
 }
 
 // 12: 2.5.29.16, .17, .18 and .31 present, not critical.
-fn four_plain(slots: [Held; 23]) -> bool
+fn four_there(slots: [Held; 23]) -> bool
     ensures { λ r. ⌜ ((s : List ℕ) (x : Element) → Placed s x slots → r ≡ rule12 s x) ⌝ }
 {
-    if !plain_there(slots[2]) {
+    if !there_uncritical(slots[2]) {
         return false;
     }
-    if !plain_there(slots[3]) {
+    if !there_uncritical(slots[3]) {
         return false;
     }
-    if !plain_there(slots[4]) {
+    if !there_uncritical(slots[4]) {
         return false;
     }
-    plain_there(slots[17])
+    there_uncritical(slots[17])
 }
 
-fn plain_there(held: Held) -> bool
-    ensures { λ r. ⌜ ((x : Extension) → held ≡ heldOf x → r ≡ plain x) ⌝ }
+fn there_uncritical(held: Held) -> bool
+    ensures { λ r. ⌜ ((x : Extension) → held ≡ heldOf x → r ≡ uncritical x) ⌝ }
 {
     if !held.there {
         return false;

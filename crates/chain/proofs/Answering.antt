@@ -10,7 +10,7 @@ use lib.ListN.{length}
 use Rattle.refusal.specs.declared.Refusal.{Refusal}
 use Rattle.refusal.specs.declared.Refusal.the-variants as refusal
 use Rattle.calendar.specs.Days.{realMoment}
-use Rattle.graph.specs.Chains.{Chain, chain}
+use Rattle.graph.proofs.Places.{two-places}
 use Rattle.graph.specs.declared.Found.{Found}
 use Rattle.graph.specs.Answer as search
 use Rattle.image.specs.declared.Opened.{Opened}
@@ -55,13 +55,10 @@ module _ (s table : List ℕ) (moment target : ℕ) where
           let below = ltb-true target m (both .1) in
           (sym (both .0) ∙ o .0, omega (arith, o .1, both .0), omega (arith, both .0))
 
-  chain-length : {c : List ℕ} → Chain (goodChains s table moment) target c → length c ≡ 0 → ⊥
-  chain-length (chain h k o) e = omega arith
-
   pub answering :
       {n : ℕ} {f : Found} {r : Answer} → askedOf s table moment target ≡ asked.Over n
       → search.Answered (goodChains s table moment) target f → Shows f r → Answered s table moment target r
-  answering e (search.found c b l p) (nothing z w) = absurd (chain-length (b .good) (sym l ∙ z))
+  answering e (search.found c b l p) (nothing z w) = absurd (omega (arith, l, z, two-places (b .good)))
   answering e (search.found c b l p) (something nz o m q) = found c e b (record { told = o; many = m ∙ l; slots = q ∙ p })
-  answering e (search.none f l p) (nothing z w) = none e f w
-  answering e (search.none f l p) (something nz o m q) = absurd (nz l)
+  answering e (search.none f m) (nothing z w) = none e f w
+  answering e (search.none f m) (something nz o l q) = absurd (nz (m .empty))

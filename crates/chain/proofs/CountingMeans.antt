@@ -19,10 +19,10 @@ use Rattle.chain.specs.Items.{someBelow, somePlace}
 use Rattle.chain.specs.Usable.{usableAnchor, sameCountry, counts}
 use Rattle.chain.specs.Table.{verdictIn}
 use Rattle.chain.specs.Near.{isNear}
-use Rattle.chain.specs.Rows.{bytesAt, rowAt, flag, vouchesOf, vouchedBy, countedOf, Counted}
+use Rattle.chain.specs.Rows.{certificateTold, listTold, bytesAt, rowAt, flag, vouchesOf, vouchedBy, countedOf, Counted}
 use Rattle.chain.proofs.Booleans.{chosen, reordered, grouped}
 use Rattle.chain.proofs.PlacesMean.{length-items, item-told}
-use Rattle.chain.proofs.RowReadings.{certificateTold, listTold, currentOf, Reading}
+use Rattle.chain.proofs.RowReadings.{currentOf, Reading}
 use Rattle.chain.proofs.NearRows.{Told, Based, row-read-near}
 use Rattle.chain.proofs.StandingMeans.{standing-anchor, standing-list, certificate-row, list-row}
 use Rattle.chain.proofs.ItemsTold.{anchor-told, current-told, certificate-told, list-told}

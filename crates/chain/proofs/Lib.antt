@@ -3,6 +3,7 @@ pub mod Bits
 pub mod Booleans
 pub mod Cells
 pub mod CountingMeans
+pub mod Demands
 pub mod DirectMeans
 pub mod FirstRound
 pub mod ImageOpened

@@ -8,10 +8,11 @@ use mathlib.Core.Logic.{_⊎_, inl, inr, ⊎-elim}
 use native.Mathlib.Omega.{arith}
 use borrow.Author.Tests.{eqb-true, eqb-false, leb-true}
 use lib.Dec.{eqb, leb}
-use lib.ListN.{length, getD, replicate}
+use lib.ListN.{length, getD}
 use Rattle.graph.specs.declared.Found.{Found}
-use Rattle.graph.specs.Chains.{Onward, ends, goes, Chain, chain}
-use Rattle.graph.specs.Answer.{Answered, none}
+use Rattle.graph.specs.Chains.{Onward}
+use Rattle.graph.proofs.Targets.{chain-target}
+use Rattle.graph.specs.Answer.{NoChain, Answered, none}
 use Rattle.image.specs.Index.{entryIn, entryCount}
 use Rattle.chain.specs.declared.opened.Row.{Row}
 use Rattle.chain.specs.Near.{isNear}
@@ -84,17 +85,9 @@ module _ (s table : List ℕ) (moment target n : ℕ) (same : n ≡ entryCount s
           (below-or-not (length c) (round + 2))
 
   -- a target that is not usable has no chain
-  signer-of : {u : ℕ} {c : List ℕ} → Onward (goodChains s table moment) target u c → goodChains s table moment .signer target ≡ true
-  signer-of (ends m signer step) = signer
-  signer-of (goes m link step rest) = signer-of rest
-
   pub no-signer :
-      {f : Found} → target < n → (getD roles target 0 ≡ 3 → ⊥) → f .length ≡ 0 → f .places ≡ replicate 96 255
-      → Answered (goodChains s table moment) target f
+      {f : Found} → target < n → (getD roles target 0 ≡ 3 → ⊥) → NoChain f → Answered (goodChains s table moment) target f
   unfolding chains
-  no-signer {f} h not-three empty slots = none (λ c e. go e) empty slots
-    where
-      go : {c : List ℕ} → Chain (goodChains s table moment) target c → ⊥
-      go (chain l anchor rest) =
-          let known = r .known target (rw same at h) .signer in
-          not-three (eqb-true (getD roles target 0) 3 (known ∙ rw (r .end) (signer-of rest)))
+  no-signer {f} h not-three empty =
+      let known = r .known target (rw same at h) .signer in
+      none (λ c e. not-three (eqb-true (getD roles target 0) 3 (known ∙ rw (r .end) (chain-target e .1)))) empty

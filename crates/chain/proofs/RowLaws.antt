@@ -13,7 +13,7 @@ use lib.Dec.{eqb}
 use lib.ListN.{length, getD, set, take, drop, replicate, length-take}
 use lib.Seq.{getD-set-same, getD-set-other, getD-take, getD-drop}
 use Rattle.crl.specs.Listed.{listedOf}
-use Rattle.elements.specs.Octets.{alike}
+use Rattle.octets.specs.Alike.{alike}
 use Rattle.image.specs.declared.IndexEntry.{IndexEntry}
 use Rattle.image.specs.Index.{entryIn}
 use Rattle.chain.specs.declared.opened.Row.{Row}
@@ -24,7 +24,7 @@ use Rattle.chain.specs.Table.{verdictIn}
 
 -- the rows of a table of nothing but 0
 pub blank-rows : (n p : ℕ) → rowAt (replicate n (replicate 17 0)) p ≡ blank
-unfolding rowAt rowFrom blank
+unfolding rowAt blank
 blank-rows zero p = refl
 blank-rows (suc n) zero = refl
 blank-rows (suc n) (suc p) = blank-rows n p

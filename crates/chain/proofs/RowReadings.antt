@@ -21,53 +21,8 @@ use Rattle.crl.specs.Answer as lists
 use Rattle.image.specs.declared.IndexEntry.{IndexEntry}
 use Rattle.chain.specs.declared.opened.Row.{Row}
 use Rattle.chain.specs.Items.{onCertificate, onList, within}
-use Rattle.chain.specs.Rows.{blank, certificateRow, listRow, bytesAt, rowOf}
+use Rattle.chain.specs.Rows.{blank, certificateTold, listTold, certificateRow, listRow, bytesAt, rowOf}
 use Rattle.chain.proofs.Booleans.{and-false}
-
--- the rows of a certificate and of a CRL that pass
-abbrev pub certificateTold : IndexEntry → certificates.Fields → Row
-certificateTold e f =
-    record {
-      standing = e .kind;
-      first = f .first;
-      second = f .second;
-      at = e .offset;
-      size = e .length;
-      «issuer_at» = f .«issuer_at»;
-      «issuer_len» = f .«issuer_len»;
-      «subject_at» = f .«subject_at»;
-      «subject_len» = f .«subject_len»;
-      «serial_at» = f .«serial_at»;
-      «serial_len» = f .«serial_len»;
-      «own_at» = f .«subject_key_at»;
-      «own_len» = f .«subject_key_len»;
-      «authority_at» = f .«authority_key_at»;
-      «authority_len» = f .«authority_key_len»;
-      from = 0;
-      end = 0;
-    }
-
-abbrev pub listTold : IndexEntry → crls.Fields → Row
-listTold e f =
-    record {
-      standing = 4;
-      first = f .first;
-      second = f .second;
-      at = e .offset;
-      size = e .length;
-      «issuer_at» = f .«issuer_at»;
-      «issuer_len» = f .«issuer_len»;
-      «subject_at» = 0;
-      «subject_len» = 0;
-      «serial_at» = 0;
-      «serial_len» = 0;
-      «own_at» = 0;
-      «own_len» = 0;
-      «authority_at» = 0;
-      «authority_len» = 0;
-      from = f .«entries_from»;
-      end = f .«entries_end»;
-    }
 
 -- the item of an entry passes as a certificate, or as a CRL, at a moment within its times
 unfoldable pub validOf : ℕ → List ℕ → IndexEntry → Bool

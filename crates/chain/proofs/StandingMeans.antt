@@ -14,9 +14,9 @@ use Rattle.crl.specs.declared.Judged.the-variants as list-judged
 use Rattle.crl.specs.Answer as lists
 use Rattle.image.specs.declared.IndexEntry.{IndexEntry}
 use Rattle.chain.specs.declared.opened.Row.{Row}
-use Rattle.chain.specs.Rows.{blank, bytesAt}
+use Rattle.chain.specs.Rows.{blank, certificateTold, listTold, bytesAt}
 use Rattle.chain.proofs.Booleans.{and-false}
-use Rattle.chain.proofs.RowReadings.{certificateTold, listTold, validOf, currentOf, anchorOf, Reading, certificate, list, neither}
+use Rattle.chain.proofs.RowReadings.{validOf, currentOf, anchorOf, Reading, certificate, list, neither}
 
 -- a test that a second and a third follow from
 with-true : (a b c : Bool) → (a ≡ true → b ≡ true) → c ≡ true → a ≡ (a && (b && c))

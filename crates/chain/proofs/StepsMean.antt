@@ -8,7 +8,7 @@ use native.Mathlib.Omega.{arith}
 use borrow.Author.Tests.{eqb-true}
 use lib.Dec.{eqb}
 use lib.ListN.{getD, take, drop}
-use Rattle.elements.specs.Octets.{alike}
+use Rattle.octets.specs.Alike.{alike}
 use Rattle.image.specs.Index.{entryIn, itemsIn, entryCount}
 use Rattle.chain.specs.declared.opened.Row.{Row}
 use Rattle.chain.specs.Items.{itemAt}

@@ -31,6 +31,8 @@ use Rattle.chain.specs.Steps.{hasKind, fits, goodStep, chains}
 use Rattle.chain.specs.Table.{tableGood}
 use Rattle.chain.specs.Answer as answers
 use Rattle.chain.specs.Answer.{onImage, askedOf, goodChains, With, Answered}
+use Rattle.chain.specs.Demand.{Demanded}
+use Rattle.chain.proofs.Demands.{demands}
 
 both : (p q : Bool) → (p && q) ≡ true → (p ≡ true) × (q ≡ true)
 both true q e = (refl, e)
@@ -120,45 +122,45 @@ module _ (items : List Item) (verdict : ℕ → ℕ → Bool) (moment : ℕ) whe
   one-best target c d = graph.one-best
 
 -- a refusal of a question: the image's 5, or 1
-abbrev pub Plain : Refusal → Type 0
-Plain why = ((k : ℕ) × (why ≡ refusal.Image k)) ⊎ (why ≡ refusal.Argument)
+abbrev pub FiveOrOne : Refusal → Type 0
+FiveOrOne why = ((k : ℕ) × (why ≡ refusal.Image k)) ⊎ (why ≡ refusal.Argument)
 
-image-plain : (s : List ℕ) (why : Refusal) → openedOf s ≡ opened.Refused why → Plain why
+image-refused : (s : List ℕ) (why : Refusal) → openedOf s ≡ opened.Refused why → FiveOrOne why
 unfolding openedOf graded
-image-plain s why e = go (firstBroken 1 (rules s)) (eqb (firstBroken 1 (rules s)) 0) e
+image-refused s why e = go (firstBroken 1 (rules s)) (eqb (firstBroken 1 (rules s)) 0) e
   where
     go :
         (rule : ℕ) (b : Bool)
-        → cond b (opened.Image (entryCount s) (dayIn s)) (opened.Refused (refusal.Image rule)) ≡ opened.Refused why → Plain why
+        → cond b (opened.Image (entryCount s) (dayIn s)) (opened.Refused (refusal.Image rule)) ≡ opened.Refused why → FiveOrOne why
     go rule true f = absurd (let z : _≡_ {A = ℕ} 0 1 = cc in omega arith)
     go rule false f = inl (rule, cc)
 
-tests-plain :
+tests-refused :
     (a b c d : Bool) (n : ℕ) (why : Refusal)
     → cond a (cond b (cond c (cond d (asked.Over n) (asked.Refused refusal.Argument)) (asked.Refused refusal.Argument)) (asked.Refused refusal.Argument))
     (asked.Refused refusal.Argument)
-    ≡ asked.Refused why → Plain why
-tests-plain true true true true n why e = absurd (let z : _≡_ {A = ℕ} 0 1 = cc in omega arith)
-tests-plain true true true false n why e = inr (cc)
-tests-plain true true false d n why e = inr (cc)
-tests-plain true false c d n why e = inr (cc)
-tests-plain false b c d n why e = inr (cc)
+    ≡ asked.Refused why → FiveOrOne why
+tests-refused true true true true n why e = absurd (let z : _≡_ {A = ℕ} 0 1 = cc in omega arith)
+tests-refused true true true false n why e = inr (cc)
+tests-refused true true false d n why e = inr (cc)
+tests-refused true false c d n why e = inr (cc)
+tests-refused false b c d n why e = inr (cc)
 
 module _ (s table : List ℕ) (moment target : ℕ) where
   -- A question is refused with the image's 5, or with 1.
-  pub question-plain : (why : Refusal) → askedOf s table moment target ≡ asked.Refused why → Plain why
+  pub question-refused : (why : Refusal) → askedOf s table moment target ≡ asked.Refused why → FiveOrOne why
   unfolding askedOf onImage
-  question-plain why e = go (openedOf s) refl e
+  question-refused why e = go (openedOf s) refl e
     where
-      go : (o : Opened) → openedOf s ≡ o → onImage s table moment target o ≡ asked.Refused why → Plain why
-      go (opened.Refused w) h f = image-plain s why (h ∙ (cc))
+      go : (o : Opened) → openedOf s ≡ o → onImage s table moment target o ≡ asked.Refused why → FiveOrOne why
+      go (opened.Refused w) h f = image-refused s why (h ∙ (cc))
       go (opened.Image n day) h f =
-          tests-plain (tableGood n table) (realMoment 1950 2099 moment) (ltb target n) (eqb (entryIn s target .kind) 3) n why f
+          tests-refused (tableGood n table) (realMoment 1950 2099 moment) (ltb target n) (eqb (entryIn s target .kind) 3) n why f
 
   question-not-7 : askedOf s table moment target ≡ asked.Refused refusal.Chain → ⊥
-  question-not-7 e = go (question-plain refusal.Chain e)
+  question-not-7 e = go (question-refused refusal.Chain e)
     where
-      go : Plain refusal.Chain → ⊥
+      go : FiveOrOne refusal.Chain → ⊥
       go (inl (k, f)) = let z : _≡_ {A = ℕ} 0 1 = cc in omega arith
       go (inr f) = let z : _≡_ {A = ℕ} 0 1 = cc in omega arith
 
@@ -193,6 +195,15 @@ module _ (s table : List ℕ) (moment target : ℕ) where
         go (answers.refused why f w) = absurd (let t = w .told in let z : _≡_ {A = ℕ} 0 1 = cc in omega arith)
         go (answers.none f h w) = absurd (let t = w .told in let z : _≡_ {A = ℕ} 0 1 = cc in omega arith)
         go (answers.found c f h w) = (c, h, w)
+
+    -- Demand 3: what is shown is a chain that has all that is demanded of it.
+    pub demand-three : r .outcome ≡ Shown → (c : List ℕ) × Demanded s table moment target c × With c r
+    demand-three e = go a
+      where
+        go : Answered s table moment target r → (c : List ℕ) × Demanded s table moment target c × With c r
+        go (answers.refused why f w) = absurd (let t = w .told in let z : _≡_ {A = ℕ} 0 1 = cc in omega arith)
+        go (answers.none f h w) = absurd (let t = w .told in let z : _≡_ {A = ℕ} 0 1 = cc in omega arith)
+        go (answers.found c f h w) = (c, demands s table moment target h f, w)
 
     -- The answer is 7 only where the question is good and no good chain exists.
     pub none-sound :

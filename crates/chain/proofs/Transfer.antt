@@ -76,5 +76,4 @@ module _ {near : ℕ → Bool} {g h : Graph} (a : Part near g h) {t : ℕ} where
             ⊎-elim (λ i. b .least d i) (λ k. inl (omega (arith, l, k .1))) (chain-in r ways e);
       })
       l p
-  answer-out {r} ways (none f l p) =
-      none (λ c e. ⊎-elim (λ i. f c i) (λ k. k .0 l) (chain-in r ways e)) l p
+  answer-out {r} ways (none f n) = none (λ c e. ⊎-elim (λ i. f c i) (λ k. k .0 (n .empty)) (chain-in r ways e)) n

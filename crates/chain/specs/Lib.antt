@@ -5,3 +5,4 @@ pub mod Table
 pub mod Near
 pub mod Rows
 pub mod Answer
+pub mod Demand

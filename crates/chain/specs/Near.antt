@@ -1,5 +1,4 @@
--- Which places a round opens: 1 for these, 2 for a link that is not among them, else 0. The contract of `best_chain` cites
--- nothing of this.
+-- Which places a round opens: 1 for these, 2 for a link that is not among them, else 0. No public promise cites this.
 use Prim.Native.Nat.{ℕ, _<_}
 use mathlib.Core.Path.{_≡_}
 use mathlib.Core.Bool.{Bool, true, false, cond}

@@ -1,19 +1,21 @@
--- What the code keeps of the items of an image and makes of it, table by table. The contract of `best_chain` cites nothing of
--- this: that the tables mean the definitions of good chains is proved.
+-- What the code keeps of the items of an image and makes of it, table by table. No public promise cites this: that the tables mean
+-- the definitions of good chains is proved.
 use Prim.Native.Nat.{ℕ, zero, suc, _+_, _*_, _<_}
 use mathlib.Core.Path.{_≡_}
 use mathlib.Core.Bool.{Bool, true, false, cond}
 use mathlib.Core.List.{List, [], _∷_, _++_}
 use lib.Dec.{eqb, leb}
 use lib.ListN.{getD, take, drop, replicate}
+use Rattle.certificate.specs.declared.Fields as certificate
 use Rattle.certificate.specs.declared.Judged.{Judged}
 use Rattle.certificate.specs.declared.Judged.the-variants.{Passed, Refused}
 use Rattle.certificate.specs.Answer.{judgedOf}
+use Rattle.crl.specs.declared.Fields as list
 use Rattle.crl.specs.declared.Judged as list-answer
 use Rattle.crl.specs.declared.Judged.the-variants as list-judged
 use Rattle.crl.specs.Answer as lists
 use Rattle.crl.specs.Listed.{listedOf}
-use Rattle.elements.specs.Octets.{alike}
+use Rattle.octets.specs.Alike.{alike}
 use Rattle.graph.specs.Chains.{graphOf}
 use Rattle.graph.specs.declared.Found.{Found}
 use Rattle.graph.specs.Answer.{Answered}
@@ -24,80 +26,56 @@ use Rattle.chain.specs.Items.{someBelow, within}
 use Rattle.chain.specs.Near.{isNear, ledOf, freshOf}
 use Rattle.chain.specs.Table.{verdictIn}
 
+-- a row from its numbers, in the order of its fields; numbers that are left out are 0
+abbrev pub rowFrom : List ℕ → Row
+rowFrom cells =
+    record {
+      standing = getD cells 0 0;
+      first = getD cells 1 0;
+      second = getD cells 2 0;
+      at = getD cells 3 0;
+      size = getD cells 4 0;
+      «issuer_at» = getD cells 5 0;
+      «issuer_len» = getD cells 6 0;
+      from = getD cells 7 0;
+      end = getD cells 8 0;
+      «subject_at» = getD cells 9 0;
+      «subject_len» = getD cells 10 0;
+      «serial_at» = getD cells 11 0;
+      «serial_len» = getD cells 12 0;
+      «own_at» = getD cells 13 0;
+      «own_len» = getD cells 14 0;
+      «authority_at» = getD cells 15 0;
+      «authority_len» = getD cells 16 0;
+    }
+
 -- nothing that could stand in a chain
 unfoldable pub blank : Row
-blank =
-    record {
-      standing = 0;
-      first = 0;
-      second = 0;
-      at = 0;
-      size = 0;
-      «issuer_at» = 0;
-      «issuer_len» = 0;
-      «subject_at» = 0;
-      «subject_len» = 0;
-      «serial_at» = 0;
-      «serial_len» = 0;
-      «own_at» = 0;
-      «own_len» = 0;
-      «authority_at» = 0;
-      «authority_len» = 0;
-      from = 0;
-      end = 0;
-    }
+blank = rowFrom []
+
+-- what every row tells: standing, letters, where the item stands, and where its issuer
+abbrev pub common : ℕ → ℕ → ℕ → IndexEntry → ℕ → ℕ → List ℕ → Row
+common standing first second e at len rest = rowFrom (standing ∷ first ∷ second ∷ e .offset ∷ e .length ∷ at ∷ len ∷ rest)
+
+-- the row of a certificate, and that of a CRL
+abbrev pub certificateTold : IndexEntry → certificate.Fields → Row
+certificateTold e f =
+    common (e .kind) (f .first) (f .second) e (f .«issuer_at») (f .«issuer_len»)
+    (0 ∷ 0 ∷ f .«subject_at» ∷ f .«subject_len» ∷ f .«serial_at» ∷ f .«serial_len» ∷ f .«subject_key_at» ∷ f .«subject_key_len»
+    ∷ f .«authority_key_at» ∷ f .«authority_key_len» ∷ [])
+
+abbrev pub listTold : IndexEntry → list.Fields → Row
+listTold e f = common 4 (f .first) (f .second) e (f .«issuer_at») (f .«issuer_len») (f .«entries_from» ∷ f .«entries_end» ∷ [])
 
 -- a certificate that passes, at a moment within its times
 unfoldable pub certificateRow : ℕ → IndexEntry → Judged → Row
 certificateRow moment e (Refused refusal) = blank
-certificateRow moment e (Passed f) =
-    cond (within (f .start) (f .end) moment)
-    (record {
-      standing = e .kind;
-      first = f .first;
-      second = f .second;
-      at = e .offset;
-      size = e .length;
-      «issuer_at» = f .«issuer_at»;
-      «issuer_len» = f .«issuer_len»;
-      «subject_at» = f .«subject_at»;
-      «subject_len» = f .«subject_len»;
-      «serial_at» = f .«serial_at»;
-      «serial_len» = f .«serial_len»;
-      «own_at» = f .«subject_key_at»;
-      «own_len» = f .«subject_key_len»;
-      «authority_at» = f .«authority_key_at»;
-      «authority_len» = f .«authority_key_len»;
-      from = 0;
-      end = 0;
-    })
-    blank
+certificateRow moment e (Passed f) = cond (within (f .start) (f .end) moment) (certificateTold e f) blank
 
 -- a CRL that passes, at a moment from this update to next update
 unfoldable pub listRow : ℕ → IndexEntry → list-answer.Judged → Row
 listRow moment e (list-judged.Refused refusal) = blank
-listRow moment e (list-judged.Passed f) =
-    cond (within (f .«this_update») (f .«next_update») moment)
-    (record {
-      standing = 4;
-      first = f .first;
-      second = f .second;
-      at = e .offset;
-      size = e .length;
-      «issuer_at» = f .«issuer_at»;
-      «issuer_len» = f .«issuer_len»;
-      «subject_at» = 0;
-      «subject_len» = 0;
-      «serial_at» = 0;
-      «serial_len» = 0;
-      «own_at» = 0;
-      «own_len» = 0;
-      «authority_at» = 0;
-      «authority_len» = 0;
-      from = f .«entries_from»;
-      end = f .«entries_end»;
-    })
-    blank
+listRow moment e (list-judged.Passed f) = cond (within (f .«this_update») (f .«next_update») moment) (listTold e f) blank
 
 unfoldable pub bytesAt : List ℕ → IndexEntry → List ℕ
 bytesAt s e = take (e .length) (drop (e .offset) s)
@@ -110,29 +88,7 @@ rowOf moment s e =
     (cond (eqb (e .flags) 1) (certificateRow moment e (judgedOf (bytesAt s e) (e .kind))) blank)
     (certificateRow moment e (judgedOf (bytesAt s e) (e .kind))))
 
--- a row from its numbers, and that of a place in a table
-unfoldable pub rowFrom : List ℕ → Row
-rowFrom cells =
-    record {
-      standing = getD cells 0 0;
-      first = getD cells 1 0;
-      second = getD cells 2 0;
-      at = getD cells 3 0;
-      size = getD cells 4 0;
-      «issuer_at» = getD cells 5 0;
-      «issuer_len» = getD cells 6 0;
-      «subject_at» = getD cells 7 0;
-      «subject_len» = getD cells 8 0;
-      «serial_at» = getD cells 9 0;
-      «serial_len» = getD cells 10 0;
-      «own_at» = getD cells 11 0;
-      «own_len» = getD cells 12 0;
-      «authority_at» = getD cells 13 0;
-      «authority_len» = getD cells 14 0;
-      from = getD cells 15 0;
-      end = getD cells 16 0;
-    }
-
+-- the row of a place in a table
 unfoldable pub rowAt : List (List ℕ) → ℕ → Row
 rowAt rows place = rowFrom (getD rows place [])
 

@@ -4,7 +4,7 @@ use mathlib.Core.Bool.{Bool, _&&_, _||_}
 use mathlib.Core.List.{List}
 use lib.Dec.{eqb}
 use lib.ListN.{length}
-use Rattle.elements.specs.Octets.{alike}
+use Rattle.octets.specs.Alike.{alike}
 use Rattle.graph.specs.Chains.{Graph}
 use Rattle.image.specs.Items.{Item}
 use Rattle.chain.specs.Items.{itemAt, certificateAt, partOf}

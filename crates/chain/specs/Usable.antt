@@ -3,7 +3,7 @@ use Prim.Native.Nat.{ℕ}
 use mathlib.Core.Bool.{Bool, _&&_, not}
 use mathlib.Core.List.{List}
 use lib.Dec.{eqb}
-use Rattle.elements.specs.Octets.{alike}
+use Rattle.octets.specs.Alike.{alike}
 use Rattle.crl.specs.Listed.{listedOf}
 use Rattle.image.specs.Items.{Item}
 use Rattle.chain.specs.Items.{itemAt, certificateAt, listAt, somePlace, within, partOf}

@@ -1,8 +1,9 @@
-// The steps from an anchor, looked at before a search.
-use crate::counting::octet;
+// The steps from an anchor: a fast path before a search.
 use crate::matching::matched;
 use crate::opened::row_at;
 use graph::Found;
+use graph::no_chain;
+use octets::octet;
 ghost use mathlib.Core.Path.{_≡_};
 ghost use mathlib.Core.Bool.{true};
 ghost use mathlib.Core.List.{[], _∷_, _++_};
@@ -33,10 +34,7 @@ pub(crate) fn direct_chain(
         }
         u += 1;
     }
-    Found {
-        length: 0,
-        places: [255; 96],
-    }
+    no_chain()
 }
 
 // A chain of two places.

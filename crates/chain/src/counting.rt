@@ -2,18 +2,12 @@
 use crate::opened::Row;
 use crate::opened::row_at;
 use crate::opened::standing_at;
+use octets::octet;
 ghost use mathlib.Core.Path.{_≡_};
 ghost use mathlib.Core.Bool.{cond};
 ghost use Prim.Native.Nat.{_≤_};
 ghost use lib.ListN.{getD};
 ghost use Rattle.chain.specs.Rows.{vouchesOf, Counted};
-
-// An octet of a table, 0 beyond its end.
-pub(crate) fn octet(table: &[u8], i: usize) -> u8
-    ensures { λ r. ⌜ r ≡ getD (now (table .entry)) i 0 ⌝ }
-{
-    if i < table.len() { table[i] } else { 0 }
-}
 
 // 1 for each CRL that some usable anchor of its country has verdict 1 for.
 pub(crate) fn counting_lists(table: &[u8], places: usize, rows: &[[usize; 17]; 96]) -> [u8; 96]

@@ -1,7 +1,7 @@
 // Which places a round opens: 1 for these, 2 for a link that is not among them, else 0.
-use crate::counting::octet;
 use crate::matching::led;
 use image::kind_in;
+use octets::octet;
 ghost use mathlib.Core.Path.{_≡_};
 ghost use mathlib.Core.Bool.{true};
 ghost use Prim.Native.Nat.{ℕ, _≤_, _<_};

@@ -1,11 +1,11 @@
 // What is kept of an item that was opened.
 ghost use mathlib.Core.Path.{_≡_};
 ghost use Prim.Native.Nat.{_<_};
-ghost use Rattle.chain.specs.Rows.{rowFrom, rowAt};
+ghost use Rattle.chain.specs.Rows.{rowAt};
 
 // Standing: 1 a usable anchor, 2 a link, 3 a signer and 4 a CRL that pass and are within their times, else 0. Then the letters,
-// where the item stands in the image, and where its parts stand in the item: those of a certificate, or a CRL's issuer and
-// the stretch of its entries.
+// where the item stands in the image, and where its parts stand in the item: the issuer, the stretch of a CRL's entries, and
+// those of a certificate. A table of rows holds the numbers of each, in this order; an item that cannot stand in a chain has 0s.
 pub struct Row {
     pub standing: usize,
     pub first: usize,
@@ -14,6 +14,8 @@ pub struct Row {
     pub size: usize,
     pub issuer_at: usize,
     pub issuer_len: usize,
+    pub from: usize,
+    pub end: usize,
     pub subject_at: usize,
     pub subject_len: usize,
     pub serial_at: usize,
@@ -22,8 +24,6 @@ pub struct Row {
     pub own_len: usize,
     pub authority_at: usize,
     pub authority_len: usize,
-    pub from: usize,
-    pub end: usize,
 }
 
 // The row of a place in a table of them.
@@ -40,16 +40,16 @@ pub(crate) fn row_at(rows: &[[usize; 17]; 96], place: usize) -> Row
         size: cells[4],
         issuer_at: cells[5],
         issuer_len: cells[6],
-        subject_at: cells[7],
-        subject_len: cells[8],
-        serial_at: cells[9],
-        serial_len: cells[10],
-        own_at: cells[11],
-        own_len: cells[12],
-        authority_at: cells[13],
-        authority_len: cells[14],
-        from: cells[15],
-        end: cells[16],
+        from: cells[7],
+        end: cells[8],
+        subject_at: cells[9],
+        subject_len: cells[10],
+        serial_at: cells[11],
+        serial_len: cells[12],
+        own_at: cells[13],
+        own_len: cells[14],
+        authority_at: cells[15],
+        authority_len: cells[16],
     }
 }
 
@@ -59,29 +59,4 @@ pub(crate) fn standing_at(rows: &[[usize; 17]; 96], place: usize) -> usize
     ensures { λ r. ⌜ r ≡ rowAt (now (rows .entry)) place .standing ⌝ }
 {
     rows[place][0]
-}
-
-// A row as numbers, as it stands in a table.
-pub(crate) fn cells_of(row: Row) -> [usize; 17]
-    ensures { λ r. ⌜ rowFrom r ≡ row ⌝ }
-{
-    [
-        row.standing,
-        row.first,
-        row.second,
-        row.at,
-        row.size,
-        row.issuer_at,
-        row.issuer_len,
-        row.subject_at,
-        row.subject_len,
-        row.serial_at,
-        row.serial_len,
-        row.own_at,
-        row.own_len,
-        row.authority_at,
-        row.authority_len,
-        row.from,
-        row.end,
-    ]
 }

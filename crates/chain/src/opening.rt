@@ -1,17 +1,14 @@
 // The items of the places that are near, each opened once.
-use crate::certificates::blank_row;
 use crate::certificates::certificate_row;
 use crate::lists::list_row;
-use crate::opened::Row;
-use crate::opened::cells_of;
 use image::IndexEntry;
 use image::entry_in;
-use image::part;
+use octets::part;
 ghost use mathlib.Core.Path.{_≡_};
 ghost use Prim.Native.Nat.{_≤_};
 ghost use lib.ListN.{length};
 ghost use Rattle.chain.specs.Near.{freshOf};
-ghost use Rattle.chain.specs.Rows.{rowOf, Opens};
+ghost use Rattle.chain.specs.Rows.{rowFrom, rowOf, Opens};
 
 // The rows of the places that were not near before; the others stay as they are.
 pub(crate) fn open_items(
@@ -28,8 +25,8 @@ pub(crate) fn open_items(
     let mut place = 0;
     while place < places {
         if fresh(before[place], near[place]) {
-            let cells = cells_of(open_item(image, entry_in(image, place), moment));
-            rows[place] = cells;
+            let row = open_item(image, entry_in(image, place), moment);
+            rows[place] = row;
         }
         place += 1;
     }
@@ -49,8 +46,8 @@ fn fresh(before: u8, near: u8) -> bool
 }
 
 // A disabled anchor is not opened.
-fn open_item(image: &[u8], e: IndexEntry, moment: u64) -> Row
-    ensures { λ r. ⌜ r ≡ rowOf moment (now (image .entry)) e ⌝ }
+fn open_item(image: &[u8], e: IndexEntry, moment: u64) -> [usize; 17]
+    ensures { λ r. ⌜ rowFrom r ≡ rowOf moment (now (image .entry)) e ⌝ }
 {
     let item = part(image, e.offset, e.length);
     if e.kind == 4 {
@@ -58,7 +55,7 @@ fn open_item(image: &[u8], e: IndexEntry, moment: u64) -> Row
     }
     if e.kind == 1 {
         if e.flags != 1 {
-            return blank_row();
+            return [0; 17];
         }
     }
     certificate_row(item, e, moment)

@@ -11,10 +11,10 @@ use crate::opening::open_items;
 use crate::roles::roles_of;
 use graph::Found;
 use graph::chain_to;
+use graph::no_chain;
 ghost use mathlib.Core.Path.{_≡_};
 ghost use mathlib.Core.Bool.{true};
 ghost use Prim.Native.Nat.{_≤_, _<_};
-ghost use lib.ListN.{replicate};
 ghost use Rattle.chain.specs.Answer.{goodChains};
 ghost use Rattle.chain.specs.Rows.{Searched, enoughOf};
 ghost use Rattle.graph.specs.Answer as search;
@@ -40,7 +40,7 @@ pub(crate) fn chain_among(
     let counting = counting_lists(table, places, &rows);
     let mut roles = roles_of(image, places, nothing, &rows, counting, nothing);
     if roles[target] != 3 {
-        return nowhere();
+        return no_chain();
     }
     let direct = direct_chain(image, table, places, &rows, roles, target);
     let two = direct.length;
@@ -65,16 +65,6 @@ pub(crate) fn chain_among(
         }
         near = wider;
         roles = known;
-    }
-}
-
-// No chain.
-fn nowhere() -> Found
-    ensures { λ r. ⌜ (r .length ≡ 0) × (r .places ≡ replicate 96 255) ⌝ }
-{
-    Found {
-        length: 0,
-        places: [255; 96],
     }
 }
 

@@ -1,4 +1,4 @@
--- What the look at a UTCTime tells: digits in their ranges are a time.
+-- What the fast path for a UTCTime tells: digits in their ranges are a time.
 use Prim.Native.Nat.{ℕ, zero, suc, _+_, _*_, _-_, _/_, _%_, _<_, _≤_}
 use mathlib.Core.Bool.{true, false}
 use mathlib.Core.List.{List, [], _∷_}
@@ -18,7 +18,7 @@ use Rattle.times.proofs.Years.{short-read, in-two-thousands, in-nineteen-hundre
 use Rattle.calendar.specs.Days.{leap, monthLength}
 use Rattle.calendar.proofs.Days.{by-test, length-two, length-rule, february-leap, february-common}
 use Rattle.crl.specs.Entries.{isTime}
-use Rattle.crl.specs.Plain.{valueOf, PlainDate}
+use Rattle.crl.specs.FastTimes.{valueOf, UsualDate}
 use Rattle.crl.proofs.Words.{word, Each, ands, upper, below, plus, word-plus, each, word-most, takeOff, word-off, pairsOf, word-pairs, word-tail, word-third, word-fifth}
 
 pub never : {A : Type 0} → false ≡ true → A
@@ -121,8 +121,8 @@ dateOf c = eight (getD c 0 0) (getD c 1 0) (getD c 2 0) (getD c 3 0) (getD c 4 0
 module _
     (c : List ℕ) (ds : Each Digit (dateOf c)) (n p : ℕ) (is : n ≡ word (dateOf c))
     (made-so : p ≡ (n - 0x3030303030303030) * 10 + (n - 0x3030303030303030) / 256) where
-  pub plain-date : bitAnd (p + 0x0068006300730000) 0x0080008000800080 ≡ 0 → (p / 0x10000 % 256 ≡ 0 → ⊥) → (p / 0x100000000 % 256 ≡ 0 → ⊥) → PlainDate c
-  plain-date bits month day =
+  pub usual-date : bitAnd (p + 0x0068006300730000) 0x0080008000800080 ≡ 0 → (p / 0x10000 % 256 ≡ 0 → ⊥) → (p / 0x100000000 % 256 ≡ 0 → ⊥) → UsualDate c
+  usual-date bits month day =
       let few = pairs-few _ _ _ _ _ _ _ _ ds in
       let word-is = made-so ∙ pairs-made _ _ _ _ _ _ _ _ ds n is in
       let (mo, d, h) = ranged _ _ _ _ _ _ _ _ few (rw word-is at bits) in
@@ -145,7 +145,7 @@ module _
         hour-high = h;
       }
 
--- the look at the date, test by test
+-- the date, test by test
 module _
     (c : List ℕ) (octet : (i : ℕ) → getD c i 0 < 256) {x y : ℕ}
     (front : x ≡ ((getD c 3 0 * 256 + getD c 2 0) * 256 + getD c 1 0) * 256 + getD c 0 0)
@@ -165,11 +165,11 @@ module _
 
     pub date-told : {p : ℕ} → bitAnd (x + y * 0x100000000 + 0x0606060606060606) 0xf0f0f0f0f0f0f0f0 ≡ 0x3030303030303030
         → p ≡ (x + y * 0x100000000 - 0x3030303030303030) * 10 + (x + y * 0x100000000 - 0x3030303030303030) / 256
-        → bitAnd (p + 0x0068006300730000) 0x0080008000800080 ≡ 0 → (p / 0x10000 % 256 ≡ 0 → ⊥) → (p / 0x100000000 % 256 ≡ 0 → ⊥) → PlainDate c
-    date-told more p-is = plain-date c (digits _ _ _ _ _ _ _ _ date-uppers (rw date-is at more)) _ _ date-is p-is
+        → bitAnd (p + 0x0068006300730000) 0x0080008000800080 ≡ 0 → (p / 0x10000 % 256 ≡ 0 → ⊥) → (p / 0x100000000 % 256 ≡ 0 → ⊥) → UsualDate c
+    date-told more p-is = usual-date c (digits _ _ _ _ _ _ _ _ date-uppers (rw date-is at more)) _ _ date-is p-is
 
 -- minute and second
-pub record PlainClock (c : List ℕ) : Type 0 where
+pub record UsualClock (c : List ℕ) : Type 0 where
   pub minute-tens : Digit (getD c 8 0)
   pub minute-ones : Digit (getD c 9 0)
   pub second-tens : Digit (getD c 10 0)
@@ -190,9 +190,9 @@ module _ (a b c d : ℕ) (octets : Each (λ o. o < 256) (a ∷ b ∷ c ∷ d ∷
       (upper a a2 a1, (upper b b2 b1, (upper c c2 c1, (upper d d2 d1, tt))))
 
 module _ (c : List ℕ) (u : Each Upper (clockOf c)) where
-  pub plain-clock : (n : ℕ) → n ≡ word (clockOf c) → bitAnd (n + 0x060a060a) 0xf0f0f0f0 ≡ 0x30303030 → PlainClock c
+  pub usual-clock : (n : ℕ) → n ≡ word (clockOf c) → bitAnd (n + 0x060a060a) 0xf0f0f0f0 ≡ 0x30303030 → UsualClock c
   unfolding word
-  plain-clock n is bits =
+  usual-clock n is bits =
       let (a1, (b1, (c1, (d1, end)))) = u in
       let small : Each (λ o. o < 256) (plus (clockOf c) (10 ∷ 6 ∷ 10 ∷ 6 ∷ [])) = (omega (arith, a1 .1), (omega (arith, b1 .1), (omega (arith, c1 .1), (omega (arith, d1 .1), tt)))) in
       let (a2, (b2, (c2, (d2, last)))) = four-uppers _ _ _ _ small
@@ -220,7 +220,7 @@ unfolding isTime
 real-time e = rw (← e) refl
 
 -- all of it together
-module _ (c : List ℕ) (long : length c ≡ 13) (date : PlainDate c) (clock : PlainClock c) where
+module _ (c : List ℕ) (long : length c ≡ 13) (date : UsualDate c) (clock : UsualClock c) where
   abbrev ten : List ℕ
   ten = take 10 (drop 2 c)
 
@@ -261,7 +261,7 @@ module _ (c : List ℕ) (long : length c ≡ 13) (date : PlainDate c) (clock : P
   utc-time last =
       simp (eq-eqb _ _ long, eq-eqb _ _ last, short-read c (omega arith) (pair-told _ _ (date .year-tens) (date .year-ones)) year-few) in-century
 
--- the look at the clock
+-- the clock
 module _
     (c : List ℕ) (octet : (i : ℕ) → getD c i 0 < 256) {x : ℕ}
     (is : x ≡ ((getD c 11 0 * 256 + getD c 10 0) * 256 + getD c 9 0) * 256 + getD c 8 0) where
@@ -269,5 +269,5 @@ module _
   unfolding word
   clock-is = omega (arith, is)
 
-  pub clock-told : bitAnd x 0xf0f0f0f0 ≡ 0x30303030 → bitAnd (x + 0x060a060a) 0xf0f0f0f0 ≡ 0x30303030 → PlainClock c
-  clock-told high more = plain-clock c (four-uppers _ _ _ _ (octet 8, (octet 9, (octet 10, (octet 11, tt)))) (rw clock-is at high)) x clock-is more
+  pub clock-told : bitAnd x 0xf0f0f0f0 ≡ 0x30303030 → bitAnd (x + 0x060a060a) 0xf0f0f0f0 ≡ 0x30303030 → UsualClock c
+  clock-told high more = usual-clock c (four-uppers _ _ _ _ (octet 8, (octet 9, (octet 10, (octet 11, tt)))) (rw clock-is at high)) x clock-is more

@@ -1,8 +1,8 @@
 -- The answer names the first rule broken, or passes where there is none.
 use Prim.Native.Nat.{ℕ, suc}
 use mathlib.Core.Bool.{Bool, true, false, cond}
-use mathlib.Core.List.{List, [], _∷_}
-use mathlib.Core.Path.{_≡_, refl, sym, _∙_}
+use mathlib.Core.List.{List, _∷_}
+use mathlib.Core.Path.{_≡_, refl, sym}
 use native.Mathlib.Omega.{arith}
 use borrow.Author.Tests.{eqb-true, eqb-false}
 use lib.Dec.{eqb}
@@ -32,11 +32,11 @@ graded-passed rule fields {f} e = go (eqb rule 0) refl e
     go true g e = (eqb-true rule 0 g, cc)
     go false g e = absurd (differ e)
 
--- an answer that names a rule has that one first
-pub graded-refused : (rule : ℕ) (fields : Fields) {k : ℕ} → graded rule fields ≡ Refused (Profile k) → (rule ≡ k) × (k ≡ 0 → ⊥)
+-- an answer that refuses names a rule that is broken
+pub graded-refused : (rule : ℕ) (fields : Fields) {refusal : Refusal} → graded rule fields ≡ Refused refusal → (refusal ≡ Profile rule) × (rule ≡ 0 → ⊥)
 unfolding graded
-graded-refused rule fields {k} e = go (eqb rule 0) refl e
+graded-refused rule fields {refusal} e = go (eqb rule 0) refl e
   where
-    go : (t : Bool) → eqb rule 0 ≡ t → cond t (Passed fields) (Refused (Profile rule)) ≡ Refused (Profile k) → (rule ≡ k) × (k ≡ 0 → ⊥)
+    go : (t : Bool) → eqb rule 0 ≡ t → cond t (Passed fields) (Refused (Profile rule)) ≡ Refused refusal → (refusal ≡ Profile rule) × (rule ≡ 0 → ⊥)
     go true g e = absurd (differ (sym e))
-    go false g e = let is : rule ≡ k = cc in (is, λ z. eqb-false rule 0 g (is ∙ z))
+    go false g e = (cc, eqb-false rule 0 g)

@@ -2,7 +2,7 @@ pub mod Chains
 pub mod Surveys
 pub mod Firsts
 pub mod Serials
-pub mod Looks
+pub mod FastEntries
 pub mod Words
 pub mod Digits
 pub mod Theorems

@@ -9,8 +9,8 @@ use Rattle.elements.specs.declared.elements.Element.{Element}
 use Rattle.elements.specs.declared.elements.Found.{Found}
 use Rattle.elements.specs.declared.elements.Found.the-variants.{One, Missing}
 use Rattle.elements.specs.Elements.{foundTagged, onFound, contentsOf}
-use Rattle.elements.specs.Octets.{alike}
-use Rattle.elements.proofs.Likeness.{alike-is, is-alike}
+use Rattle.octets.specs.Alike.{alike}
+use Rattle.octets.proofs.Likeness.{alike-is, is-alike}
 use Rattle.crl.specs.Listed.{lists, someLists}
 use Rattle.crl.specs.Meets.{InList}
 

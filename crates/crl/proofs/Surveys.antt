@@ -15,7 +15,7 @@ use Rattle.elements.proofs.Members.{found-within, members-none, members-more}
 use Rattle.crl.specs.declared.entries.Entry.the-variants.{Bare, Extended, Misshapen}
 use Rattle.crl.specs.declared.entries.Survey.{Survey}
 use Rattle.crl.specs.declared.entries.Survey.the-variants.{Entries, Shapeless}
-use Rattle.crl.specs.Looks.{utcAt, Usual}
+use Rattle.crl.specs.FastEntries.{utcAt, Usual}
 use Rattle.crl.specs.Entries.{entryOf, shaped, isTime, timely, calm, allShaped, allTimely, allCalm, surveyOf}
 
 -- there are no more members than octets

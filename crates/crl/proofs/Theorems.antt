@@ -1,30 +1,33 @@
 -- What the answers of a CRL mean, as theorems over the definitions.
 use Prim.Native.Nat.{ℕ}
-use mathlib.Core.Bool.{true}
-use mathlib.Core.List.{List}
+use mathlib.Core.Bool.{true, false}
+use mathlib.Core.List.{List, [], _∷_}
 use mathlib.Core.Logic.{_↔_}
-use mathlib.Core.Path.{_≡_, refl, _∙_}
+use mathlib.Core.Path.{_≡_, refl, sym, ap, subst, _∙_}
 use native.Mathlib.Omega.{arith}
+use borrow.Author.Tests.{ne-eqb}
+use Rattle.refusal.specs.declared.Refusal.{Refusal}
 use Rattle.refusal.specs.declared.Refusal.the-variants.{Profile}
 use Rattle.der.specs.declared.walking.Walked.{Walked}
 use Rattle.der.specs.declared.walking.Walked.the-variants as walked
 use Rattle.der.specs.Forms.{paper}
 use Rattle.der.specs.Walk.{walkOf}
 use Rattle.elements.specs.Elements.{membersOf}
-use Rattle.refusal.specs.Rules.{firstBroken}
+use Rattle.refusal.specs.Rules.{firstBroken, Smallest}
 use Rattle.crl.specs.declared.Fields.{Fields}
+use Rattle.crl.specs.declared.Judged.{Judged}
 use Rattle.crl.specs.declared.Judged.the-variants.{Passed, Refused}
 use Rattle.crl.specs.declared.shapes.Layout.{Layout}
 use Rattle.crl.specs.declared.shapes.Shape.{Shape}
 use Rattle.crl.specs.declared.shapes.Shape.the-variants.{Parts, Broken}
 use Rattle.crl.specs.Answer.{fieldsOf, graded, onShape, onWalk, profileOf, judgedOf}
 use Rattle.crl.specs.Listed.{listedOf}
-use Rattle.crl.specs.Meets.{Meets, Passes, ruleOf, Smallest, of-shape, of-rule, InList}
+use Rattle.crl.specs.Meets.{Meets, Passes, rulesIn, rules1to8, Breaks, RefusedFor, by-walk, by-rule, InList}
 use Rattle.crl.specs.Rules.{readingsOf, rules2to8}
 use Rattle.crl.specs.Shape.{layoutOf}
 use Rattle.crl.proofs.Chains.{broken-later, broken-none}
 use Rattle.der.proofs.Faults.{no-profile}
-use Rattle.refusal.proofs.Order.{told-smallest}
+use Rattle.refusal.proofs.Order.{told-smallest, smallest-told}
 use Rattle.crl.proofs.Firsts.{differ, none-broken, graded-passed, graded-refused}
 use Rattle.crl.proofs.Serials.{listed-in, in-listed}
 
@@ -69,21 +72,57 @@ module _ (s : List ℕ) where
   pub passes-exactly : (f : Fields) → (judgedOf s ≡ Passed f) ↔ Passes s f
   passes-exactly f = (passes-only f, passes-all f)
 
-  -- The rule that a refusal names is broken, and each smaller one holds.
-  pub detail-smallest : (k : ℕ) → judgedOf s ≡ Refused (Profile k) → Smallest s k
-  unfolding judgedOf onWalk profileOf onShape ruleOf rules2to8
-  detail-smallest k e = go (walkOf paper s) refl e
+  refused-by : (refusal : Refusal) → judgedOf s ≡ Refused refusal → RefusedFor s refusal
+  unfolding judgedOf onWalk profileOf onShape rules1to8 rulesIn firstBroken
+  refused-by refusal e = go (walkOf paper s) refl e
     where
-      shaped : (shape : Shape) → layoutOf s ≡ shape → onShape shape (λ l. graded (firstBroken 2 (rules2to8 s l (readingsOf s l))) (fieldsOf l (readingsOf s l))) ≡ Refused (Profile k) → Smallest s k
-      shaped Broken h e = of-shape (cc) h
-      shaped (Parts l) h e =
-          let g = graded-refused _ _ e in
-          let b = told-smallest 2 (rules2to8 s l (readingsOf s l)) (g .0) (g .1) in
-          of-rule h (b .numbered) (omega (arith, b .listed)) (b .broken) (b .smaller)
+      same : {own : Refusal} → _≡_ {A = Judged} (Refused own) (Refused refusal) → own ≡ refusal
+      same e = cc
 
-      go : (w : Walked) → walkOf paper s ≡ w → onWalk w (profileOf s) ≡ Refused (Profile k) → Smallest s k
-      go (walked.Refused refusal) w e = absurd (no-profile paper s {k = k} (w ∙ (cc)))
-      go (walked.Passed count) w e = shaped (layoutOf s) refl e
+      shaped :
+          (count : ℕ) → walkOf paper s ≡ walked.Passed count → (shape : Shape) → layoutOf s ≡ shape
+          → onShape shape (λ l. graded (firstBroken 2 (rules2to8 s l (readingsOf s l))) (fieldsOf l (readingsOf s l))) ≡ Refused refusal
+          → RefusedFor s refusal
+      shaped count w Broken h e =
+          subst (RefusedFor s) (same e)
+          (by-rule (record { count = count; walks = w; smallest = rw h (told-smallest 1 (false ∷ []) refl λ (z : 1 ≡ 0). omega arith) }))
+      shaped count w (Parts l) h e =
+          let g = graded-refused _ _ e in
+          subst (RefusedFor s) (sym (g .0))
+          (by-rule (record { count = count; walks = w; smallest = rw h (told-smallest 1 (true ∷ rules2to8 s l (readingsOf s l)) refl (g .1)) }))
+
+      go : (w : Walked) → walkOf paper s ≡ w → onWalk w (profileOf s) ≡ Refused refusal → RefusedFor s refusal
+      go (walked.Refused own) w e = subst (RefusedFor s) (same e) (by-walk w)
+      go (walked.Passed count) w e = shaped count w (layoutOf s) refl e
+
+  broken-refused : (k : ℕ) → Breaks s k → judgedOf s ≡ Refused (Profile k)
+  unfolding judgedOf onWalk profileOf onShape graded rules1to8 rulesIn firstBroken
+  broken-refused k b = rw (b .walks) (go (layoutOf s) (b .smallest))
+    where
+      go :
+          (shape : Shape) → Smallest 1 (rulesIn s shape) k
+          → onShape shape (λ l. graded (firstBroken 2 (rules2to8 s l (readingsOf s l))) (fieldsOf l (readingsOf s l))) ≡ Refused (Profile k)
+      go Broken least = ap (λ (n : ℕ). Refused (Profile n)) (smallest-told 1 (false ∷ []) least)
+      go (Parts l) least =
+          let told : firstBroken 2 (rules2to8 s l (readingsOf s l)) ≡ k = smallest-told 1 (true ∷ rules2to8 s l (readingsOf s l)) least in
+          rw (told, ne-eqb k 0 (λ (z : k ≡ 0). omega (arith, least .numbered)))
+
+  refusals-told : (refusal : Refusal) → RefusedFor s refusal → judgedOf s ≡ Refused refusal
+  unfolding judgedOf onWalk
+  refusals-told refusal (by-walk w) = rw w
+  refusals-told refusal (by-rule {k = k} b) = broken-refused k b
+
+  -- A CRL is refused exactly as the walk refuses it, and with 4 for a rule.
+  pub refusals : (refusal : Refusal) → (judgedOf s ≡ Refused refusal) ↔ RefusedFor s refusal
+  refusals refusal = (refused-by refusal, refusals-told refusal)
+
+  -- Rule k of the profile is told exactly when the walk passes and rule k is the smallest broken.
+  pub detail-smallest : (k : ℕ) → (judgedOf s ≡ Refused (Profile k)) ↔ Breaks s k
+  detail-smallest k = ((λ e. only (Profile k) refl (refused-by (Profile k) e)), broken-refused k)
+    where
+      only : (refusal : Refusal) → refusal ≡ Profile k → RefusedFor s refusal → Breaks s k
+      only refusal e (by-walk w) = absurd (no-profile paper s {k = k} (w ∙ ap walked.Refused e))
+      only refusal e (by-rule {k = own} b) = let same : own ≡ k = cc in subst (Breaks s) same b
 
 module _ (s serial : List ℕ) where
   -- A serial is listed exactly when an entry has an INTEGER first whose contents are the serial.

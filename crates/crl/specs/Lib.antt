@@ -3,7 +3,7 @@ pub mod Shape
 pub mod Rules
 pub mod Answer
 pub mod Listed
-pub mod Looks
-pub mod Plain
+pub mod FastEntries
+pub mod FastTimes
 pub mod Age
 pub mod Meets

@@ -1,16 +1,19 @@
 -- What the answers say of a CRL: the rules that it meets, the first that it breaks, and where a serial is listed.
-use Prim.Native.Nat.{ℕ, _-_, _≤_, _<_}
+use Prim.Native.Nat.{ℕ}
 use mathlib.Core.Bool.{Bool, true, false}
-use mathlib.Core.List.{List, List·Memᴰ}
+use mathlib.Core.List.{List, [], _∷_, List·Memᴰ}
 use mathlib.Core.Path.{_≡_}
-use lib.ListN.{getD}
-use Rattle.der.specs.declared.walking.Walked.the-variants.{Passed}
+use Rattle.refusal.specs.declared.Refusal.{Refusal}
+use Rattle.refusal.specs.declared.Refusal.the-variants.{Profile}
+use Rattle.refusal.specs.Rules.{Smallest}
+use Rattle.der.specs.declared.walking.Walked.the-variants as walked
 use Rattle.der.specs.Forms.{paper}
 use Rattle.der.specs.Walk.{walkOf}
 use Rattle.elements.specs.declared.elements.Element.{Element}
 use Rattle.elements.specs.declared.elements.Found.the-variants.{One}
 use Rattle.elements.specs.Elements.{foundTagged, contentsOf}
 use Rattle.crl.specs.declared.shapes.Layout.{Layout}
+use Rattle.crl.specs.declared.shapes.Shape.{Shape}
 use Rattle.crl.specs.declared.shapes.Shape.the-variants.{Parts, Broken}
 use Rattle.crl.specs.declared.Fields.{Fields}
 use Rattle.crl.specs.Answer.{fieldsOf}
@@ -39,19 +42,29 @@ pub record Meets (s : List ℕ) (l : Layout) : Type 0 where
 -- the walk passes, each rule is met, and the fields are those of the parts
 pub record Passes (s : List ℕ) (f : Fields) : Type 0 where
   pub count : ℕ
-  pub walks : walkOf paper s ≡ Passed count
+  pub walks : walkOf paper s ≡ walked.Passed count
   pub parts : Layout
   pub meets : Meets s parts
   pub fields : f ≡ fieldsOf parts (readingsOf s parts)
 
--- one of rules 2 to 8, by its number
-unfoldable pub ruleOf : List ℕ → Layout → ℕ → Bool
-ruleOf s l k = getD (rules2to8 s l (readingsOf s l)) (k - 2) true
+-- rules 1 to 8; where the shape is broken there is nothing that the others could read
+unfoldable pub rulesIn : List ℕ → Shape → List Bool
+rulesIn s Broken = false ∷ []
+rulesIn s (Parts l) = true ∷ rules2to8 s l (readingsOf s l)
 
--- rule k is broken, and each smaller one holds
-pub data Smallest (s : List ℕ) (k : ℕ) : Type 0 where
-  of-shape : k ≡ 1 → layoutOf s ≡ Broken → Smallest s k
-  of-rule : {l : Layout} → layoutOf s ≡ Parts l → 2 ≤ k → k ≤ 8 → ruleOf s l k ≡ false → ((j : ℕ) → 2 ≤ j → j < k → ruleOf s l j ≡ true) → Smallest s k
+unfoldable pub rules1to8 : List ℕ → List Bool
+rules1to8 s = rulesIn s (layoutOf s)
+
+-- an item that is walked, and of whose rules k is the smallest broken
+pub record Breaks (s : List ℕ) (k : ℕ) : Type 0 where
+  pub count : ℕ
+  pub walks : walkOf paper s ≡ walked.Passed count
+  pub smallest : Smallest 1 (rules1to8 s) k
+
+-- what an item is refused for: what the walk refuses, 4 for a rule
+pub data RefusedFor (s : List ℕ) : Refusal → Type 0 where
+  by-walk : {refusal : Refusal} → walkOf paper s ≡ walked.Refused refusal → RefusedFor s refusal
+  by-rule : {k : ℕ} → Breaks s k → RefusedFor s (Profile k)
 
 -- one of the entries has an INTEGER first whose contents are the serial
 pub record InList (s : List ℕ) (serial : List ℕ) (entries : List Element) : Type 0 where

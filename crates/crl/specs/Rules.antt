@@ -5,7 +5,7 @@ use mathlib.Core.List.{List, [], _∷_}
 use lib.Dec.{eqb}
 use Rattle.names.specs.declared.Letters.{Letters}
 use Rattle.names.specs.declared.Letters.the-variants.{Two, Unfit}
-use Rattle.elements.specs.Octets.{alike}
+use Rattle.octets.specs.Alike.{alike}
 use Rattle.elements.specs.Elements.{wholeOf, contentsOf}
 use Rattle.extensions.specs.Extensions.{lookupOf, present, doubledOf, criticalOf}
 use Rattle.names.specs.Names.{lettersOf}

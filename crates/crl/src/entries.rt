@@ -1,8 +1,8 @@
 // Entries of a CRL, and what the rules ask of all of them, found in one pass.
+use crate::fast::four;
+use crate::fast::usual_utc;
 use crate::passes::extensions_shaped;
 use crate::passes::some_critical;
-use crate::plain::four;
-use crate::plain::plain_utc;
 use elements::Element;
 use elements::Found;
 use elements::element_at;
@@ -15,7 +15,7 @@ ghost use mathlib.Core.Bool.{true};
 ghost use Prim.Native.Nat.{_+_, _≤_, _<_};
 ghost use lib.ListN.{length};
 ghost use Rattle.crl.specs.Entries.{isTime, entryOf, surveyOf};
-ghost use Rattle.crl.specs.Looks.{utcAt, Usual, Opening};
+ghost use Rattle.crl.specs.FastEntries.{utcAt, Usual, Opening};
 ghost use Rattle.times.specs.Times.{timeOf};
 
 // An entry's serial, time and extensions.
@@ -175,7 +175,7 @@ fn is_utc(item: &[u8], at: usize) -> bool
 {
     let contents = at + 2;
     let end = at + 15;
-    if plain_utc(&item[contents..end]) {
+    if usual_utc(&item[contents..end]) {
         return true;
     }
     let e = Element {

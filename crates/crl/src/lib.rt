@@ -1,8 +1,8 @@
 // Whether an item is a CRL of the profile, its fields, whether it lists a serial, and its age.
 mod entries;
+mod fast;
 mod listing;
 mod passes;
-mod plain;
 mod rules;
 mod shapes;
 
@@ -11,9 +11,9 @@ use calendar::day_difference;
 use calendar::real_day;
 use der::Walked;
 use der::walk;
-use elements::between;
 use names::first_letter;
 use names::second_letter;
+use octets::between;
 use refusal::Refusal;
 use rules::Readings;
 use rules::readings_of;

@@ -2,14 +2,13 @@
 use crate::entries::opens;
 use elements::Element;
 use elements::Found;
-use elements::contents;
 use elements::element_at;
 use elements::element_tagged;
-use elements::same;
+use elements::holds;
 ghost use mathlib.Core.Path.{_≡_};
 ghost use Prim.Native.Nat.{_<_};
 ghost use Rattle.crl.specs.Listed.{lists, listedOf};
-ghost use Rattle.crl.specs.Looks.{Another, NoneBefore};
+ghost use Rattle.crl.specs.FastEntries.{Another, NoneBefore};
 
 // Whether an entry between two offsets of a CRL has a serial of those contents octets.
 pub fn listed(item: &[u8], from: usize, end: usize, serial: &[u8]) -> bool
@@ -28,7 +27,7 @@ pub fn listed(item: &[u8], from: usize, end: usize, serial: &[u8]) -> bool
     }
 }
 
-// The offset of the first entry from `from` on that a quick look does not show to be another, or of the end of the list.
+// The offset of the first entry from `from` on that the fast path does not show to be another, or of the end of the list.
 fn first_like(item: &[u8], from: usize, end: usize, serial: &[u8]) -> usize
     ensures { λ r. ⌜ NoneBefore (now (item .entry)) from end (now (serial .entry)) r ⌝ }
 {
@@ -75,5 +74,5 @@ fn has_serial(item: &[u8], serial: &[u8], e: Element) -> bool
     let Found::One(own) = element_tagged(item, e.contents, e.end, 0x02) else {
         return false;
     };
-    same(contents(item, own), serial)
+    holds(item, own, serial)
 }

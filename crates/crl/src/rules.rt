@@ -1,8 +1,7 @@
 // Rules 2 to 8 of the CRL profile, each told by its number where it is the first that is broken.
 use crate::shapes::Layout;
-use elements::contents;
-use elements::same;
-use elements::whole;
+use elements::holds;
+use elements::twins;
 use extensions::Extension;
 use extensions::lookup;
 use extensions::one_pass;
@@ -17,7 +16,7 @@ ghost use mathlib.Core.List.{List};
 ghost use Prim.Native.Nat.{ℕ};
 ghost use Rattle.extensions.specs.Extensions.{present, doubledOf, criticalOf};
 ghost use Rattle.refusal.specs.Rules.{firstBroken};
-ghost use Rattle.crl.specs.Rules.{readingsOf, rule2, rule3, rule4, rule5, rule6, rule7, rule8, rules2to8};
+ghost use Rattle.crl.specs.Rules.{readingsOf, rule4, rule5, rule6, rule7, rule8, rules2to8};
 
 // What several rules and the answer read, each once.
 pub struct Readings {
@@ -46,10 +45,13 @@ pub(crate) fn readings_of(item: &[u8], l: Layout) -> Readings
 pub(crate) fn rules_2_to_8(item: &[u8], l: Layout, r: Readings) -> u64
     ensures { λ rule. ⌜ rule ≡ firstBroken 2 (rules2to8 (now (item .entry)) l r) ⌝ }
 {
-    if !version_good(item, l) {
+    let version = l.version;
+    if !holds(item, version, b"\x01") {
         return 2;
     }
-    if !algorithms_same(item, l) {
+    let inner = l.inner;
+    let outer = l.outer;
+    if !twins(item, inner, outer) {
         return 3;
     }
     if !country_good(r) {
@@ -70,23 +72,6 @@ pub(crate) fn rules_2_to_8(item: &[u8], l: Layout, r: Readings) -> u64
         return 8;
     }
     0
-}
-
-// 2: version number 1 (v2).
-fn version_good(item: &[u8], l: Layout) -> bool
-    ensures { λ r. ⌜ r ≡ rule2 (now (item .entry)) l ⌝ }
-{
-    let version = l.version;
-    same(contents(item, version), b"\x01")
-}
-
-// 3: algorithms equal.
-fn algorithms_same(item: &[u8], l: Layout) -> bool
-    ensures { λ r. ⌜ r ≡ rule3 (now (item .entry)) l ⌝ }
-{
-    let inner = l.inner;
-    let outer = l.outer;
-    same(whole(item, inner), whole(item, outer))
 }
 
 // 4: the issuer's country, once and as two letters.

@@ -17,7 +17,7 @@ use Rattle.der.specs.declared.walking.Read.the-variants.{Past, Fault}
 use Rattle.der.specs.declared.walking.Walked.{Walked}
 use Rattle.der.specs.declared.walking.Walked.the-variants.{Passed, Refused}
 use Rattle.der.specs.Forms.{Forms}
-use Rattle.der.specs.Octets.{number}
+use Rattle.octets.specs.Octets.{number}
 use Rattle.der.specs.Heading.{identifierGood, within, smallest, long, headingOf, constructed}
 use Rattle.der.specs.Contents.{contentsGood}
 use Rattle.der.specs.Walk.{opened, filled, after, elementAt, listAt, whole, walkOf, counted}

@@ -11,19 +11,13 @@ use Rattle.der.specs.declared.heading.Heading.the-variants.{Header}
 use Rattle.der.specs.declared.walking.Walked.the-variants.{Passed}
 use Rattle.der.specs.Forms.{paper}
 use Rattle.der.specs.Heading.{identifierGood, headingOf, constructed}
-use Rattle.der.specs.Contents.{booleanGood, integerGood, oidGood, contentsGood}
-use Rattle.der.specs.Looks.{stretch, Reads, Fills, Double, Plain}
+use Rattle.der.specs.Contents.{booleanGood, integerGood, bitStringGood, oidGood, contentsGood}
+use Rattle.der.specs.Fast.{stretch, Reads, Fills, Double, Unjudged, Leaf}
 use Rattle.der.specs.Walk.{filled}
 use Rattle.der.proofs.Laws.{short-header}
 use Rattle.der.proofs.Bounds.{element-within}
 use Rattle.der.proofs.Enough.{ListIs, leaf-is, node-is}
-use Rattle.der.proofs.Stacks.{part-length, part-drop, part-inner, passes-none, passes-more}
-
--- a primitive and its contents that nothing is wrong with
-pub record Leaf (tag : ℕ) (c : List ℕ) : Type 0 where
-  pub known : identifierGood tag ≡ true
-  pub primitive : constructed tag ≡ false
-  pub good : contentsGood tag c ≡ true
+use Rattle.der.proofs.Parts.{part-length, part-drop, part-inner, passes-none, passes-more}
 
 module _ {tag : ℕ} {c : List ℕ} where
   pub leaf-boolean : tag ≡ 1 → booleanGood c ≡ true → Leaf tag c
@@ -38,8 +32,12 @@ module _ {tag : ℕ} {c : List ℕ} where
   unfolding identifierGood constructed contentsGood
   leaf-null e g = rw e (record { known = refl; primitive = refl; good = eq-eqb _ _ g })
 
-  pub leaf-plain : Plain tag → Leaf tag c
-  leaf-plain p = record { known = p .known; primitive = p .primitive; good = p .unjudged c }
+  pub leaf-bit-string : tag ≡ 3 → bitStringGood c ≡ true → Leaf tag c
+  unfolding identifierGood constructed contentsGood
+  leaf-bit-string e g = rw e (record { known = refl; primitive = refl; good = g })
+
+  pub leaf-unjudged : Unjudged tag → Leaf tag c
+  leaf-unjudged p = record { known = p .known; primitive = p .primitive; good = p .unjudged c }
 
   pub leaf-oid : tag ≡ 6 → oidGood c ≡ true → Leaf tag c
   unfolding identifierGood constructed contentsGood

@@ -1,7 +1,7 @@
 pub mod Laws
 pub mod Bounds
 pub mod Enough
-pub mod Weights
+pub mod LengthOctets
 pub mod Faults
-pub mod Stacks
+pub mod Parts
 pub mod Flat

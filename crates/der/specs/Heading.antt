@@ -7,7 +7,7 @@ use lib.ListN.{length, getD, take, drop}
 use Rattle.der.specs.declared.heading.Heading.{Heading}
 use Rattle.der.specs.declared.heading.Heading.the-variants.{Header, Bad}
 use Rattle.der.specs.Forms.{Forms}
-use Rattle.der.specs.Octets.{number}
+use Rattle.octets.specs.Octets.{number}
 
 -- X.690 8.1.2.5: bit 6 tells constructed from primitive
 unfoldable pub constructed : ℕ → Bool

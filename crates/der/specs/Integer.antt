@@ -12,7 +12,7 @@ use Rattle.der.specs.declared.walking.Walked.the-variants as walked
 use Rattle.der.specs.declared.numbers.Number.{Number}
 use Rattle.der.specs.declared.numbers.Number.the-variants.{Value, Refused}
 use Rattle.der.specs.Forms.{Forms}
-use Rattle.der.specs.Octets.{twos}
+use Rattle.octets.specs.Octets.{twos}
 use Rattle.der.specs.Heading.{headingOf}
 use Rattle.der.specs.Walk.{walkOf}
 

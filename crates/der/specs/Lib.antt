@@ -1,8 +1,7 @@
 pub mod Forms
-pub mod Octets
 pub mod Heading
 pub mod Contents
 pub mod Walk
 pub mod Integer
 pub mod Member
-pub mod Looks
+pub mod Fast

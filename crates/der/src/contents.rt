@@ -46,7 +46,7 @@ pub(crate) fn integer_good(c: &[u8]) -> bool
     c[1] < 0x80
 }
 
-fn bit_string_good(c: &[u8]) -> bool
+pub(crate) fn bit_string_good(c: &[u8]) -> bool
     ensures { λ r. ⌜ r ≡ bitStringGood (now (c .entry)) ⌝ }
 {
     if c.len() == 0 {

@@ -1,5 +1,6 @@
 // Bytes as DER: the walk over an item's elements, an INTEGER as a number, and the steps through members.
 mod contents;
+mod fast;
 mod heading;
 mod numbers;
 mod stepping;

@@ -8,7 +8,7 @@ ghost use mathlib.Core.Path.{_≡_};
 ghost use Prim.Native.Nat.{_≤_};
 ghost use lib.ListN.{length};
 ghost use Rattle.der.specs.Forms.{paper};
-ghost use Rattle.der.specs.Octets.{twos};
+ghost use Rattle.octets.specs.Octets.{twos};
 ghost use Rattle.der.specs.Integer.{integerOf};
 
 pub enum Number {

@@ -1,4 +1,3 @@
-pub mod Likeness
 pub mod Members
 pub mod Enclosed
 pub mod Shorts

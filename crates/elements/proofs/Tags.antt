@@ -13,7 +13,7 @@ use Rattle.der.specs.declared.heading.Heading.the-variants.{Header, Bad}
 use Rattle.der.specs.declared.stepping.Step.{Step}
 use Rattle.der.specs.Forms.{paper}
 use Rattle.der.specs.Heading.{identifierGood, within, long, smallest, headingOf}
-use Rattle.der.specs.Octets.{number}
+use Rattle.octets.specs.Octets.{number}
 use Rattle.der.specs.Member.{placed, memberOf}
 use Rattle.der.proofs.Bounds.{cond-by, heading-within}
 use Rattle.elements.specs.declared.elements.Found.{Found}

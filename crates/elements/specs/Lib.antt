@@ -1,4 +1,3 @@
-pub mod Octets
 pub mod Elements
 pub mod Envelope
 pub mod Steps

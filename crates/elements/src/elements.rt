@@ -2,12 +2,14 @@
 use crate::short::short_end;
 use der::Step;
 use der::member;
+use octets::between;
+use octets::part;
+use octets::same;
 ghost use mathlib.Core.Path.{_≡_};
 ghost use mathlib.Core.Bool.{true};
 ghost use Rattle.der.specs.Heading.{identifierGood};
 ghost use Rattle.elements.specs.Elements.{foundAt, foundTagged, wholeOf, contentsOf};
-ghost use Prim.Native.Nat.{_-_};
-ghost use lib.ListN.{take, drop};
+ghost use Rattle.octets.specs.Alike.{alike};
 
 // An element by its identifier and three offsets: of its first octet, of its contents, and after it.
 pub struct Element {
@@ -37,7 +39,7 @@ pub fn element_at(item: &[u8], from: usize, end: usize) -> Found
     }
 }
 
-// The same, if it has the tag. Most headers are short, and told at a look.
+// The same, if it has the tag. Most headers are short: the fast path.
 pub fn element_tagged(item: &[u8], from: usize, end: usize, tag: u8) -> Found
     ensures { λ r. ⌜ r ≡ foundTagged (now (item .entry)) from end tag ⌝ }
 {
@@ -93,31 +95,29 @@ fn any_tagged(item: &[u8], from: usize, end: usize, tag: u8) -> Found
 }
 
 // The octets of an element, its header among them.
-pub fn whole(item: &[u8], e: Element) -> &[u8]
+fn whole(item: &[u8], e: Element) -> &[u8]
     ensures { λ r. ⌜ now r ≡ wholeOf (now (item .entry)) e ⌝ }
 {
-    stretch(item, e.at, e.end)
+    part(item, e.at, between(e.at, e.end))
 }
 
 // The contents octets of an element.
 pub fn contents(item: &[u8], e: Element) -> &[u8]
     ensures { λ r. ⌜ now r ≡ contentsOf (now (item .entry)) e ⌝ }
 {
-    stretch(item, e.contents, e.end)
+    part(item, e.contents, between(e.contents, e.end))
 }
 
-// The octets from one offset to another, as many as there are.
-fn stretch(item: &[u8], from: usize, end: usize) -> &[u8]
-    ensures { λ r. ⌜ now r ≡ take (end - from) (drop from (now (item .entry))) ⌝ }
+// Whether the contents of an element are those octets.
+pub fn holds(item: &[u8], e: Element, octets: &[u8]) -> bool
+    ensures { λ r. ⌜ r ≡ alike (contentsOf (now (item .entry)) e) (now (octets .entry)) ⌝ }
 {
-    if item.len() < from {
-        return &item[0..0];
-    }
-    if end < from {
-        return &item[0..0];
-    }
-    if item.len() < end {
-        return &item[from..];
-    }
-    &item[from..end]
+    same(contents(item, e), octets)
+}
+
+// Whether two elements are equal octet by octet.
+pub fn twins(item: &[u8], one: Element, other: Element) -> bool
+    ensures { λ r. ⌜ r ≡ alike (wholeOf (now (item .entry)) one) (wholeOf (now (item .entry)) other) ⌝ }
+{
+    same(whole(item, one), whole(item, other))
 }

@@ -3,7 +3,6 @@ use crate::elements::Element;
 use crate::elements::Found;
 use crate::elements::element_tagged;
 ghost use mathlib.Core.Path.{_≡_};
-ghost use Prim.Native.Nat.{_-_};
 ghost use Rattle.elements.specs.Steps.{onlyOf, pastOf};
 
 // The one member of an element, if it has the tag.
@@ -27,14 +26,4 @@ pub fn past(item: &[u8], from: usize, end: usize, tag: u8) -> usize
         return from;
     };
     e.end
-}
-
-// How many octets stand from one offset to another.
-pub fn between(at: usize, end: usize) -> usize
-    ensures { λ r. ⌜ r ≡ end - at ⌝ }
-{
-    if end < at {
-        return 0;
-    }
-    end - at
 }

@@ -4,4 +4,4 @@ pub mod Slots
 pub mod Strangers
 pub mod Passing
 pub mod Theorems
-pub mod Briefs
+pub mod FastMembers

@@ -9,7 +9,7 @@ use Rattle.der.proofs.Bounds.{cond-by}
 use Rattle.elements.specs.declared.elements.Element.{Element}
 use Rattle.elements.specs.declared.elements.Found.{Found}
 use Rattle.elements.specs.declared.elements.Found.the-variants.{One, Missing}
-use Rattle.elements.specs.Octets.{alike}
+use Rattle.octets.specs.Alike.{alike}
 use Rattle.elements.specs.Elements.{foundAt, foundTagged, withTag, onFound, contentsOf}
 use Rattle.extensions.specs.declared.Extension.{Extension}
 use Rattle.extensions.specs.declared.Extension.the-variants.{Is, Absent}

@@ -12,7 +12,7 @@ use Rattle.extensions.specs.declared.Extension.{Extension}
 use Rattle.extensions.specs.declared.Extension.the-variants.{Is, Absent}
 use Rattle.extensions.specs.declared.Held.{Held}
 use Rattle.extensions.specs.declared.Overview.{Overview}
-use Rattle.elements.specs.Octets.{alike}
+use Rattle.octets.specs.Alike.{alike}
 use Rattle.elements.specs.Elements.{foundAt, foundTagged, withTag, onFound, inside, contentsOf}
 
 -- the OCTET STRING, which is the last

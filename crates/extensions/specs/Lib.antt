@@ -1,2 +1,2 @@
 pub mod Extensions
-pub mod Looks
+pub mod Fast

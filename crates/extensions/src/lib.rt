@@ -1,5 +1,5 @@
 // Extensions: what one pass tells of all of them, and the look-up by OID.
-mod brief;
+mod fast;
 mod finding;
 mod members;
 mod shape;

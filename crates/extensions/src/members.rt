@@ -1,13 +1,13 @@
 // The members of a list of extensions, one by one.
 use crate::Extension;
 use crate::Met;
-use crate::brief::brief_at;
+use crate::fast::brief_at;
 use crate::shape::any_extension;
 use elements::Found;
 use elements::element_at;
-ghost use Rattle.extensions.specs.Looks.{Meets};
+ghost use Rattle.extensions.specs.Fast.{Meets};
 
-// Most are told at a look.
+// Most are read by the fast path.
 pub(crate) fn met_at(item: &[u8], at: usize, end: usize) -> Met
     ensures { λ r. ⌜ Meets (now (item .entry)) at end r ⌝ }
 {

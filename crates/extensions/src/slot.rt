@@ -1,12 +1,12 @@
 // The slots of OIDs.
 use crate::Extension;
 use elements::contents;
-use elements::same;
+use octets::same;
 ghost use mathlib.Core.Path.{_≡_};
 ghost use mathlib.Core.List.{[], _∷_};
 ghost use Prim.Native.Nat.{ℕ, _<_};
 ghost use lib.Dec.{eqb};
-ghost use Rattle.elements.specs.Octets.{alike};
+ghost use Rattle.octets.specs.Alike.{alike};
 ghost use Rattle.extensions.specs.Extensions.{oidOf, Slotted};
 
 // The slot of an extension's OID, 23 for one that has no slot, 24 for what is no extension.

@@ -6,7 +6,7 @@ use elements::Found;
 use elements::contents;
 use elements::element_at;
 use elements::element_tagged;
-use elements::same;
+use elements::holds;
 ghost use mathlib.Core.Path.{_≡_};
 ghost use Rattle.extensions.specs.Extensions.{extensionOf, doubledOf, hasOid, sameOids};
 
@@ -54,7 +54,7 @@ fn doubles(item: &[u8], own: Extension, other: Element) -> bool
         return false;
     };
     let wanted = contents(item, oid);
-    if !same(contents(item, its), wanted) {
+    if !holds(item, its, wanted) {
         return false;
     }
     has_oid(item, wanted, any_extension(item, other))
@@ -71,5 +71,5 @@ pub(crate) fn has_oid(item: &[u8], oid: &[u8], extension: Extension) -> bool
     else {
         return false;
     };
-    same(contents(item, own), oid)
+    holds(item, own, oid)
 }

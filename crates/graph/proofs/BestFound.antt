@@ -1,4 +1,4 @@
--- What the table of any search tells is the best chain: its path is a chain step by step, and along any other chain each
+-- What the tables of any search tell is the best chain: its path is a chain step by step, and along any other chain each
 -- place has a path that is no larger a number than the chain up to there.
 use Prim.Native.Nat.{ℕ, zero, suc, _+_, _<_, _≤_}
 use mathlib.Core.Path.{_≡_, refl, ap, _∙_}
@@ -27,7 +27,7 @@ module _ {g : Graph} {n t : ℕ} (size : g .places ≡ n) (small : n ≤ 96) whe
   small-chain : {c : List ℕ} → Chain g t c → Small c
   small-chain (chain {u = u} l a o) = one-more {v = u} (omega arith) (small-onward o)
 
-  module _ {parent : List ℕ} (apart : Apart g) (s : Searched n (followed n g) parent) where
+  module _ {parent distance : List ℕ} (apart : Apart g) (s : Searched n (followed n g) parent distance) where
     -- along a chain each place is reached, by a path no larger
     onward-reached : {u a : ℕ} {c : List ℕ} → Onward g t u c → u < n → Reached parent u → g .signer u ≡ false → rank (s .path u) ≤ a → Reached parent t × (rank (s .path t) ≤ rankFrom a c)
     unfolding rankFrom

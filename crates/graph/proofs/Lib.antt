@@ -7,4 +7,5 @@ pub mod BestFound
 pub mod Theorems
 pub mod Traces
 pub mod Targets
+pub mod Places
 pub mod Tables

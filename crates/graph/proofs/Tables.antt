@@ -12,30 +12,30 @@ use Rattle.graph.proofs.Cases.{same?, less?, either}
 use Rattle.graph.proofs.Turns.{begin, next, finish, row-room, passed, taken}
 
 pub data Table (n : ℕ) (step : ℕ → ℕ → Bool) : Type 0 where
-  table : {parent : List ℕ} → Searched n step parent → Table n step
+  table : {parent distance : List ℕ} → Searched n step parent distance → Table n step
 
 data Row (n : ℕ) (step : ℕ → ℕ → Bool) (head : ℕ) : Type 0 where
-  row : {queue parent : List ℕ} {tail : ℕ} → At n step queue parent tail head n → Row n step head
+  row : {queue parent distance : List ℕ} {tail : ℕ} → At n step queue parent distance tail head n → Row n step head
 
 module _ {n : ℕ} {step : ℕ → ℕ → Bool} (small : n ≤ 96) where
-  whole-row : (k : ℕ) {queue parent : List ℕ} {tail head column : ℕ} → n ≡ column + k → At n step queue parent tail head column → Row n step head
+  whole-row : (k : ℕ) {queue parent distance : List ℕ} {tail head column : ℕ} → n ≡ column + k → At n step queue parent distance tail head column → Row n step head
   whole-row zero {column = column} e a = let f : column ≡ n = omega arith in row (rw f at a)
-  whole-row (suc k) {queue} {parent} {tail} {head} {column} e a =
+  whole-row (suc k) {queue} {parent} {distance} {tail} {head} {column} e a =
       let h : column < n = omega arith in
       ⊎-elim
       (λ new. either (step (getD queue head 0) column)
-      (λ good. whole-row k (omega arith) (taken small a refl refl h new good))
+      (λ good. whole-row k (omega arith) (taken small a refl refl h refl new good))
       (λ bad. whole-row k (omega arith) (passed small a refl refl h (inr bad))))
       (λ old. whole-row k (omega arith) (passed small a refl refl h (inl old)))
       (same? (getD parent column 0) 255)
 
-  rows : (k : ℕ) {queue parent : List ℕ} {tail head : ℕ} → 97 ≤ head + k → At n step queue parent tail head 0 → Table n step
+  rows : (k : ℕ) {queue parent distance : List ℕ} {tail head : ℕ} → 97 ≤ head + k → At n step queue parent distance tail head 0 → Table n step
   rows zero e a = absurd (omega (arith, row-room small a))
-  rows (suc k) {head = head} e a = go (λ queue parent tail l b. rows k (omega arith) (next small b l)) (whole-row n (omega arith) a)
+  rows (suc k) {head = head} e a = go (λ queue parent distance tail l b. rows k (omega arith) (next small b l)) (whole-row n (omega arith) a)
     where
-      go : ((queue parent : List ℕ) (tail : ℕ) → head + 1 < tail → At n step queue parent tail head n → Table n step) → Row n step head → Table n step
+      go : ((queue parent distance : List ℕ) (tail : ℕ) → head + 1 < tail → At n step queue parent distance tail head n → Table n step) → Row n step head → Table n step
       go more (row {tail = tail} b) =
-          ⊎-elim (λ l. more _ _ tail l b) (λ l. table (finish small b (omega (arith, b .within)))) (less? (head + 1) tail)
+          ⊎-elim (λ l. more _ _ _ tail l b) (λ l. table (finish small b (omega (arith, b .within)))) (less? (head + 1) tail)
 
   pub some-table : Table n step
   some-table = rows 97 (omega arith) (begin n step small)

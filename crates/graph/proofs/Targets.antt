@@ -10,7 +10,7 @@ use lib.ListN.{getD}
 use Rattle.graph.specs.Chains.{Graph, graphOf, Onward, ends, goes, Chain, chain}
 use Rattle.graph.proofs.Cases.{less?}
 
-onward-target : {g : Graph} {t u : ℕ} {c : List ℕ} → Onward g t u c → (t < g .places) × (g .signer t ≡ true)
+pub onward-target : {g : Graph} {t u : ℕ} {c : List ℕ} → Onward g t u c → (t < g .places) × (g .signer t ≡ true)
 onward-target (ends l k e) = (l, k)
 onward-target (goes l k e o) = onward-target o
 

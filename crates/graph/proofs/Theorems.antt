@@ -7,12 +7,13 @@ use mathlib.Core.Logic.{_⊎_, inl, inr}
 use native.Mathlib.Omega.{arith}
 use lib.ListN.{length, replicate}
 use Rattle.graph.specs.declared.Found.{Found}
-use Rattle.graph.specs.Chains.{Graph, graphOf, Chain, chain, NotLater, done, less, same, Best}
-use Rattle.graph.specs.Answer.{Answered, found, none}
+use Rattle.graph.specs.Chains.{Graph, graphOf, Chain, NotLater, done, less, same, Best}
+use Rattle.graph.specs.Answer.{NoChain, Answered, found, none}
 use Rattle.graph.specs.Search.{followed}
-use Rattle.graph.proofs.Steps.{roles-apart}
+use Rattle.graph.proofs.Steps.{Apart, roles-apart}
 use Rattle.graph.proofs.BestFound.{chain-reached, best}
 use Rattle.graph.proofs.Targets.{at-most-96, chain-target}
+use Rattle.graph.proofs.Places.{two-places}
 use Rattle.graph.proofs.Tables.{Table, table, some-table}
 
 -- of two chains neither of which comes later, both are one
@@ -39,31 +40,24 @@ module _ {g : Graph} {t : ℕ} where
   one-answer (found c b l p) (found d e m q) =
       let s : c ≡ d = one-best b e in
       (l ∙ ap length s ∙ sym m, p ∙ ap (λ (x : List ℕ). x ++ replicate (96 - length x) 255) s ∙ sym q)
-  one-answer (found c b l p) (none f m q) = absurd (f c (b .good))
-  one-answer (none f l p) (found d e m q) = absurd (f d (e .good))
-  one-answer (none f l p) (none h m q) = (l ∙ sym m, p ∙ sym q)
-
-  chain-length : {c : List ℕ} → Chain g t c → length c ≡ 0 → ⊥
-  chain-length (chain h k o) e = omega arith
+  one-answer (found c b l p) (none f m) = absurd (f c (b .good))
+  one-answer (none f l) (found d e m q) = absurd (f d (e .good))
+  one-answer (none f l) (none h m) = (l .empty ∙ sym (m .empty), l .slots ∙ sym (m .slots))
 
   -- an answer's length is 0 where there is no chain, and only there
   pub found-or-none : {r : Found} → Answered g t r → ((r .length ≡ 0 → ⊥) × ((c : List ℕ) × Chain g t c)) ⊎ ((r .length ≡ 0) × ((c : List ℕ) → Chain g t c → ⊥))
-  found-or-none (found c b l p) = inl (λ e. chain-length (b .good) (sym l ∙ e), (c, b .good))
-  found-or-none (none f l p) = inr (l, f)
+  found-or-none (found c b l p) = inl (λ e. omega (arith, l, two-places (b .good)), (c, b .good))
+  found-or-none (none f l) = inr (l .empty, f)
 
 -- the best chain fits the slots
-pub best-short : (places : ℕ) (roles steps : List ℕ) {t : ℕ} {c : List ℕ} → Best (graphOf places roles steps) t c → length c ≤ 96
-best-short places roles steps {t} {c} b = go (some-table small)
+pub best-fits : {g : Graph} {t : ℕ} {c : List ℕ} → Apart g → g .places ≤ 96 → Best g t c → length c ≤ 96
+best-fits {g} {t} {c} apart small b = go (some-table small)
   where
-    g : Graph
-    g = graphOf places roles steps
-
-    small : g .places ≤ 96
-    small = at-most-96 places roles steps
-
     go : Table (g .places) (followed (g .places) g) → length c ≤ 96
     go (table s) =
         let end = chain-target (b .good) in
-        let reached = chain-reached refl small (roles-apart places roles steps) s (b .good) .0 in
-        let same = one-best b (best refl small (roles-apart places roles steps) s (end .0) (end .1) reached) in
-        rw same (s .short t (end .0) reached)
+        let reached = chain-reached refl small apart s (b .good) .0 in
+        rw (one-best b (best refl small apart s (end .0) (end .1) reached)) (s .short t (end .0) reached)
+
+pub best-short : (places : ℕ) (roles steps : List ℕ) {t : ℕ} {c : List ℕ} → Best (graphOf places roles steps) t c → length c ≤ 96
+best-short places roles steps = best-fits (roles-apart places roles steps) (at-most-96 places roles steps)

@@ -10,17 +10,18 @@ use lib.Seq.{append-snoc, set-at}
 use Rattle.graph.specs.Search.{Reached, Seen, outside, place, Searched, Paths}
 use Rattle.graph.proofs.Turns.{seen-le}
 
-abbrev pub paths : {n : ℕ} {step : ℕ → ℕ → Bool} {parent : List ℕ} → Searched n step parent → Paths n parent
+abbrev pub paths : {n : ℕ} {step : ℕ → ℕ → Bool} {parent distance : List ℕ} → Searched n step parent distance → Paths n parent distance
 paths s =
     record {
       path = s .path;
       start = s .start;
       from = λ v h r. s .grows v h r .from;
       longer = λ v h r. s .grows v h r .longer;
+      far = λ v h r. s .grows v h r .far;
       short = s .short;
     }
 
-module _ {n : ℕ} {parent : List ℕ} (s : Paths n parent) where
+module _ {n : ℕ} {parent distance : List ℕ} (s : Paths n parent distance) where
   -- one place back
   record Back (v : ℕ) : Type 0 where
     below : v < n
@@ -33,11 +34,6 @@ module _ {n : ℕ} {parent : List ℕ} (s : Paths n parent) where
   back {v} (place l r) d =
       record { below = l; from = s .from v l r; longer = s .longer v l r; long = ap length (s .longer v l r) ∙ simp length-append }
 
-  -- the places counted and those that are left make the path
-  pub record Counted (target v count : ℕ) : Type 0 where
-    pub seen : Seen n parent v
-    pub whole : count + length (s .path v) ≡ length (s .path target)
-
   -- the slots hold the end of the path, from `left` on
   pub record Filling (target v left : ℕ) (slots : List ℕ) : Type 0 where
     pub rest : List ℕ
@@ -47,26 +43,19 @@ module _ {n : ℕ} {parent : List ℕ} (s : Paths n parent) where
     pub holds : slots ≡ replicate left 255 ++ (rest ++ replicate (96 - length (s .path target)) 255)
 
   module _ {target : ℕ} (h : target < n) (r : Reached parent target) where
-    pub count-start : Counted target target 0
-    count-start = record { seen = place h r; whole = omega arith }
-
-    pub fill-start : {left : ℕ} → left ≡ length (s .path target) → Filling target target left (replicate 96 255)
+    pub fill-start : {left : ℕ} → left ≡ getD distance target 0 → Filling target target left (replicate 96 255)
     fill-start {left} e =
+        let long : left ≡ length (s .path target) = e ∙ s .far target h r in
         let whole : left + (96 - length (s .path target)) ≡ 96 = omega (arith, s .short target h r) in
         record {
           rest = [];
           seen = place h r;
           split = sym (append-nil (s .path target));
-          first = e;
+          first = long;
           holds = sym (replicate-append-replicate left (96 - length (s .path target)) 255 ∙ ap (λ (k : ℕ). replicate k 255) whole);
         }
 
     module _ {v : ℕ} (d : v ≡ n → ⊥) where
-      pub count-room : {count : ℕ} → Counted target v count → (count < 96) × (v < n) × (getD parent v 0 ≤ n)
-      count-room c =
-          let b = back (c .seen) d in
-          (omega (arith, c .whole, b .long, s .short target h r), b .below, seen-le (b .from))
-
       pub fill-room : {left : ℕ} {slots : List ℕ} → Filling target v left slots → (0 < left) × (left ≤ 96) × (v < n) × (getD parent v 0 ≤ n)
       fill-room f =
           let b = back (f .seen) d in
@@ -74,9 +63,6 @@ module _ {n : ℕ} {parent : List ℕ} (s : Paths n parent) where
           (omega (arith, f .first, b .long), omega (arith, f .first, s .short target h r), b .below, seen-le (b .from))
 
   module _ {target v : ℕ} (d : v ≡ n → ⊥) where
-    pub count-more : {count : ℕ} → Counted target v count → Counted target (getD parent v 0) (count + 1)
-    count-more c = let b = back (c .seen) d in record { seen = b .from; whole = omega (arith, c .whole, b .long) }
-
     pub fill-more : {left : ℕ} {slots : List ℕ} → Filling target v left slots → Filling target (getD parent v 0) (left - 1) (set slots (left - 1) v)
     fill-more {left} {slots} f =
         let b = back (f .seen) d in
@@ -97,9 +83,6 @@ module _ {n : ℕ} {parent : List ℕ} (s : Paths n parent) where
   empty e = rw e (s .start)
 
   module _ {target v : ℕ} (e : v ≡ n) where
-    pub count-end : {count : ℕ} → Counted target v count → count ≡ length (s .path target)
-    count-end c = omega (arith, c .whole, ap length (empty e))
-
     pub fill-end : {left : ℕ} {slots : List ℕ} → Filling target v left slots → slots ≡ s .path target ++ replicate (96 - length (s .path target)) 255
     fill-end {left} f =
         let z : left ≡ 0 = f .first ∙ ap length (empty e) in

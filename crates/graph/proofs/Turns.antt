@@ -11,7 +11,7 @@ use borrow.Author.Tests.{eq-eqb, ne-eqb}
 use lib.Dec.{eqb}
 use lib.ListN.{length, getD, set, replicate, length-set, length-append, length-replicate, getD-replicate}
 use lib.Seq.{getD-set-same, getD-set-other}
-use Rattle.graph.specs.Search.{rank, rankFrom, Reached, Seen, outside, place, Grown, Searched, At}
+use Rattle.graph.specs.Search.{rank, rankFrom, Reached, Seen, outside, place, distanceOf, Grown, Searched, At}
 use Rattle.graph.proofs.Cases.{same?, less?, clash}
 use Rattle.graph.proofs.Slots.{filled-le, filled-set, filled-none}
 use Rattle.graph.proofs.Ranks.{rank-snoc}
@@ -33,13 +33,14 @@ unfolding upd
 upd-other path v p {w} d = rw (ne-eqb w v d)
 
 -- the tables unchanged, at another row or column
-moved : {n : ℕ} {step : ℕ → ℕ → Bool} {queue parent : List ℕ} {tail head column : ℕ} (a : At n step queue parent tail head column) (row next : ℕ) → row < tail → ((j : ℕ) → j < tail → rank (a .path (getD queue j 0)) < rank (a .path (getD queue row 0)) * 97 + next + 1) → ((j v : ℕ) → j < tail → v < n → j * 97 + v < row * 97 + next → step (getD queue j 0) v ≡ true → Reached parent v × (rank (a .path v) ≤ rank (a .path (getD queue j 0)) * 97 + v + 1)) → At n step queue parent tail row next
+moved : {n : ℕ} {step : ℕ → ℕ → Bool} {queue parent distance : List ℕ} {tail head column : ℕ} (a : At n step queue parent distance tail head column) (row next : ℕ) → row < tail → ((j : ℕ) → j < tail → rank (a .path (getD queue j 0)) < rank (a .path (getD queue row 0)) * 97 + next + 1) → ((j v : ℕ) → j < tail → v < n → j * 97 + v < row * 97 + next → step (getD queue j 0) v ≡ true → Reached parent v × (rank (a .path v) ≤ rank (a .path (getD queue j 0)) * 97 + v + 1)) → At n step queue parent distance tail row next
 moved a row next within front closed =
     record {
       path = a .path;
       start = a .start;
       root = a .root;
       slots = a .slots;
+      distances = a .distances;
       room = a .room;
       count = a .count;
       within = within;
@@ -52,15 +53,15 @@ moved a row next within front closed =
       closed = closed;
     }
 
-module _ {n : ℕ} {step : ℕ → ℕ → Bool} {queue parent : List ℕ} {tail head : ℕ} (small : n ≤ 96) where
+module _ {n : ℕ} {step : ℕ → ℕ → Bool} {queue parent distance : List ℕ} {tail head : ℕ} (small : n ≤ 96) where
   -- a place that was reached has a path before the one that is tried
-  before : {column : ℕ} (a : At n step queue parent tail head column) → column < n → Reached parent column → rank (a .path column) < rank (a .path (getD queue head 0)) * 97 + column + 1
+  before : {column : ℕ} (a : At n step queue parent distance tail head column) → column < n → Reached parent column → rank (a .path column) < rank (a .path (getD queue head 0)) * 97 + column + 1
   before {column} a h r =
       let q = a .queued column h r in
       subst (λ v. rank (a .path v) < rank (a .path (getD queue head 0)) * 97 + column + 1) (q .2) (a .front (q .0) (q .1))
 
   -- a column that gives nothing new
-  skip : {column : ℕ} (a : At n step queue parent tail head column) → column < n → Reached parent column ⊎ (step (getD queue head 0) column ≡ false) → At n step queue parent tail head (column + 1)
+  skip : {column : ℕ} (a : At n step queue parent distance tail head column) → column < n → Reached parent column ⊎ (step (getD queue head 0) column ≡ false) → At n step queue parent distance tail head (column + 1)
   skip {column} a h w =
       moved a head (column + 1) (a .within) (λ j k. omega (arith, a .front j k))
       (λ j v k l m s.
@@ -72,7 +73,7 @@ module _ {n : ℕ} {step : ℕ → ℕ → Bool} {queue parent : List ℕ} {tail
       (less? (j * 97 + v) (head * 97 + column)))
 
   -- a whole row that gives nothing
-  pub skip-row : (a : At n step queue parent tail head 0) → ((v : ℕ) → v < n → step (getD queue head 0) v ≡ false) → At n step queue parent tail head n
+  pub skip-row : (a : At n step queue parent distance tail head 0) → ((v : ℕ) → v < n → step (getD queue head 0) v ≡ false) → At n step queue parent distance tail head n
   skip-row a w =
       moved a head n (a .within) (λ j k. omega (arith, a .front j k))
       (λ j v k l m s.
@@ -81,13 +82,13 @@ module _ {n : ℕ} {step : ℕ → ℕ → Bool} {queue parent : List ℕ} {tail
       (less? (j * 97 + v) (head * 97 + 0)))
 
   -- the next row
-  pub next : (a : At n step queue parent tail head n) → head + 1 < tail → At n step queue parent tail (head + 1) 0
+  pub next : (a : At n step queue parent distance tail head n) → head + 1 < tail → At n step queue parent distance tail (head + 1) 0
   next a h =
       moved a (head + 1) 0 h (λ j k. omega (arith, a .front j k, a .sorted head (head + 1) (omega arith) h))
       (λ j v k l m s. a .closed j v k l (omega arith) s)
 
   -- no row is left
-  pub finish : (a : At n step queue parent tail head n) → head + 1 ≡ tail → Searched n step parent
+  pub finish : (a : At n step queue parent distance tail head n) → head + 1 ≡ tail → Searched n step parent distance
   finish a h =
       record {
         path = a .path;
@@ -108,12 +109,21 @@ module _ {n : ℕ} {step : ℕ → ℕ → Bool} {queue parent : List ℕ} {tail
       go u v l s (place o r) = let q = a .queued u o r in at u v (q .0) l s (q .1) (q .2)
 
   -- the queue has room for what it holds
-  pub row-room : {column : ℕ} → At n step queue parent tail head column → (head < 97) × (tail ≤ 97) × (getD queue head 0 ≤ n)
+  pub row-room : {column : ℕ} → At n step queue parent distance tail head column → (head < 97) × (tail ≤ 97) × (getD queue head 0 ≤ n)
   row-room a =
       (omega (arith, a .within, a .count, a .slots, filled-le parent), omega (arith, a .count, a .slots, filled-le parent), seen-le (a .seen head (a .within)))
 
+  -- the distance of a place that was seen is the length of its path
+  far-seen : {column w : ℕ} (a : At n step queue parent distance tail head column) → Seen n parent w → distanceOf n distance w ≡ length (a .path w)
+  unfolding distanceOf
+  far-seen {w = w} a (outside e) = rw (eq-eqb w n e, e, a .start)
+  far-seen {w = w} a (place l r) = rw (ne-eqb w n (omega arith)) (a .grows w l r .far)
+
+  pub head-far : {column u : ℕ} → At n step queue parent distance tail head column → getD queue head 0 ≡ u → distanceOf n distance u < 97
+  head-far a e = rw (← e) (omega (arith, far-seen a (a .seen head (a .within)), a .short head (a .within), row-room a .0))
+
   -- a place that is new
-  module _ {column : ℕ} (a : At n step queue parent tail head column) (h : column < n) (new : getD parent column 0 ≡ 255) (good : step (getD queue head 0) column ≡ true) where
+  module _ {column far : ℕ} (a : At n step queue parent distance tail head column) (next : far ≡ distanceOf n distance (getD queue head 0) + 1) (h : column < n) (new : getD parent column 0 ≡ 255) (good : step (getD queue head 0) column ≡ true) where
     u : ℕ
     u = getD queue head 0
 
@@ -122,6 +132,9 @@ module _ {n : ℕ} {step : ℕ → ℕ → Bool} {queue parent : List ℕ} {tail
 
     parent′ : List ℕ
     parent′ = set parent column u
+
+    distance′ : List ℕ
+    distance′ = set distance column far
 
     queue′ : List ℕ
     queue′ = set queue tail column
@@ -145,6 +158,22 @@ module _ {n : ℕ} {step : ℕ → ℕ → Bool} {queue parent : List ℕ} {tail
     parent-kept : {w : ℕ} → (w ≡ column → ⊥) → getD parent′ w 0 ≡ getD parent w 0
     unfolding parent′
     parent-kept {w} d = getD-set-other parent column w u 0 d
+
+    distance-new : getD distance′ column 0 ≡ far
+    unfolding distance′
+    distance-new = getD-set-same distance column far 0 (omega (arith, a .distances))
+
+    distance-kept : {w : ℕ} → (w ≡ column → ⊥) → getD distance′ w 0 ≡ getD distance w 0
+    unfolding distance′
+    distance-kept {w} d = getD-set-other distance column w far 0 d
+
+    far-new : far ≡ length (a .path u ++ (column ∷ []))
+    unfolding u
+    far-new = next ∙ rw (far-seen a (a .seen head (a .within)), length-append)
+
+    far-kept : distanceOf n distance′ u ≡ distanceOf n distance u
+    unfolding distanceOf u
+    far-kept = rw (distance-kept (other (a .seen head (a .within))))
 
     queue-new : getD queue′ tail 0 ≡ column
     unfolding queue′
@@ -184,32 +213,35 @@ module _ {n : ℕ} {step : ℕ → ℕ → Bool} {queue parent : List ℕ} {tail
     seen-more (outside e) = outside e
     seen-more {w} (place l r) = place l (reached-more w r)
 
-    grown-new : Grown n step parent′ path′ column
+    grown-new : Grown n step parent′ distance′ path′ column
     unfolding u
     grown-new =
         record {
           from = rw parent-new (seen-more (a .seen head (a .within)));
           good = rw parent-new good;
           longer = rw parent-new (path-new ∙ rw (path-kept (a .seen head (a .within))));
+          far = rw (distance-new, path-new) far-new;
         }
 
-    grown-kept : {v : ℕ} → (v ≡ column → ⊥) → v < n → Reached parent v → Grown n step parent′ path′ v
+    grown-kept : {v : ℕ} → (v ≡ column → ⊥) → v < n → Reached parent v → Grown n step parent′ distance′ path′ v
     grown-kept {v} d l r =
         let g = a .grows v l r in
         record {
           from = rw (parent-kept d) (seen-more (g .from));
           good = rw (parent-kept d) (g .good);
           longer = rw (parent-kept d) (path-kept (place l r) ∙ g .longer ∙ rw (path-kept (g .from)));
+          far = rw (distance-kept d, path-kept (place l r)) (g .far);
         }
 
-    take : At n step (set queue tail column) (set parent column (getD queue head 0)) (tail + 1) head (column + 1)
-    unfolding u parent′ queue′
+    take : At n step (set queue tail column) (set parent column (getD queue head 0)) (set distance column far) (tail + 1) head (column + 1)
+    unfolding u parent′ distance′ queue′
     take =
         record {
           path = path′;
           start = path-kept (outside refl) ∙ a .start;
           root = queue-kept 0 (omega (arith, a .within)) ∙ a .root;
           slots = length-set parent column u ∙ a .slots;
+          distances = length-set distance column far ∙ a .distances;
           room = length-set queue tail column ∙ a .room;
           count = omega (arith, a .count, filled-set parent column u (omega (arith, a .slots)) new (omega (arith, u-small)));
           within = omega (arith, a .within);
@@ -243,23 +275,35 @@ module _ {n : ℕ} {step : ℕ → ℕ → Bool} {queue parent : List ℕ} {tail
         }
 
   -- the column's place and the row's by other names, as code has them
-  module _ {u v column : ℕ} (a : At n step queue parent tail head column) (eu : getD queue head 0 ≡ u) (ev : v ≡ column) (h : column < n) where
-    pub passed : Reached parent v ⊎ (step u v ≡ false) → At n step queue parent tail head (column + 1)
+  module _ {u v column : ℕ} (a : At n step queue parent distance tail head column) (eu : getD queue head 0 ≡ u) (ev : v ≡ column) (h : column < n) where
+    pub passed : Reached parent v ⊎ (step u v ≡ false) → At n step queue parent distance tail head (column + 1)
     passed w = skip a h (rw (eu, ← ev) w)
 
-    module _ (new : getD parent v 0 ≡ 255) (good : step u v ≡ true) where
-      pub taken : At n step (set queue tail v) (set parent v u) (tail + 1) head (column + 1)
-      taken = rw (← eu, ev) (take a h (rw (← ev) new) (rw (eu, ← ev) good))
+    module _ {far : ℕ} (next : far ≡ distanceOf n distance u + 1) (new : getD parent v 0 ≡ 255) (good : step u v ≡ true) where
+      pub taken : At n step (set queue tail v) (set parent v u) (set distance v far) (tail + 1) head (column + 1)
+      taken = rw (← eu, ev) (take a (rw eu next) h (rw (← ev) new) (rw (eu, ← ev) good))
 
       pub head-kept : getD (set queue tail v) head 0 ≡ u
       unfolding queue′
-      head-kept = rw ev (queue-kept a h (rw (← ev) new) (rw (eu, ← ev) good) head (a .within) ∙ eu)
+      head-kept = rw ev (queue-kept {far = far} a (rw eu next) h (rw (← ev) new) (rw (eu, ← ev) good) head (a .within) ∙ eu)
+
+      pub next-kept : far ≡ distanceOf n (set distance v far) u + 1
+      unfolding u distance′
+      next-kept = rw (← eu, ev) (rw (far-kept {far = far} a (rw eu next) h (rw (← ev) new) (rw (eu, ← ev) good)) (rw eu next))
 
       pub room-left : tail < 97
-      room-left = tail-small a h (rw (← ev) new) (rw (eu, ← ev) good)
+      room-left = tail-small {far = far} a (rw eu next) h (rw (← ev) new) (rw (eu, ← ev) good)
+
+pub distance-outside : (n : ℕ) (distance : List ℕ) (u : ℕ) → u ≡ n → distanceOf n distance u ≡ 0
+unfolding distanceOf
+distance-outside n distance u e = rw (eq-eqb u n e)
+
+pub distance-place : (n : ℕ) (distance : List ℕ) (u : ℕ) → u < n → distanceOf n distance u ≡ getD distance u 0
+unfolding distanceOf
+distance-place n distance u l = rw (ne-eqb u n (omega arith))
 
 -- the start: outside alone is in the queue
-pub begin : (n : ℕ) (step : ℕ → ℕ → Bool) → n ≤ 96 → At n step (set (replicate 97 0) 0 n) (replicate 96 255) 1 0 0
+pub begin : (n : ℕ) (step : ℕ → ℕ → Bool) → n ≤ 96 → At n step (set (replicate 97 0) 0 n) (replicate 96 255) (replicate 96 0) 1 0 0
 unfolding rankFrom
 begin n step small =
     record {
@@ -267,6 +311,7 @@ begin n step small =
       start = refl;
       root = refl;
       slots = length-replicate {A = ℕ} 96 255;
+      distances = length-replicate {A = ℕ} 96 0;
       room = length-replicate {A = ℕ} 97 0;
       count = rw (filled-none 96);
       within = omega arith;

@@ -1,10 +1,11 @@
 // The best chain over places: the shortest from an anchor to a signer, and among those the first by place number.
+use octets::octet;
 ghost use mathlib.Core.Path.{_≡_};
 ghost use mathlib.Core.List.{List, _++_};
 ghost use Prim.Native.Nat.{ℕ, _+_, _-_, _<_, _≤_};
 ghost use lib.ListN.{length, getD, replicate};
 ghost use Rattle.graph.specs.Chains.{graphOf};
-ghost use Rattle.graph.specs.Answer.{Answered};
+ghost use Rattle.graph.specs.Answer.{NoChain, Answered};
 ghost use Rattle.graph.specs.Search.{followed, Reached, Searched, At, Paths};
 
 // The length of a chain and its places, unused slots 255; length 0 where there is none.
@@ -13,17 +14,17 @@ pub struct Found {
     pub places: [u8; 96],
 }
 
+// What a search has found of each place: where the first of the paths to it comes from, 255 where no path reaches it, and its
+// distance, how many places that path has.
+struct Marks {
+    parent: [u8; 96],
+    distance: [u8; 96],
+}
+
 fn wide(x: u8) -> usize
     ensures { λ r. ⌜ r ≡ x ⌝ }
 {
     x as usize
-}
-
-// An octet of a table, 0 beyond its end.
-fn octet(table: &[u8], i: usize) -> u8
-    ensures { λ r. ⌜ r ≡ getD (now (table .entry)) i 0 ⌝ }
-{
-    if i < table.len() { table[i] } else { 0 }
 }
 
 // Whether a step goes to an anchor from outside, or from a place that is no signer to a link or a signer.
@@ -53,17 +54,20 @@ fn row(
     head: usize,
     queue: &mut [u8; 97],
     parent: &mut [u8; 96],
+    distance: &mut [u8; 96],
     last: usize,
 ) -> usize
     requires { ⌜ places ≤ 96 ⌝ }
-    requires { ⌜ At places (followed places (graphOf places (now roles) (now steps))) (now queue) (now parent) (last + 1) head 0 ⌝ }
-    ensures { λ r. ⌜ At places (followed places (graphOf places (now (roles .entry)) (now (steps .entry)))) (now (queue .exit)) (now (parent .exit)) (r + 1) head places ⌝ }
+    requires { ⌜ At places (followed places (graphOf places (now roles) (now steps))) (now queue) (now parent) (now distance) (last + 1) head 0 ⌝ }
+    ensures { λ r. ⌜ At places (followed places (graphOf places (now (roles .entry)) (now (steps .entry)))) (now (queue .exit)) (now (parent .exit)) (now (distance .exit)) (r + 1) head places ⌝ }
 {
     let u = wide(queue[head]);
+    let mut far = 1;
     if u < places {
         if octet(roles, u) == 3 {
             return last;
         }
+        far = distance[u] + 1;
     }
     let mut end = last;
     let mut column = 0;
@@ -73,6 +77,7 @@ fn row(
         if parent[v] == 255 {
             if follows(places, roles, steps, u, v) {
                 parent[v] = u as u8;
+                distance[v] = far;
                 end += 1;
                 queue[end] = v as u8;
             }
@@ -81,54 +86,46 @@ fn row(
     end
 }
 
-// The parent of each place that a path from outside reaches, by the first of its paths; 255 where there is none.
-fn search(places: usize, roles: &[u8], steps: &[u8]) -> [u8; 96]
+// Anchors have distance 1, and each other place one more than its parent.
+fn search(places: usize, roles: &[u8], steps: &[u8]) -> Marks
     requires { ⌜ places ≤ 96 ⌝ }
-    ensures { λ r. ⌜ Searched places (followed places (graphOf places (now (roles .entry)) (now (steps .entry)))) r ⌝ }
+    ensures { λ r. ⌜ Searched places (followed places (graphOf places (now (roles .entry)) (now (steps .entry)))) (r .parent) (r .distance) ⌝ }
 {
     let mut queue = [0u8; 97];
     let mut parent = [255u8; 96];
+    let mut distance = [0u8; 96];
     queue[0] = places as u8;
     let mut head = 0;
     let mut last = 0;
     loop {
-        last = row(places, roles, steps, head, &mut queue, &mut parent, last);
+        last = row(
+            places,
+            roles,
+            steps,
+            head,
+            &mut queue,
+            &mut parent,
+            &mut distance,
+            last,
+        );
         if head == last {
-            return parent;
+            return Marks { parent, distance };
         }
         head += 1;
     }
 }
 
-// How many places the path to the target has.
-fn path_length(places: usize, parent: [u8; 96], target: usize) -> usize
+// The path to the target, and 255 in the slots behind it.
+fn path_places(places: usize, parent: [u8; 96], distance: [u8; 96], target: usize) -> [u8; 96]
     requires { ⌜ places ≤ 96 ⌝ }
     requires { ⌜ target < places ⌝ }
     requires { ⌜ Reached parent target ⌝ }
-    requires { ⌜ Paths places parent ⌝ }
-    ensures { λ r. ⌜ ((s : Paths places parent) → r ≡ length (s .path target)) ⌝ }
-{
-    let mut place = target;
-    let mut count = 0;
-    while place != places {
-        count += 1;
-        place = parent[place] as usize;
-    }
-    count
-}
-
-// The path to the target, of so many places, and 255 in the slots behind it.
-fn path_places(places: usize, parent: [u8; 96], target: usize, count: usize) -> [u8; 96]
-    requires { ⌜ places ≤ 96 ⌝ }
-    requires { ⌜ target < places ⌝ }
-    requires { ⌜ Reached parent target ⌝ }
-    requires { ⌜ Paths places parent ⌝ }
-    requires { ⌜ ((s : Paths places parent) → count ≡ length (s .path target)) ⌝ }
-    ensures { λ r. ⌜ ((s : Paths places parent) → r ≡ s .path target ++ replicate (96 - length (s .path target)) 255) ⌝ }
+    requires { ⌜ Paths places parent distance ⌝ }
+    ensures { λ r. ⌜ ((s : Paths places parent distance) → r ≡ s .path target ++ replicate (96 - length (s .path target)) 255) ⌝ }
 {
     let mut slots = [255u8; 96];
     let mut place = target;
-    let mut left = count;
+    let mut left = distance[target] as usize;
     while place != places {
         left -= 1;
         slots[left] = place as u8;
@@ -137,8 +134,9 @@ fn path_places(places: usize, parent: [u8; 96], target: usize, count: usize) -> 
     slots
 }
 
-fn no_chain() -> Found
-    ensures { λ r. ⌜ (r .length ≡ 0) × (r .places ≡ replicate 96 255) ⌝ }
+// Length 0, and all slots 255.
+pub fn no_chain() -> Found
+    ensures { λ r. ⌜ NoChain r ⌝ }
 {
     Found {
         length: 0,
@@ -146,11 +144,11 @@ fn no_chain() -> Found
     }
 }
 
-// The chain to the target by a table of parents, whatever search filled it.
-fn chain_in(places: usize, roles: &[u8], parent: [u8; 96], target: usize) -> Found
+// The chain to the target by the tables, whatever search filled them.
+fn chain_in(places: usize, roles: &[u8], marks: Marks, target: usize) -> Found
     requires { ⌜ places ≤ 96 ⌝ }
-    requires { ⌜ Paths places parent ⌝ }
-    ensures { λ r. ⌜ ((steps : List ℕ) → Searched places (followed places (graphOf places (now (roles .entry)) steps)) parent → Answered (graphOf places (now (roles .entry)) steps) target r) ⌝ }
+    requires { ⌜ Paths places (marks .parent) (marks .distance) ⌝ }
+    ensures { λ r. ⌜ ((steps : List ℕ) → Searched places (followed places (graphOf places (now (roles .entry)) steps)) (marks .parent) (marks .distance) → Answered (graphOf places (now (roles .entry)) steps) target r) ⌝ }
 {
     if places <= target {
         return no_chain();
@@ -158,13 +156,14 @@ fn chain_in(places: usize, roles: &[u8], parent: [u8; 96], target: usize) -> Fou
     if octet(roles, target) != 3 {
         return no_chain();
     }
+    let parent = marks.parent;
     if parent[target] == 255 {
         return no_chain();
     }
-    let length = path_length(places, parent, target);
-    let slots = path_places(places, parent, target, length);
+    let distance = marks.distance;
+    let slots = path_places(places, parent, distance, target);
     Found {
-        length: length,
+        length: distance[target] as usize,
         places: slots,
     }
 }
@@ -177,6 +176,6 @@ pub fn chain_to(places: usize, roles: &[u8], steps: &[u8], target: usize) -> Fou
     if 96 < places {
         return no_chain();
     }
-    let parent = search(places, roles, steps);
-    chain_in(places, roles, parent, target)
+    let marks = search(places, roles, steps);
+    chain_in(places, roles, marks, target)
 }

@@ -6,8 +6,8 @@ use native.Mathlib.Nat.{add-assoc}
 use native.Mathlib.Omega.{arith}
 use lib.ListN.{length, getD, drop, length-drop, drop-of-length-le}
 use lib.Seq.{getD-drop, take-nil}
-use Rattle.der.specs.Octets.{number}
-use Rattle.der.proofs.Weights.{number-next}
+use Rattle.octets.specs.Octets.{number}
+use Rattle.octets.proofs.Weights.{number-next}
 use Rattle.image.specs.Index.{field, entryAt}
 
 pub field-next :

@@ -2,7 +2,7 @@
 use Prim.Native.Nat.{ℕ, _+_}
 use mathlib.Core.List.{List, [], _∷_, _++_}
 use lib.ListN.{length}
-use Rattle.der.specs.Octets.{big}
+use Rattle.octets.specs.Octets.{big}
 
 -- kind 1 anchor, 2 link, 3 DS, 4 CRL; flags 1 or 0 for an anchor, enabled or not, else 0
 pub record Item : Type 0 where

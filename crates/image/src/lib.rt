@@ -1,12 +1,13 @@
 // The trust image: its entries and day, one entry, the bytes of an item.
 use calendar::real_day;
+use octets::part;
 use refusal::Refusal;
 ghost use mathlib.Core.Path.{_≡_};
 ghost use mathlib.Core.Bool.{cond};
 ghost use Prim.Native.Nat.{_+_, _*_, _^_, _≤_, _<_};
 ghost use lib.Dec.{leb, eqb};
 ghost use lib.ListN.{length, take, drop};
-ghost use Rattle.der.specs.Octets.{number};
+ghost use Rattle.octets.specs.Octets.{number};
 ghost use Rattle.image.specs.Index.{field, indexStart, entryAt, entryIn};
 ghost use Rattle.image.specs.Rules.{fieldsGood, entryGood, sumOf};
 ghost use Rattle.image.specs.Answer.{openedOf, openedFor, placeOf, itemOf};
@@ -223,21 +224,6 @@ fn number_of(c: &[u8]) -> usize
         i += 1;
     }
     value
-}
-
-// As many octets as there are, from an offset on.
-pub fn part(image: &[u8], from: usize, size: usize) -> &[u8]
-    ensures { λ r. ⌜ now r ≡ take size (drop from (now (image .entry))) ⌝ }
-{
-    let n = image.len();
-    if n < from {
-        return &image[0..0];
-    }
-    if n - from < size {
-        return &image[from..];
-    }
-    let end = from + size;
-    &image[from..end]
 }
 
 // The sum of the lengths of entries in a row, if each is good.

@@ -1,3 +1,3 @@
 pub mod Sets
 pub mod Held
-pub mod Plains
+pub mod FastSets

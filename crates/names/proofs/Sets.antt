@@ -11,7 +11,7 @@ use Rattle.names.specs.declared.Seen.{Seen}
 use Rattle.names.specs.declared.Name.the-variants.{Holds, Shapeless}
 use Rattle.elements.specs.Elements.{foundAt, membersOf, inside}
 use Rattle.names.specs.Names.{attributeOf, oneMore, attributed, attributesOf, oneSet, afterSet, setsOf}
-use Rattle.names.specs.Looks.{Plain, Land}
+use Rattle.names.specs.Fast.{Another, Land}
 use Rattle.elements.proofs.Members.{members-none, members-more}
 
 -- one attribute, and those after it
@@ -63,8 +63,8 @@ module _ (s : List ℕ) (at end : ℕ) (seen : Seen) where
     sets-more h = rw (members-more s at end found) (simp h)
 
   -- a SET that has no countryName
-  pub sets-plain : {past : ℕ} → Plain s at end past → setsOf s (membersOf s at end) seen ≡ setsOf s (membersOf s past end) seen
-  sets-plain p = rw (← p .ends) (sets-more (p .found) (p .holds seen))
+  pub sets-other : {past : ℕ} → Another s at end past → setsOf s (membersOf s at end) seen ≡ setsOf s (membersOf s past end) seen
+  sets-other p = rw (← p .ends) (sets-more (p .found) (p .holds seen))
 
   -- a SET that has one countryName
   pub sets-country : {past : ℕ} → Land s at end past → setsOf s (membersOf s at end) seen ≡ setsOf s (membersOf s past end) (oneMore seen (record { tag = 0x13; at = at + 9; contents = at + 11; end = past }))

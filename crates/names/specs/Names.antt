@@ -13,7 +13,7 @@ use Rattle.names.specs.declared.Name.{Name}
 use Rattle.names.specs.declared.Name.the-variants.{Holds, Shapeless}
 use Rattle.names.specs.declared.Letters.{Letters}
 use Rattle.names.specs.declared.Letters.the-variants.{Two, Unfit}
-use Rattle.elements.specs.Octets.{alike}
+use Rattle.octets.specs.Alike.{alike}
 use Rattle.elements.specs.Elements.{foundAt, foundTagged, onFound, inside, contentsOf}
 
 -- 2.5.4.6

@@ -1,14 +1,14 @@
 // Names, and the countryName in one.
-mod looks;
+mod fast;
 
 use elements::Element;
 use elements::Found;
 use elements::contents;
 use elements::element_at;
 use elements::element_tagged;
-use elements::same;
-use looks::country_set;
-use looks::plain_set;
+use elements::holds;
+use fast::country_set;
+use fast::other_set;
 ghost use mathlib.Core.Path.{_≡_};
 ghost use Rattle.names.specs.Names.{attributeOf, oneMore, oneSet, nameOf, isCapital, lettersOf, firstLetter, secondLetter};
 
@@ -48,7 +48,7 @@ pub fn name_of(item: &[u8], e: Element) -> Name
     let mut seen = Seen::Never;
     let mut at = e.contents;
     loop {
-        let past = plain_set(item, at, e.end);
+        let past = other_set(item, at, e.end);
         if 0 < past {
             at = past;
             continue;
@@ -117,7 +117,7 @@ fn attribute_of(item: &[u8], e: Element) -> Attribute
     if value.end != e.end {
         return Attribute::Misshapen;
     }
-    if same(contents(item, oid), b"\x55\x04\x06") {
+    if holds(item, oid, b"\x55\x04\x06") {
         return Attribute::Country(value);
     }
     Attribute::Other

@@ -2,7 +2,7 @@
 use Prim.Native.Nat.{ℕ, _+_}
 use mathlib.Core.Path.{_≡_, refl, sym, ap, subst, _∙_}
 use mathlib.Core.Bool.{true, false, true≢false}
-use mathlib.Core.List.{List}
+use mathlib.Core.List.{List, [], _∷_}
 use native.Mathlib.Omega.{arith}
 use borrow.Author.Tests.{eqb-true}
 use lib.Dec.{eqb}
@@ -20,9 +20,11 @@ use Rattle.elements.specs.declared.envelopes.Envelope.the-variants.{Parts, Form
 use Rattle.elements.specs.Elements.{foundTagged}
 use Rattle.elements.specs.Envelope.{envelopeOf}
 use Rattle.elements.specs.Steps.{onlyOf}
+use Rattle.parts.specs.Places.{numbered, along, placeIn}
 use Rattle.parts.specs.Shown.{signed}
 use Rattle.parts.proofs.Inverse.{went, kept, tagged-found}
 use Rattle.parts.proofs.Spans.{Spans, Member, first-of}
+use Rattle.parts.proofs.Standing.{row-here, part-at, members-place}
 
 -- a sound tree with a constructed tag is a node, and one with a primitive tag a leaf
 pub is-node : (tree : Tree) (tag : ℕ) → constructed tag ≡ true → Sound paper tree → tagOf tree ≡ tag → (members : Trees) × (tree ≡ node tag members)
@@ -48,7 +50,7 @@ pub record Tagged (s : List ℕ) (from end tag : ℕ) (trees : Trees) (e : Eleme
   pub tree : Tree
   pub rest : Trees
   pub split : trees ≡ more tree rest
-  pub member : Member s end e tree rest
+  pub member : Member s from end e tree rest
   pub named : tagOf tree ≡ tag
 
 pub tagged-first :
@@ -67,10 +69,12 @@ members-inside s from end tag trees e built t =
     let n = is-node (t .tree) tag built (t .member .sound) (t .named) in (n .0, n .1, t .member .inside tag (n .0) (n .1))
 
 -- where the first tree reaches the end of a stretch, it is the only one
+pub rest-none : {s : List ℕ} {from end : ℕ} {e : Element} {tree : Tree} {rest : Trees} → Member s from end e tree rest → e .end ≡ end → rest ≡ none
+rest-none {s} {from} {end} {e} {tree} {rest} m h = span-none s end rest (subst (λ (n : ℕ). Spans s n end rest) h (m .next))
+
 pub only-tree :
     (s : List ℕ) (from end tag : ℕ) (trees : Trees) (e : Element) (t : Tagged s from end tag trees e) → e .end ≡ end → trees ≡ more (t .tree) none
-only-tree s from end tag trees e t h =
-    t .split ∙ ap (more (t .tree)) (span-none s end (t .rest) (subst (λ (n : ℕ). Spans s n end (t .rest)) h (t .member .next)))
+only-tree s from end tag trees e t h = t .split ∙ ap (more (t .tree)) (rest-none (t .member) h)
 
 -- the one member of an element
 pub only-inside :
@@ -96,6 +100,7 @@ pub record Enveloped (s : List ℕ) (tree : Tree) (tbs : Element) : Type 0 where
   pub signature : Tree
   pub shape : tree ≡ signed members algorithm signature
   pub span : Spans s (tbs .contents) (tbs .end) members
+  pub each : (k : ℕ) → placeIn tree (0 ∷ k ∷ []) ≡ numbered members k (tbs .contents)
 
 shape-of :
     {tree outermost inner last second : Tree} {after members list first rest : Trees}
@@ -107,11 +112,11 @@ parts-same : {tbs outer x y : Element} → _≡_ {A = Envelope} (Parts x y) (Par
 parts-same e = cc
 
 -- where the outermost tree's stretch was left, the envelope tells its members
-pub enveloped :
+pub envelope-members :
     (s : List ℕ) (tree : Tree) (tbs outer : Element) → Spans s 0 (length s) (more tree none) → envelopeOf s ≡ Parts tbs outer
     → Enveloped s tree tbs
-unfolding envelopeOf constructed
-enveloped s tree tbs outer root e =
+unfolding envelopeOf constructed placeIn along numbered
+envelope-members s tree tbs outer root e =
     let a = went (foundTagged s 0 (length s) 0x30) Formless _ (Parts tbs outer) formless e in
     let o = tagged-first s 0 (length s) 0x30 (more tree none) (a .element) root (a .there) in
     let i = members-inside s 0 (length s) 0x30 (more tree none) (a .element) refl o in
@@ -124,12 +129,16 @@ enveloped s tree tbs outer root e =
     let v = tagged-first s (c .element .end) (a .element .end) 0x03 (u .rest) (d .element) (u .member .next) (d .there) in
     let k = kept (eqb (d .element .end) (a .element .end)) _ Formless (Parts tbs outer) formless (d .then) in
     let gone = only-tree s (c .element .end) (a .element .end) 0x03 (u .rest) (d .element) v (eqb-true _ _ (k .0)) in
+    let outermost = row-here (o .member) (o .split) in
+    let first = part-at (row-here (t .member) (t .split)) (members-place outermost 0x30 (i .0) (i .1) 0) in
+    let each = members-place first 0x30 (j .0) (j .1) in
     record {
       members = j .0;
       algorithm = u .tree;
       signature = v .tree;
       shape = shape-of (o .split) (i .1) (t .split) (j .1) (u .split) gone;
       span = subst (λ (x : Element). Spans s (x .contents) (x .end) (j .0)) (parts-same (k .1)) (j .2);
+      each = subst (λ (x : Element). (n : ℕ) → placeIn tree (0 ∷ n ∷ []) ≡ numbered (j .0) n (x .contents)) (parts-same (k .1)) each;
     }
   where
     formless : _≡_ {A = Envelope} Formless (Parts tbs outer) → ⊥

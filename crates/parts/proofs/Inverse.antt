@@ -1,6 +1,6 @@
 -- What must have been found where a chain of steps came to its end: each step, by going back from the answer.
 use Prim.Native.Nat.{ℕ}
-use mathlib.Core.Path.{_≡_, refl}
+use mathlib.Core.Path.{_≡_, refl, _∙_}
 use mathlib.Core.Bool.{Bool, true, false, false≢true, cond, _&&_}
 use mathlib.Core.List.{List}
 use native.Mathlib.Omega.{arith}
@@ -17,16 +17,17 @@ use Rattle.names.specs.declared.Name.{Name}
 use Rattle.names.specs.declared.Name.the-variants.{Holds, Shapeless}
 use Rattle.names.specs.declared.Seen.{Seen}
 use Rattle.names.specs.Names.{onName}
+use Rattle.times.specs.Times.{timeTag, timeAt}
 
 -- the element that a step went on from
-pub record Went {A : Type 0} (f : Found) (next : Element → A) (r : A) : Type 0 where
+pub record Onward {A : Type 0} (f : Found) (next : Element → A) (r : A) : Type 0 where
   pub element : Element
   pub there : f ≡ One element
   pub then : next element ≡ r
 
 pub went :
     {A : Type 0} (f : Found) (missing : A) (next : Element → A) (r : A) → (missing ≡ r → ⊥) → onFound f missing next ≡ r
-    → Went f next r
+    → Onward f next r
 unfolding onFound
 went Missing missing next r other e = absurd (other e)
 went (One element) missing next r other e = record { element = element; there = refl; then = e }
@@ -56,6 +57,16 @@ tagged-found s from end tag e p = go (foundAt s from end) p
         same : (eqb (x .tag) tag ≡ true) × (_≡_ {A = Found} (One x) (One e)) → (_≡_ {A = Found} (One x) (One e)) × (e .tag ≡ tag)
         same h = let t : x .tag ≡ tag = eqb-true _ _ (h .0) in let g = h .1 in (g, cc)
 
+-- an element found by the tag of a time
+pub timed-found : (s : List ℕ) (from end : ℕ) (e : Element) → timeAt s from end ≡ One e → foundAt s from end ≡ One e
+unfolding timeAt
+timed-found s from end e p =
+    let f = went (foundAt s from end) Missing _ (One e) missing p in
+    f .there ∙ kept (timeTag (f .element .tag)) (One (f .element)) Missing (One e) missing (f .then) .1
+  where
+    missing : _≡_ {A = Found} Missing (One e) → ⊥
+    missing n = let z : _≡_ {A = ℕ} 0 1 = cc in omega arith
+
 -- the parts of the envelope that a shape went on from, and the countryNames of a name
 pub by-envelope :
     {A : Type 0} (v : Envelope) (formless : A) (k : Element → Element → A) (r : A) → (formless ≡ r → ⊥) → onEnvelope v formless k ≡ r
@@ -65,7 +76,8 @@ by-envelope envelope.Formless formless k r other e = absurd (other e)
 by-envelope (envelope.Parts tbs outer) formless k r other e = (tbs, outer, refl, e)
 
 pub by-name :
-    {A : Type 0} (v : Name) (shapeless : A) (k : Seen → A) (r : A) → (shapeless ≡ r → ⊥) → onName v shapeless k ≡ r → (seen : Seen) × (k seen ≡ r)
+    {A : Type 0} (v : Name) (shapeless : A) (k : Seen → A) (r : A) → (shapeless ≡ r → ⊥) → onName v shapeless k ≡ r
+    → (seen : Seen) × (v ≡ Holds seen) × (k seen ≡ r)
 unfolding onName
 by-name Shapeless shapeless k r other e = absurd (other e)
-by-name (Holds seen) shapeless k r other e = (seen, e)
+by-name (Holds seen) shapeless k r other e = (seen, refl, e)

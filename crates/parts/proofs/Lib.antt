@@ -1,9 +1,14 @@
 pub mod Spans
+pub mod Members
+pub mod Standing
 pub mod Inverse
+pub mod Octets
 pub mod Enveloped
 pub mod Certificates
 pub mod Extensions
 pub mod KeyIdentifiers
 pub mod Serials
 pub mod Lists
+pub mod Countries
+pub mod Unique
 pub mod Theorems

@@ -11,10 +11,10 @@ use lib.Dec.{leb, ltb}
 use lib.ListN.{length, getD}
 use Rattle.der.specs.Contents.{integerGood, contentsGood}
 use Rattle.der.specs.Forms.{paper}
-use Rattle.der.specs.Octets.{number, twos}
+use Rattle.octets.specs.Octets.{number, twos}
 use Rattle.tree.specs.Tree.{leaf, Sound, sound-leaf}
 use Rattle.tree.proofs.Numbers.{power-positive}
-use Rattle.elements.specs.Octets.{alike}
+use Rattle.octets.specs.Alike.{alike}
 use Rattle.certificate.specs.Rules.{serialGood}
 use Rattle.parts.specs.Serial.{Positive}
 use Rattle.parts.proofs.Inverse.{both}

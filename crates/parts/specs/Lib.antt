@@ -1,2 +1,4 @@
+pub mod Places
+pub mod Countries
 pub mod Shown
 pub mod Serial

@@ -4,7 +4,7 @@ use mathlib.Core.Path.{_≡_}
 use mathlib.Core.List.{List}
 use lib.IntN.{pos}
 use lib.ListN.{length}
-use Rattle.der.specs.Octets.{twos}
+use Rattle.octets.specs.Octets.{twos}
 
 -- one to 20 octets which, as two's complement, write a number above zero
 pub record Positive (contents : List ℕ) : Type 0 where

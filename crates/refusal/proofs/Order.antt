@@ -1,6 +1,6 @@
 -- The first rule broken is told by going past those that hold.
 use Prim.Native.Nat.{ℕ, zero, suc, _+_, _-_, _≤_, _<_}
-use mathlib.Core.Bool.{Bool, true, false}
+use mathlib.Core.Bool.{Bool, true, false, true≢false, false≢true}
 use mathlib.Core.List.{List, [], _∷_, _++_}
 use mathlib.Core.Logic.{⊎-elim}
 use mathlib.Core.Path.{_≡_, refl, sym}
@@ -63,3 +63,26 @@ told-smallest first (true ∷ xs) {k} h g =
     let rest : Smallest (suc first) xs k = told-smallest (suc first) xs h g in
     let there : k - first ≡ suc (k - suc first) = omega (arith, rest .numbered) in
     record { numbered = omega (arith, rest .numbered); listed = omega (arith, rest .listed); broken = rw there (rest .broken); smaller = earlier first xs (rest .smaller) }
+
+-- and the smallest that is broken is the one that is told
+pub smallest-told : (first : ℕ) (xs : List Bool) {k : ℕ} → Smallest first xs k → firstBroken first xs ≡ k
+unfolding firstBroken
+smallest-told first [] least = absurd (omega (arith, least .numbered, least .listed))
+smallest-told first (false ∷ xs) {k} least =
+    ⊎-elim
+    (λ (e : first ≡ k). e)
+    (λ (l : first < k). let here : first - first ≡ 0 = omega arith in absurd (false≢true (rw here at (least .smaller first (omega arith) l))))
+    (eq-or-lt-of-le (least .numbered))
+smallest-told first (true ∷ xs) {k} least =
+    ⊎-elim
+    (λ (e : first ≡ k). let here : k - first ≡ 0 = omega arith in absurd (true≢false (rw here at (least .broken))))
+    (λ (l : first < k).
+    let there : k - first ≡ suc (k - suc first) = omega arith in
+    smallest-told (suc first) xs
+    record {
+      numbered = l;
+      listed = omega (arith, least .listed);
+      broken = rw there at (least .broken);
+      smaller = λ j low high. let past : j - first ≡ suc (j - suc first) = omega arith in rw past at (least .smaller j (omega arith) high);
+    })
+    (eq-or-lt-of-le (least .numbered))

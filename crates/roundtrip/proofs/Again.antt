@@ -7,7 +7,7 @@ use native.Mathlib.Omega.{arith}
 use borrow.Author.Tests.{eqb-true}
 use lib.ListN.{length, take, drop, length-append, length-drop, take-append-drop}
 use lib.Seq.{drop-drop, length-take-le}
-use Rattle.der.specs.Octets.{Octets}
+use Rattle.octets.specs.Octets.{Octets}
 use Rattle.tree.proofs.Cases.{by-test}
 use Rattle.tree.proofs.Numbers.{octets-take, octets-drop}
 use Rattle.image.specs.declared.IndexEntry.{IndexEntry}

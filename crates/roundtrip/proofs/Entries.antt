@@ -6,7 +6,7 @@ use native.Mathlib.Nat.{mod-eq-of-lt}
 use native.Mathlib.Omega.{arith}
 use lib.ListN.{length, take, drop, length-drop}
 use lib.Seq.{take-add}
-use Rattle.der.specs.Octets.{Octets, no-octet, octet, number, big}
+use Rattle.octets.specs.Octets.{Octets, no-octet, octet, number, big}
 use Rattle.tree.proofs.Numbers.{number-big, octets-drop}
 use Rattle.image.specs.declared.IndexEntry.{IndexEntry}
 use Rattle.image.specs.Items.{entryBytes}

@@ -6,7 +6,7 @@ use native.Mathlib.Nat.{mod-eq-of-lt}
 use native.Mathlib.Omega.{arith}
 use lib.ListN.{length, take, drop, length-drop}
 use lib.Seq.{drop-drop, drop-at, take-at, length-take-le}
-use Rattle.der.specs.Octets.{Octets, number, big}
+use Rattle.octets.specs.Octets.{Octets, number, big}
 use Rattle.tree.proofs.Numbers.{length-big, number-big, big-number, octets-take, octets-drop}
 use Rattle.image.specs.Index.{field}
 

@@ -1,7 +1,6 @@
 pub mod Fields
 pub mod Entries
 pub mod Sizes
-pub mod FirstBroken
 pub mod Trailer
 pub mod Opening
 pub mod Back

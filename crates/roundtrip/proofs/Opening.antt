@@ -2,14 +2,15 @@
 use mathlib.Core.Path.{_≡_, refl, ap}
 use mathlib.Core.Bool.{true, and-eq-true-iff}
 use mathlib.Core.List.{List}
-use Prim.Native.Nat.{ℕ, _+_, _-_, _*_, _≤_}
+use Prim.Native.Nat.{ℕ, zero, suc, _+_, _*_, _≤_}
 use native.Mathlib.Omega.{arith}
 use borrow.Author.Tests.{leb-true, eqb-true, le-leb, eq-eqb, ne-eqb}
 use lib.Dec.{leb}
 use lib.ListN.{length, getD}
 use Rattle.refusal.specs.declared.Refusal.{Refusal}
 use Rattle.refusal.specs.declared.Refusal.the-variants as refusal
-use Rattle.refusal.specs.Rules.{firstBroken}
+use Rattle.refusal.specs.Rules.{firstBroken, Smallest}
+use Rattle.refusal.proofs.Order.{all-hold, told-smallest, smallest-told}
 use Rattle.calendar.specs.Days.{realDay}
 use Rattle.image.specs.declared.Opened.{Opened}
 use Rattle.image.specs.declared.Opened.the-variants.{Image, Refused}
@@ -18,8 +19,6 @@ use Rattle.image.specs.declared.Total.the-variants.{Sum, Unfit}
 use Rattle.image.specs.Index.{indexStart, entryCount, versionIn, dayIn}
 use Rattle.image.specs.Rules.{rule1, rule2, rule3, rule4, rule5, rule6, rule7, rules, totalOf, fit, summed}
 use Rattle.image.specs.Answer.{graded, openedOf}
-use Rattle.roundtrip.specs.Smallest.{Smallest}
-use Rattle.roundtrip.proofs.FirstBroken.{First, none, some, first, false-within, one-first}
 
 -- what the seven rules say
 pub record Holds (s : List ℕ) : Type 0 where
@@ -66,19 +65,18 @@ rules-hold s all =
 
 pub data Answer (s : List ℕ) (a : Opened) : Type 0 where
   good : a ≡ Image (entryCount s) (dayIn s) → Holds s → Answer s a
-  broken : (k : ℕ) → a ≡ Refused (refusal.Image k) → Smallest (rules s) k → Answer s a
+  broken : (k : ℕ) → a ≡ Refused (refusal.Image k) → Smallest 1 (rules s) k → Answer s a
 
-graded-answer : (s : List ℕ) (k : ℕ) → First 1 (rules s) k → Answer s (graded k (Image (entryCount s) (dayIn s)))
+graded-answer : (s : List ℕ) (k : ℕ) → firstBroken 1 (rules s) ≡ k → Answer s (graded k (Image (entryCount s) (dayIn s)))
 unfolding graded
-graded-answer s k (none e all) = good (rw e) (rules-hold s all)
-graded-answer s k (some i e bad before) =
-    let place : k - 1 ≡ i = omega arith in
-    broken k (rw (ne-eqb k 0 (λ z. omega arith)))
-    (record { some = omega arith; last = omega (arith, false-within (rules s) i bad); broken = rw place bad; before = λ j l. before j (omega arith) })
+graded-answer s zero e = good refl (rules-hold s (all-hold 1 (rules s) (omega arith) e))
+graded-answer s (suc k) e =
+    let some : suc k ≡ 0 → ⊥ = omega arith in
+    broken (suc k) (rw (ne-eqb (suc k) 0 some)) (told-smallest 1 (rules s) e some)
 
 pub answer : (s : List ℕ) → Answer s (openedOf s)
 unfolding openedOf
-answer s = graded-answer s _ (first 1 (rules s))
+answer s = graded-answer s (firstBroken 1 (rules s)) refl
 
 pub opened-holds : (s : List ℕ) (n day : ℕ) → openedOf s ≡ Image n day → Holds s × (n ≡ entryCount s) × (day ≡ dayIn s)
 opened-holds s n day e = told (openedOf s) e (answer s)
@@ -87,21 +85,21 @@ opened-holds s n day e = told (openedOf s) e (answer s)
     told a e (good g h) = (h, cc, cc)
     told a e (broken k g least) = let z : _≡_ {A = ℕ} 0 1 = cc in absurd (omega arith)
 
-pub opened-refused : (s : List ℕ) (r : Refusal) → openedOf s ≡ Refused r → (k : ℕ) × (r ≡ refusal.Image k) × Smallest (rules s) k
+pub opened-refused : (s : List ℕ) (r : Refusal) → openedOf s ≡ Refused r → (k : ℕ) × (r ≡ refusal.Image k) × Smallest 1 (rules s) k
 opened-refused s r e = told (openedOf s) e (answer s)
   where
-    told : (a : Opened) → a ≡ Refused r → Answer s a → (k : ℕ) × (r ≡ refusal.Image k) × Smallest (rules s) k
+    told : (a : Opened) → a ≡ Refused r → Answer s a → (k : ℕ) × (r ≡ refusal.Image k) × Smallest 1 (rules s) k
     told a e (good g h) = let z : _≡_ {A = ℕ} 0 1 = cc in absurd (omega arith)
     told a e (broken k g least) = (k, cc, least)
 
-pub refused-smallest : (s : List ℕ) (k : ℕ) → openedOf s ≡ Refused (refusal.Image k) → Smallest (rules s) k
+pub refused-smallest : (s : List ℕ) (k : ℕ) → openedOf s ≡ Refused (refusal.Image k) → Smallest 1 (rules s) k
 refused-smallest s k e =
     let (n, same, least) = opened-refused s (refusal.Image k) e in
     let number : n ≡ k = cc in
     rw number at least
 
-pub smallest-refused : (s : List ℕ) (k : ℕ) → Smallest (rules s) k → openedOf s ≡ Refused (refusal.Image k)
+pub smallest-refused : (s : List ℕ) (k : ℕ) → Smallest 1 (rules s) k → openedOf s ≡ Refused (refusal.Image k)
 unfolding openedOf graded
 smallest-refused s k least =
-    let same : firstBroken 1 (rules s) ≡ k = one-first (rules s) k _ least (first 1 (rules s)) in
-    rw (same, ne-eqb k 0 (λ z. omega (arith, least .some)))
+    let same : firstBroken 1 (rules s) ≡ k = smallest-told 1 (rules s) least in
+    rw (same, ne-eqb k 0 (λ z. omega (arith, least .numbered)))

@@ -4,11 +4,13 @@ use mathlib.Core.Bool.{true}
 use mathlib.Core.Logic.{_↔_}
 use mathlib.Core.List.{List}
 use Prim.Native.Nat.{ℕ, _≤_, _<_}
+use native.Mathlib.Omega.{arith}
 use lib.ListN.{length, getD, take, drop}
 use lib.Seq.{take-at, drop-at}
 use Rattle.refusal.specs.declared.Refusal.{Refusal}
 use Rattle.refusal.specs.declared.Refusal.the-variants.{Image as Broken}
-use Rattle.der.specs.Octets.{Octets}
+use Rattle.refusal.specs.Rules.{Smallest}
+use Rattle.octets.specs.Octets.{Octets}
 use Rattle.image.specs.declared.Opened.the-variants as image
 use Rattle.image.specs.declared.Opened.the-variants.{Image}
 use Rattle.image.specs.declared.Place.the-variants.{Is}
@@ -20,7 +22,6 @@ use Rattle.writer.specs.declared.Written.the-variants.{Length, Refused}
 use Rattle.writer.specs.Writing.{argumentsGood, sizeOf, writtenOf, itemsOf, onWritten, outputOf}
 use Rattle.roundtrip.specs.Good.{GoodItems, Fits}
 use Rattle.roundtrip.specs.Columns.{kindsOf, flagsOf, lengthsOf}
-use Rattle.roundtrip.specs.Smallest.{Smallest}
 use Rattle.roundtrip.specs.Tells.{Tells}
 use Rattle.roundtrip.proofs.Opening.{opened-holds, opened-refused, refused-smallest, smallest-refused}
 use Rattle.roundtrip.proofs.Back.{image-back}
@@ -123,7 +124,7 @@ writer-again s n day old o e h =
     rw same at (writer-writes (itemsIn s) day old fits (rw same h))
 
 -- An image is refused by rule k exactly when it breaks that rule and holds each before it.
-pub rule-smallest : (s : List ℕ) (k : ℕ) → (openedOf s ≡ image.Refused (Broken k)) ↔ Smallest (rules s) k
+pub rule-smallest : (s : List ℕ) (k : ℕ) → (openedOf s ≡ image.Refused (Broken k)) ↔ Smallest 1 (rules s) k
 rule-smallest s k = (refused-smallest s k, smallest-refused s k)
 
 -- No other refusal is given than by a rule, of those numbered 1 to 7.
@@ -133,7 +134,7 @@ pub rule-refusals :
 unfolding rules
 rule-refusals s refusal e =
     let (k, same, least) = opened-refused s refusal e in
-    (k, same, least .some, least .last)
+    (k, same, least .numbered, omega (arith, least .listed))
 
 -- The place of a readable image holds the item at that place of its item list: kind, flags, length and octets.
 pub place-item :

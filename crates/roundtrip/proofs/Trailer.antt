@@ -6,7 +6,7 @@ use native.Mathlib.Nat.{mod-eq-of-lt}
 use native.Mathlib.Omega.{arith}
 use lib.ListN.{length, take, drop, length-drop}
 use lib.Seq.{take-add, take-all, drop-drop}
-use Rattle.der.specs.Octets.{Octets, big}
+use Rattle.octets.specs.Octets.{Octets, big}
 use Rattle.tree.proofs.Numbers.{number-big, octets-drop}
 use Rattle.image.specs.Items.{trailerBytes}
 use Rattle.image.specs.Index.{field, indexStart, entryCount, versionIn, dayIn}

@@ -4,7 +4,7 @@ use mathlib.Core.Path.{_≡_}
 use mathlib.Core.Bool.{true}
 use mathlib.Core.List.{List, [], _∷_}
 use lib.ListN.{length}
-use Rattle.der.specs.Octets.{Octets}
+use Rattle.octets.specs.Octets.{Octets}
 use Rattle.calendar.specs.Days.{realDay}
 use Rattle.image.specs.Items.{Item, imageBytes}
 use Rattle.image.specs.Rules.{fieldsGood}

@@ -1,4 +1,3 @@
 pub mod Good
-pub mod Smallest
 pub mod Tells
 pub mod Columns

@@ -9,7 +9,7 @@ use Rattle.der.specs.declared.walking.Read.the-variants.{Past, Fault}
 use Rattle.der.specs.declared.walking.Walked.{Walked}
 use Rattle.der.specs.declared.walking.Walked.the-variants.{Passed, Refused}
 use Rattle.der.specs.Forms.{Forms}
-use Rattle.der.specs.Octets.{Octets}
+use Rattle.octets.specs.Octets.{Octets}
 use Rattle.der.specs.Walk.{elementAt, listAt}
 use Rattle.tree.specs.Tree.{Tree, leaf, node, Trees, none, more, encoded, encodedAll, size, sizeAll, depth, depthAll, Sound, sound-leaf, sound-node, SoundAll, sound-none, sound-more}
 use Rattle.tree.proofs.Numbers.{octets-take, octets-drop}

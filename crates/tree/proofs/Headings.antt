@@ -11,7 +11,7 @@ use lib.ListN.{length, getD, take, drop, length-append}
 use lib.Seq.{take-at, drop-at, take-append-seam}
 use Rattle.der.specs.declared.heading.Heading.the-variants.{Header}
 use Rattle.der.specs.Forms.{Forms}
-use Rattle.der.specs.Octets.{number, big}
+use Rattle.octets.specs.Octets.{number, big}
 use Rattle.der.specs.Heading.{identifierGood, within, smallest, long, headingOf}
 use Rattle.tree.specs.Tree.{lengthWidth, lengthEncoded, tagged}
 use Rattle.tree.proofs.Cases.{by-test, cond-by}

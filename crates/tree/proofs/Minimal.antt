@@ -9,7 +9,7 @@ use borrow.Author.Tests.{lt-ltb, eq-eqb, ne-eqb, ltb-true, ltb-false, leb-true, 
 use lib.Dec.{ltb, leb, eqb}
 use lib.IntN.{ℤ, pos, negsuc, _-ℤ_}
 use lib.ListN.{length, getD}
-use Rattle.der.specs.Octets.{Octets, octet, number, twos}
+use Rattle.octets.specs.Octets.{Octets, octet, number, twos}
 use Rattle.der.specs.Contents.{integerGood}
 use Rattle.tree.proofs.Cases.{by-test}
 use Rattle.tree.proofs.Numbers.{number-below, number-one}

@@ -6,7 +6,7 @@ use native.Mathlib.Nat.{pow-succ', one-le-pow, mod-lt, mod-eq-of-lt, mod-one}
 use native.Mathlib.Omega.{arith}
 use lib.Arith.{digits-lt, digits-div, digits-mod, mod-mul}
 use lib.ListN.{length, take, drop}
-use Rattle.der.specs.Octets.{Octets, no-octet, octet, number, big}
+use Rattle.octets.specs.Octets.{Octets, no-octet, octet, number, big}
 
 pub power-positive : (k : ℕ) → 0 < 256 ^ k
 power-positive k = one-le-pow k 256 (omega arith)

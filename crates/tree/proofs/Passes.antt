@@ -10,7 +10,7 @@ use Rattle.der.specs.declared.walking.Read.the-variants.{Past}
 use Rattle.der.specs.declared.walking.Walked.{Walked}
 use Rattle.der.specs.declared.walking.Walked.the-variants.{Passed, Refused}
 use Rattle.der.specs.Forms.{Forms}
-use Rattle.der.specs.Octets.{Octets}
+use Rattle.octets.specs.Octets.{Octets}
 use Rattle.der.specs.Walk.{elementAt, whole, walkOf}
 use Rattle.tree.specs.Tree.{Tree, encoded, Encodes}
 use Rattle.tree.proofs.Reading.{reads}

@@ -1,9 +1,9 @@
 -- What the walk means, as theorems over the definitions.
-use mathlib.Core.Path.{_≡_, refl, sym, _∙_, ap, subst}
+use mathlib.Core.Path.{_≡_, refl, _∙_, ap, subst}
 use mathlib.Core.Bool.{true}
 use mathlib.Core.Logic.{_↔_}
-use mathlib.Core.List.{List, [], _++_, append-assoc, append-nil}
-use Prim.Native.Nat.{ℕ, zero, suc, _+_, _-_, _*_, _≤_, _<_}
+use mathlib.Core.List.{List, [], _++_, append-assoc}
+use Prim.Native.Nat.{ℕ, _+_, _-_, _*_, _≤_}
 use native.Mathlib.Omega.{arith}
 use lib.IntN.{ℤ}
 use lib.ListN.{length, take, drop, length-append}
@@ -12,21 +12,20 @@ use Rattle.der.specs.declared.walking.Walked.the-variants.{Passed}
 use Rattle.der.specs.declared.stepping.Step.the-variants.{At, Nothing}
 use Rattle.der.specs.declared.numbers.Number.the-variants.{Value}
 use Rattle.der.specs.Forms.{Forms}
-use Rattle.der.specs.Octets.{Octets, twos}
+use Rattle.octets.specs.Octets.{Octets, twos}
 use Rattle.der.specs.Contents.{integerGood}
 use Rattle.der.specs.Walk.{elementAt, listAt, walkOf, counted}
 use Rattle.der.specs.Heading.{headingOf}
 use Rattle.der.specs.Member.{placed, memberOf}
 use Rattle.der.specs.Integer.{integerOf}
-use Rattle.tree.specs.Tree.{Tree, node, Trees, none, more, encoded, encodedAll, tagOf, contentsOf, headerOf, placesOf, onward, stepsOf, Sound, SoundAll, sound-more, Encodes, EncodesInteger}
+use Rattle.tree.specs.Tree.{Tree, Trees, none, more, encoded, encodedAll, tagOf, contentsOf, headerOf, Sound, Encodes, EncodesInteger}
 use Rattle.tree.proofs.Answers.{walk-by}
 use Rattle.tree.proofs.Bounds.{Bound, ReadBound, element-bound}
 use Rattle.tree.proofs.Fuel.{element-fuel, list-fuel}
 use Rattle.tree.proofs.Passes.{passed-encodes, encodes-passed}
 use Rattle.tree.proofs.Same.{tree-one}
 use Rattle.tree.proofs.Parts.{encoded-parts, length-parts, heading-tree}
-use Rattle.tree.proofs.Reading.{encoded-some}
-use Rattle.tree.proofs.Members.{part-at, member-at, length-more}
+use Rattle.tree.proofs.Members.{part-at, member-at}
 use Rattle.tree.proofs.Integers.{NumberEncodes, integer-encodes, encodes-integer, one-item}
 use Rattle.tree.proofs.Minimal.{twos-same}
 
@@ -98,33 +97,6 @@ step-contents before behind tree trees =
     omega (arith, length-parts tree) in
     rw (span, step-inside before behind tree trees, ← length-append before (headerOf tree))
     (part-at (before ++ headerOf tree) (contentsOf tree) (encodedAll trees ++ behind) (length (contentsOf tree)) refl)
-
--- Stepping through members gives the tree's members in order, with their offsets, and then ends.
-pub steps-members :
-    (forms : Forms) → forms .lengthOctets ≤ 3 → (members : Trees) (fuel : ℕ) (before behind : List ℕ) → SoundAll forms members
-    → length (encodedAll members) < fuel
-    → stepsOf fuel forms (before ++ encodedAll members ++ behind) (length before) (length before + length (encodedAll members))
-    ≡ placesOf (length before) members
-unfolding stepsOf placesOf onward
-steps-members forms limit members zero before behind sound enough = absurd (omega arith)
-steps-members forms limit none (suc fuel) before behind sound enough = rw (step-none forms before behind)
-steps-members forms limit (more tree trees) (suc fuel) before behind (sound-more sound rest) enough =
-    let start : length (before ++ encoded tree) ≡ length before + length (encoded tree) = length-append before (encoded tree) in
-    let stop : length before + length (encodedAll (more tree trees)) ≡ length (before ++ encoded tree) + length (encodedAll trees) =
-    omega (arith, length-more tree trees) in
-    let others = steps-members forms limit trees fuel (before ++ encoded tree) behind rest (omega (arith, length-more tree trees, encoded-some tree)) in
-    rw (step-more forms limit before behind tree trees sound, step-next before behind tree trees, stop, ← start, others)
-
--- So stepping through the item of a node, from the end of its header to its end, gives its members.
-pub steps-node :
-    (forms : Forms) → forms .lengthOctets ≤ 3 → (tag : ℕ) (members : Trees) (fuel : ℕ) → SoundAll forms members → length (encodedAll members) < fuel
-    → stepsOf fuel forms (encoded (node tag members)) (length (headerOf (node tag members))) (length (encoded (node tag members)))
-    ≡ placesOf (length (headerOf (node tag members))) members
-unfolding contentsOf
-steps-node forms limit tag members fuel sound enough =
-    let x : Tree = node tag members in
-    let item : headerOf x ++ encodedAll members ++ [] ≡ encoded x = append-nil (headerOf x ++ encodedAll members) ∙ sym (encoded-parts x) in
-    rw (length-parts x, ← item) (steps-members forms limit members fuel (headerOf x) [] sound enough)
 
 -- An item is read as the number v exactly when it is one INTEGER of at most eight octets that write v, within the limits.
 pub integer-value :

@@ -12,7 +12,7 @@ use lib.Seq.{take-add, length-take-le}
 use Rattle.der.specs.declared.heading.Heading.{Heading}
 use Rattle.der.specs.declared.heading.Heading.the-variants.{Header, Bad}
 use Rattle.der.specs.Forms.{Forms}
-use Rattle.der.specs.Octets.{Octets, octet, number, big}
+use Rattle.octets.specs.Octets.{Octets, octet, number, big}
 use Rattle.der.specs.Heading.{identifierGood, within, smallest, long, headingOf}
 use Rattle.tree.specs.Tree.{lengthWidth, lengthEncoded, tagged}
 use Rattle.tree.proofs.Cases.{cond-by}

@@ -1,18 +1,15 @@
 -- The tree of elements that an item encodes, and what makes it sound.
-use Prim.Native.Nat.{ℕ, zero, suc, _+_, _^_, _<_, _≤_, max}
+use Prim.Native.Nat.{ℕ, suc, _+_, _^_, _<_, _≤_, max}
 use mathlib.Core.Path.{_≡_}
 use mathlib.Core.Bool.{true, false, cond}
 use mathlib.Core.List.{List, [], _∷_, _++_}
 use lib.Dec.{ltb}
 use lib.IntN.{ℤ}
 use lib.ListN.{length}
-use Rattle.der.specs.declared.stepping.Step.{Step}
-use Rattle.der.specs.declared.stepping.Step.the-variants.{At, Nothing}
 use Rattle.der.specs.Forms.{Forms}
-use Rattle.der.specs.Octets.{Octets, big, twos}
+use Rattle.octets.specs.Octets.{Octets, big, twos}
 use Rattle.der.specs.Heading.{identifierGood, constructed}
 use Rattle.der.specs.Contents.{contentsGood}
-use Rattle.der.specs.Member.{memberOf}
 
 mutual
   pub data Tree : Type 0 where
@@ -100,22 +97,6 @@ pub record Encodes (forms : Forms) (item : List ℕ) (n : ℕ) : Type 0 where
   pub shallow : depth tree ≤ forms .depth
   pub few : n ≤ forms .elements
   pub short : length item ≤ forms .itemSize
-
--- each member's identifier, where its contents start and where they end; the first member starts at `from`
-unfoldable pub placesOf : ℕ → Trees → List Step
-placesOf from none = []
-placesOf from (more tree trees) =
-    At (tagOf tree) (from + length (headerOf tree)) (from + length (encoded tree)) ∷ placesOf (from + length (encoded tree)) trees
-
--- a step taken, and those that follow from its end
-unfoldable pub onward : Step → (ℕ → List Step) → List Step
-onward Nothing next = []
-onward (At tag start stop) next = At tag start stop ∷ next stop
-
--- the steps from `from` to `end` until there is none; the first number only makes the definition end
-unfoldable pub stepsOf : ℕ → Forms → List ℕ → ℕ → ℕ → List Step
-stepsOf zero forms s from end = []
-stepsOf (suc fuel) forms s from end = onward (memberOf forms s from end) λ stop. stepsOf fuel forms s stop end
 
 -- the octets of an item are those of one INTEGER of at most eight contents octets, which write v, within the limits
 pub record EncodesInteger (forms : Forms) (item : List ℕ) (v : ℤ) : Type 0 where

@@ -1,7 +1,6 @@
 // Certificates.
 use certificate::Fields;
 use certificate::Judged;
-use refusal::Refusal;
 ghost use mathlib.Core.Path.{_≡_};
 ghost use Rattle.certificate.specs.Answer.{judgedOf};
 ghost use Rattle.vrbolist.specs.Told.{certificatePassed, certificateTold};

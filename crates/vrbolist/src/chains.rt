@@ -1,7 +1,6 @@
 // Chains.
 use chain::Answer;
 use chain::Outcome;
-use refusal::Refusal;
 ghost use mathlib.Core.Path.{_≡_};
 ghost use Rattle.vrbolist.specs.Chains.{chainTold, Forwarded};
 

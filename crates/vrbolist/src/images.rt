@@ -1,7 +1,6 @@
 // Trust images.
 use image::Opened;
 use image::Place;
-use refusal::Refusal;
 use writer::Written;
 ghost use mathlib.Core.Path.{_≡_};
 ghost use lib.ListN.{length};

@@ -2,7 +2,6 @@
 use calendar::Difference;
 use der::Number;
 use der::Walked;
-use refusal::Refusal;
 ghost use mathlib.Core.Path.{_≡_};
 ghost use Rattle.calendar.specs.Difference.{differenceOf};
 ghost use Rattle.crl.specs.Age.{ageOf};

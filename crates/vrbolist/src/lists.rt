@@ -1,7 +1,6 @@
 // Revocation lists.
 use crl::Fields;
 use crl::Judged;
-use refusal::Refusal;
 ghost use mathlib.Core.Path.{_≡_};
 ghost use Rattle.crl.specs.Answer.{judgedOf};
 ghost use Rattle.vrbolist.specs.Told.{crlPassed, crlTold};

@@ -3,7 +3,7 @@ use mathlib.Core.Path.{refl}
 use Rattle.calendar.specs.Days.{leap, february, monthLength, realDay}
 use Rattle.calendar.specs.Number.{daysOfMonths, daysOfYears, dayNumber}
 use Rattle.calendar.specs.Difference.{differenceOf}
-use Rattle.der.specs.Octets.{number, twos}
+use Rattle.octets.specs.Octets.{number, twos}
 use Rattle.der.specs.Heading.{constructed, identifierGood, within, smallest, long, headingOf}
 use Rattle.der.specs.Contents.{booleanGood, integerGood, bitStringGood, subIdentifiers, oidGood, contentsGood}
 use Rattle.der.specs.Walk.{opened, filled, after, elementAt, listAt, whole, walkOf}

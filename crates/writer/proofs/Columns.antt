@@ -10,7 +10,7 @@ use native.Mathlib.Omega.{arith}
 use borrow.Author.Tests.{leb-true, eqb-true}
 use lib.ListN.{length, getD, take, drop, length-append, length-drop, take-append-drop}
 use lib.Seq.{drop-cons, drop-drop, getD-drop, length-take-le}
-use Rattle.der.specs.Octets.{big}
+use Rattle.octets.specs.Octets.{big}
 use Rattle.calendar.specs.Days.{realDay}
 use Rattle.image.specs.Items.{packed, entryBytes, indexBytes, trailerBytes, imageBytes}
 use Rattle.image.specs.Rules.{fieldsGood}

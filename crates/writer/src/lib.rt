@@ -6,7 +6,7 @@ ghost use mathlib.Core.Path.{_≡_};
 ghost use mathlib.Core.List.{_++_};
 ghost use Prim.Native.Nat.{_*_, _≤_};
 ghost use lib.ListN.{length, drop};
-ghost use Rattle.der.specs.Octets.{big};
+ghost use Rattle.octets.specs.Octets.{big};
 ghost use Rattle.image.specs.Items.{entryBytes, trailerBytes};
 ghost use Rattle.writer.specs.Rows.{rowsBytes};
 ghost use Rattle.writer.specs.Writing.{rowsGood, sumAll, argumentsGood, writtenOf, outputOf};

@@ -9,7 +9,6 @@ use make::random::Random;
 use make::world::{Plan, World, MOMENT};
 use make::{der, name, table};
 
-
 /// The questions of the table.
 pub const QUESTIONS: &[&str] = &[
     "walk-certificate",

@@ -1,7 +1,7 @@
 //! Certificates of each role.
 
 use crate::der::{bit_string, element, integer, sequence, SEQUENCE};
-use crate::envelope::Envelope;
+use crate::envelope::{algorithm, rsa_algorithm, Envelope};
 use crate::extension::{self, known, Extension};
 use crate::name;
 use crate::random::Random;
@@ -65,16 +65,6 @@ pub struct Certificate {
     pub unique_ids: Vec<u8>,
     pub extensions: Vec<Extension>,
     pub envelope: Envelope,
-}
-
-/// ECDSA with SHA-256.
-pub fn algorithm() -> Vec<u8> {
-    vec![0x30, 0x0A, 0x06, 0x08, 0x2A, 0x86, 0x48, 0xCE, 0x3D, 0x04, 0x03, 0x02]
-}
-
-/// RSA with SHA-256.
-pub fn rsa_algorithm() -> Vec<u8> {
-    vec![0x30, 0x0D, 0x06, 0x09, 0x2A, 0x86, 0x48, 0x86, 0xF7, 0x0D, 0x01, 0x01, 0x0B, 0x05, 0x00]
 }
 
 /// A key of 65 octets on a named curve.

@@ -1,7 +1,8 @@
 //! Every rule of the certificate profile, broken alone in several ways.
 
-use crate::certificate::{rsa_algorithm, Certificate, ANCHOR, LINK, ROLES, SIGNER};
+use crate::certificate::{Certificate, ANCHOR, LINK, ROLES, SIGNER};
 use crate::der::{element, integer, nested, octet_string, sequence, SEQUENCE};
+use crate::envelope::rsa_algorithm;
 use crate::extension::{
     self, find, known, remove, strange_oid, Extension, AUTHORITY_KEY_ID, BASIC_CONSTRAINTS, DOCUMENT_TYPES, KEY_USAGE,
     SUBJECT_KEY_ID,

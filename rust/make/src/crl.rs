@@ -1,8 +1,8 @@
 //! CRLs.
 
-use crate::certificate::{self, algorithm, rsa_algorithm};
+use crate::certificate;
 use crate::der::{element, integer, sequence, SEQUENCE};
-use crate::envelope::Envelope;
+use crate::envelope::{algorithm, rsa_algorithm, Envelope};
 use crate::extension::{self, known, Extension, AUTHORITY_KEY_ID, CRL_NUMBER};
 use crate::name;
 use crate::random::Random;

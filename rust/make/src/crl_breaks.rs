@@ -1,9 +1,9 @@
 //! Every rule of the CRL profile, broken alone in several ways.
 
-use crate::certificate::rsa_algorithm;
 use crate::certificate_breaks::tag;
 use crate::crl::{entry, Crl};
 use crate::der::{element, integer, sequence, SEQUENCE};
+use crate::envelope::rsa_algorithm;
 use crate::extension::{self, find, known, remove, strange_oid, Extension, AUTHORITY_KEY_ID, CRL_NUMBER};
 use crate::name;
 use crate::random::Random;

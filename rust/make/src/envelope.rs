@@ -1,8 +1,17 @@
-//! What certificates and CRLs have alike: the element around the extensions, and what stands around the tbs.
+//! What certificates and CRLs have alike: algorithms, the element around the extensions, and what stands around the tbs.
 
-use crate::certificate::algorithm;
 use crate::der::{bit_string, element, push_header, SEQUENCE};
 use crate::extension::{self, Extension};
+
+/// ECDSA with SHA-256.
+pub fn algorithm() -> Vec<u8> {
+    vec![0x30, 0x0A, 0x06, 0x08, 0x2A, 0x86, 0x48, 0xCE, 0x3D, 0x04, 0x03, 0x02]
+}
+
+/// RSA with SHA-256.
+pub fn rsa_algorithm() -> Vec<u8> {
+    vec![0x30, 0x0D, 0x06, 0x09, 0x2A, 0x86, 0x48, 0x86, 0xF7, 0x0D, 0x01, 0x01, 0x0B, 0x05, 0x00]
+}
 
 #[derive(Clone, Debug)]
 pub struct Envelope {

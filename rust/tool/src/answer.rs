@@ -1,13 +1,10 @@
-//! What a command gives: text and JSON for standard output with an exit status, or a stop with words for standard error.
+//! What a command answers: text and JSON for standard output, with an exit status.
 
 use crate::explain;
 use crate::json::{object, Json};
+use crate::stop::Stop;
 use std::io::{ErrorKind, Write};
 use vrbolist::Refusal;
-
-pub const USAGE: u8 = 64;
-pub const NO_INPUT: u8 = 66;
-pub const CANNOT_WRITE: u8 = 73;
 
 pub struct Answer {
     pub status: u8,
@@ -25,25 +22,6 @@ impl Answer {
     pub fn refused(head: String, base: Json, refusal: Refusal, words: &[String]) -> Answer {
         let json = base.with(object! { "passed": false, "refusal": explain::json(refusal, words) });
         Answer { status: status(refusal), text: head + &explain::text(refusal, words), json }
-    }
-}
-
-pub struct Stop {
-    pub status: u8,
-    pub message: String,
-}
-
-impl Stop {
-    pub fn usage(message: impl Into<String>) -> Stop {
-        Stop { status: USAGE, message: message.into() }
-    }
-
-    pub fn no_input(message: impl Into<String>) -> Stop {
-        Stop { status: NO_INPUT, message: message.into() }
-    }
-
-    pub fn cannot_write(message: impl Into<String>) -> Stop {
-        Stop { status: CANNOT_WRITE, message: message.into() }
     }
 }
 

@@ -1,6 +1,6 @@
 //! The words after a command: what stands alone, options with a value, and switches.
 
-use crate::answer::Stop;
+use crate::stop::Stop;
 use crate::text::printable;
 use std::ffi::{OsStr, OsString};
 

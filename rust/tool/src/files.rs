@@ -1,7 +1,7 @@
 //! Reading and writing files.
 
-use crate::answer::Stop;
 use crate::pem;
+use crate::stop::Stop;
 use crate::text::printable;
 use std::ffi::OsStr;
 use std::fs::{self, File, OpenOptions};
@@ -46,13 +46,13 @@ pub struct Item {
 /// DER as it stands, else the first PEM block.
 pub fn read_item(path: &OsStr) -> Result<Item, Stop> {
     let bytes = read(path)?;
-    let plain = |bytes, note| Item { bytes, form: "DER".to_string(), note };
+    let as_read = |bytes, note| Item { bytes, form: "DER".to_string(), note };
     if vrbolist::walk(&bytes).is_ok() {
-        return Ok(plain(bytes, None));
+        return Ok(as_read(bytes, None));
     }
     Ok(match pem::first(&bytes) {
-        pem::Found::Nothing => plain(bytes, None),
-        pem::Found::Broken(note) => plain(bytes, Some(note)),
+        pem::Found::Nothing => as_read(bytes, None),
+        pem::Found::Broken(note) => as_read(bytes, Some(note)),
         pem::Found::Block { label, bytes } => Item { bytes, form: format!("PEM {}", printable(&label)), note: None },
     })
 }
@@ -81,7 +81,7 @@ fn temporary() -> String {
 fn target(path: &Path, force: bool) -> Result<PathBuf, Stop> {
     match fs::metadata(path) {
         Ok(found) if !found.is_file() => {
-            Err(Stop::cannot_write(format!("{}: is no plain file: give another name", shown(path.as_os_str()))))
+            Err(Stop::cannot_write(format!("{}: is no regular file: give another name", shown(path.as_os_str()))))
         }
         Ok(_) if !force => Err(refused(path, &ErrorKind::AlreadyExists.into())),
         Ok(_) => fs::canonicalize(path).map_err(|error| refused(path, &error)),

@@ -17,6 +17,8 @@ mod oids;
 mod pem;
 mod places;
 mod reasons;
+mod stop;
+mod strings;
 mod table;
 mod text;
 mod tree;

@@ -48,7 +48,7 @@ impl<'a> World<'a> {
 
     /// What keeps a place from being used, apart from the steps to it.
     fn faults(&self, place: &Place<'a>, uncounted: &[Vec<Reason>]) -> Vec<Reason> {
-        let mut out = self.plain_faults(place);
+        let mut out = self.own_faults(place);
         if matches!(place.entry.kind, 2 | 3) {
             out.extend(self.revocation(place, uncounted));
         }
@@ -56,7 +56,7 @@ impl<'a> World<'a> {
     }
 
     /// The faults that have nothing to do with CRLs.
-    fn plain_faults(&self, place: &Place<'a>) -> Vec<Reason> {
+    fn own_faults(&self, place: &Place<'a>) -> Vec<Reason> {
         let mut out = self.profile_and_times(place);
         if !place.enabled() {
             out.push(reason("disabled", "the anchor is not enabled"));
@@ -115,7 +115,7 @@ impl<'a> World<'a> {
     fn usable_anchor_of(&self, place: usize, country: [u8; 2]) -> bool {
         let Some(found) = self.places.get(place) else { return false };
         let of_country = found.certificate().is_some_and(|told| told.country == country);
-        found.entry.kind == 1 && of_country && self.plain_faults(found).is_empty()
+        found.entry.kind == 1 && of_country && self.own_faults(found).is_empty()
     }
 
     fn lists(&self, crl: usize, serial: &[u8]) -> bool {

@@ -1,6 +1,6 @@
 //! The table of verdicts: n x n bytes 0 or 1, or n lines of n digits.
 
-use crate::answer::Stop;
+use crate::stop::Stop;
 
 /// The bytes of a table file. Whether they fit an image, and are 0 or 1, is for the library.
 pub fn read(file: Vec<u8>) -> Result<Vec<u8>, Stop> {

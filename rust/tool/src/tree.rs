@@ -1,8 +1,8 @@
 //! Elements of an item in the order of the walk, up to a byte. Whether they are DER is the library's to say: this reader
 //! is asked for what stands before the fault that the library told.
 
-use crate::names::text_of;
 use crate::oids;
+use crate::strings::text_of;
 use crate::text::{clip, hex, octets};
 
 #[derive(Clone, Copy)]

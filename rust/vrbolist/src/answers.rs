@@ -3,8 +3,8 @@
 
 #![allow(unsafe_code)]
 
-pub use crate::raw::{Certificate, Chain, Crl, Days, Entry, Image, Integer, Walk, Write};
 use crate::raw;
+pub use crate::raw::{Certificate, Chain, Crl, Days, Entry, Image, Integer, Walk, Write};
 
 // Each call lends slices for its own time only, and a slice's pointer and length are what the archive asks for: not null,
 // and none of them overlaps the one that is written, which Rust's borrows see to.

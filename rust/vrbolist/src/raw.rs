@@ -1,7 +1,11 @@
 //! The C interface as it is declared in `include/vrbolist.h`.
 
+use std::mem::{offset_of, size_of};
+
+/// An answer: its size, and its fields, each with its offset. A size or an offset that the compiler does not find so is an
+/// error here; `tests/c/vrbolist_test.c` holds the header and the archive to the same numbers.
 macro_rules! answer {
-    ($name:ident { $($field:ident : $kind:ty),* $(,)? }) => {
+    ($name:ident, $size:literal { $($at:literal $field:ident : $kind:ty),* $(,)? }) => {
         #[repr(C)]
         #[derive(Clone, Copy)]
         pub struct $name {
@@ -9,41 +13,44 @@ macro_rules! answer {
             pub detail: u64,
             $(pub $field: $kind,)*
         }
+        const _: () = assert!(size_of::<$name>() == $size);
+        const _: () = assert!(offset_of!($name, number) == 0 && offset_of!($name, detail) == 8);
+        $(const _: () = assert!(offset_of!($name, $field) == $at);)*
     };
 }
 
-answer!(Walk { count: u64 });
-answer!(Integer { value: i64 });
-answer!(Days { days: i64 });
-answer!(Certificate {
-    start: u64,
-    end: u64,
-    issuer_at: u64,
-    issuer_len: u64,
-    subject_at: u64,
-    subject_len: u64,
-    key_at: u64,
-    key_len: u64,
-    serial_at: u64,
-    serial_len: u64,
-    subject_key_id_at: u64,
-    subject_key_id_len: u64,
-    authority_key_id_at: u64,
-    authority_key_id_len: u64,
-    country: [u8; 2],
+answer!(Walk, 24 { 16 count: u64 });
+answer!(Integer, 24 { 16 value: i64 });
+answer!(Days, 24 { 16 days: i64 });
+answer!(Certificate, 136 {
+    16 start: u64,
+    24 end: u64,
+    32 issuer_at: u64,
+    40 issuer_len: u64,
+    48 subject_at: u64,
+    56 subject_len: u64,
+    64 key_at: u64,
+    72 key_len: u64,
+    80 serial_at: u64,
+    88 serial_len: u64,
+    96 subject_key_id_at: u64,
+    104 subject_key_id_len: u64,
+    112 authority_key_id_at: u64,
+    120 authority_key_id_len: u64,
+    128 country: [u8; 2],
 });
-answer!(Crl {
-    this_update: u64,
-    next_update: u64,
-    entries: u64,
-    issuer_at: u64,
-    issuer_len: u64,
-    country: [u8; 2],
+answer!(Crl, 64 {
+    16 this_update: u64,
+    24 next_update: u64,
+    32 entries: u64,
+    40 issuer_at: u64,
+    48 issuer_len: u64,
+    56 country: [u8; 2],
 });
-answer!(Image { entries: u64, day: u64 });
-answer!(Entry { kind: u64, flags: u64, length: u64, offset: u64 });
-answer!(Write { length: u64 });
-answer!(Chain { length: u64, places: [u8; 96] });
+answer!(Image, 32 { 16 entries: u64, 24 day: u64 });
+answer!(Entry, 48 { 16 kind: u64, 24 flags: u64, 32 length: u64, 40 offset: u64 });
+answer!(Write, 24 { 16 length: u64 });
+answer!(Chain, 120 { 16 length: u64, 24 places: [u8; 96] });
 
 extern "C" {
     pub fn vrbolist_walk(item: *const u8, item_len: usize) -> Walk;

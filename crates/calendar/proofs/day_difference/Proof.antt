@@ -16,15 +16,9 @@ use Rattle.calendar.proofs.Signed.{fits}
 use Rattle.calendar.proofs.day_difference.Statement.{statement}
 use Rattle.calendar.proofs.day_difference.Tie as tie
 
-real-day-requires : tie.Need-real-day-requires
-real-day-requires c κs = search needs
-
 returns : tie.Need-returns
 unfolding differenceOf
 returns c = simp (sym (c .before .real-day .ensures) ∙ not-true _ (c .if1 .taken))
-
-real-day-requires-2 : tie.Need-real-day-requires-2
-real-day-requires-2 c κs = search needs
 
 first-real : (c : tie.Else1) → realDay 1950 2099 (c .before .before .args .first) ≡ true
 first-real c = sym (c .before .real-day .ensures) ∙ not-false _ (c .if1 .left)
@@ -74,9 +68,9 @@ pub day-difference-spec : {M : Type 1} → statement M
 day-difference-spec =
     tie.close
     (tie.spec
-    real-day-requires
+    (λ c κs. search needs)
     returns
-    real-day-requires-2
+    (λ c κs. search needs)
     returns-2
     day-number-requires
     day-number-requires-2

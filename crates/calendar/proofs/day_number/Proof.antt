@@ -20,15 +20,6 @@ before c =
 sub-years : tie.Need-sub-years
 sub-years c = known c .since
 
-mul-before : tie.Need-mul-before
-mul-before c = search needs
-
-add-before : tie.Need-add-before
-add-before c = search needs
-
-add-before-2 : tie.Need-add-before-2
-add-before-2 c = search needs
-
 days-before-requires : tie.Need-days-before-requires
 days-before-requires c κs = (known c .month-low, known c .month-high)
 
@@ -70,9 +61,9 @@ day-number-spec =
     tie.close
     (tie.spec
     sub-years
-    mul-before
-    add-before
-    add-before-2
+    (λ c. search needs)
+    (λ c. search needs)
+    (λ c. search needs)
     days-before-requires
     add-before-3
     add-before-4

@@ -6,9 +6,6 @@ use Rattle.calendar.proofs.Days.{length-rule, length-two, length-none, 
 use Rattle.calendar.proofs.month_length.Statement.{statement}
 use Rattle.calendar.proofs.month_length.Tie as tie
 
-leap-year-requires : tie.Need-leap-year-requires
-leap-year-requires c κs = search needs
-
 returns : tie.Need-returns
 returns c =
     sym
@@ -39,4 +36,4 @@ returns-5 c = sym (length-rule _ _ (c .before .if3 .left) (c .if4 .left) (c .bef
 pub month-length-spec : {M : Type 1} → statement M
 month-length-spec =
     tie.close
-    (tie.spec leap-year-requires returns returns-2 returns-3 returns-4 add-result add-result-2 returns-5)
+    (tie.spec (λ c κs. search needs) returns returns-2 returns-3 returns-4 add-result add-result-2 returns-5)

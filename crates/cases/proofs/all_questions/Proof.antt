@@ -12,14 +12,8 @@ Inv-loop space₀ turns₀ space turns = length space ≡ length space₀
 abbrev μ-loop : tie.MeasureT-loop
 μ-loop space₀ turns₀ space turns = turns
 
-loop-holds : tie.Need-loop-holds Inv-loop μ-loop
-loop-holds c = search needs
-
 one-question-requires : tie.Need-one-question-requires Inv-loop μ-loop
 one-question-requires c κs = tt
-
-same-length : tie.Need-same-length Inv-loop μ-loop
-same-length c = search needs
 
 returns : tie.Need-returns Inv-loop μ-loop
 returns c = tt
@@ -30,12 +24,6 @@ sub-turns c = omega arith
 loop-less : tie.Need-loop-less Inv-loop μ-loop
 loop-less c = omega arith
 
-loop-again : tie.Need-loop-again Inv-loop μ-loop
-loop-again c = search needs
-
-same-length-2 : tie.Need-same-length-2 Inv-loop μ-loop
-same-length-2 c = search needs
-
 returns-2 : tie.Need-returns-2 Inv-loop μ-loop
 returns-2 c = tt
 
@@ -45,12 +33,12 @@ all-questions-spec =
     (tie.spec
     Inv-loop
     μ-loop
-    loop-holds
+    (λ c. search needs)
     one-question-requires
-    same-length
+    (λ c. search needs)
     returns
     sub-turns
     loop-less
-    loop-again
-    same-length-2
+    (λ c. search needs)
+    (λ c. search needs)
     returns-2)

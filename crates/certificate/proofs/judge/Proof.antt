@@ -14,25 +14,17 @@ returns-2 : tie.Need-returns-2
 unfolding judgedOf
 returns-2 c = rw (le-leb _ _ (c .before .if1 .left), lt-leb _ _ (c .if2 .taken))
 
-walk-requires : tie.Need-walk-requires
-walk-requires c κs = search needs
-
-enum-known-refusal : tie.Need-enum-known-refusal
-enum-known-refusal c = search needs
-
 returns-3 : tie.Need-returns-3
 unfolding judgedOf onWalk
-returns-3 c = rw (le-leb _ _ (c .before .before .before .before .before .if1 .left), le-leb _ _ (c .before .before .before .before .if2 .left), sym (c .before .before .before .walk .ensures .0) ∙ c .before .refusal .given .1)
-
-enum-told : tie.Need-enum-told
-enum-told c = search needs
-
-profile-requires : tie.Need-profile-requires
-profile-requires c κs = search needs
+returns-3 c =
+    let back4 = c .before .before .before .before in
+    rw (le-leb _ _ (back4 .before .if1 .left), le-leb _ _ (c .before .before .before .before .if2 .left), sym (c .before .before .before .walk .ensures .0) ∙ c .before .refusal .given .1)
 
 returns-4 : tie.Need-returns-4
 unfolding judgedOf onWalk
-returns-4 c = rw (le-leb _ _ (c .before .before .before .before .before .if1 .left), le-leb _ _ (c .before .before .before .before .if2 .left), sym (c .before .before .before .walk .ensures .0) ∙ c .before .enum-told .given .1) (c .profile .ensures)
+returns-4 c =
+    let back4 = c .before .before .before .before in
+    rw (le-leb _ _ (back4 .before .if1 .left), le-leb _ _ (c .before .before .before .before .if2 .left), sym (c .before .before .before .walk .ensures .0) ∙ c .before .enum-told .given .1) (c .profile .ensures)
 
 pub judge-spec : {M : Type 1} → statement M
 judge-spec =
@@ -40,9 +32,9 @@ judge-spec =
     (tie.spec
     returns
     returns-2
-    walk-requires
-    enum-known-refusal
+    (λ c κs. search needs)
+    (λ c. search needs)
     returns-3
-    enum-told
-    profile-requires
+    (λ c. search needs)
+    (λ c κs. search needs)
     returns-4)

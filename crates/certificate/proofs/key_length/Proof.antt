@@ -4,18 +4,6 @@ use Rattle.certificate.specs.Answer.{keyLength}
 use Rattle.certificate.proofs.key_length.Statement.{statement}
 use Rattle.certificate.proofs.key_length.Tie as tie
 
-enum-known-key : tie.Need-enum-known-key
-enum-known-key c = search needs
-
-between-requires : tie.Need-between-requires
-between-requires c κs = search needs
-
-enum-told : tie.Need-enum-told
-enum-told c = search needs
-
-enum-told-2 : tie.Need-enum-told-2
-enum-told-2 c = search needs
-
 returns : tie.Need-returns
 unfolding keyLength
 returns c = rw (c .before .before .key .given .1) (c .between .ensures)
@@ -32,10 +20,10 @@ pub key-length-spec : {M : Type 1} → statement M
 key-length-spec =
     tie.close
     (tie.spec
-    enum-known-key
-    between-requires
-    enum-told
-    enum-told-2
+    (λ c. search needs)
+    (λ c κs. search needs)
+    (λ c. search needs)
+    (λ c. search needs)
     returns
     returns-2
     returns-3)

@@ -8,64 +8,53 @@ use borrow.Author.Needs.{needs}
 use Rattle.certificate.proofs.profile.Statement.{statement}
 use Rattle.certificate.proofs.profile.Tie as tie
 
-parts-of-requires : tie.Need-parts-of-requires
-parts-of-requires c κs = search needs
-
-enum-known-l : tie.Need-enum-known-l
-enum-known-l c = search needs
-
-enum-told : tie.Need-enum-told
-enum-told c = search needs
-
 returns : tie.Need-returns
 unfolding profileOf
 returns c = shape-bad _ (laid-none _ (sym (c .before .before .parts-of .ensures) ∙ c .enum-told .given .1))
 
-one-pass-requires : tie.Need-one-pass-requires
-one-pass-requires c κs = search needs
-
 returns-2 : tie.Need-returns-2
 unfolding profileOf
-returns-2 c = shape-bad _ (laid-bad _ (sym (c .before .before .before .before .before .before .before .parts-of .ensures) ∙ c .before .before .before .before .before .l .given .1) (sym (c .before .before .one-pass .ensures .shaped) ∙ not-true _ (c .if1 .taken)))
-
-readings-of-requires : tie.Need-readings-of-requires
-readings-of-requires c κs = search needs
-
-rules-2-to-8-requires : tie.Need-rules-2-to-8-requires
-rules-2-to-8-requires c κs = search needs
+returns-2 c =
+    let back4 = c .before .before .before .before in
+    shape-bad _ (laid-bad _ (sym (back4 .before .before .before .parts-of .ensures) ∙ back4 .before .l .given .1) (sym (c .before .before .one-pass .ensures .shaped) ∙ not-true _ (c .if1 .taken)))
 
 returns-3 : tie.Need-returns-3
 unfolding profileOf
-returns-3 c = shape-good _ (laid-good _ (sym (c .before .before .before .before .before .before .before .before .before .before .before .parts-of .ensures) ∙ c .before .before .before .before .before .before .before .before .before .l .given .1) (sym (c .before .before .before .before .before .before .one-pass .ensures .shaped) ∙ not-false _ (c .before .before .before .before .if1 .left))) (rw (← c .before .before .readings-of .ensures) (graded-broken _ (rules-early _ _ _ _ (c .before .rules-2-to-8 .ensures) (c .if2 .taken)) (c .if2 .taken)))
-
-rules-9-to-14-requires : tie.Need-rules-9-to-14-requires
-rules-9-to-14-requires c κs = search needs
+returns-3 c =
+    let back4 = c .before .before .before .before in
+    let back8 = back4 .before .before .before .before in
+    shape-good _ (laid-good _ (sym (back8 .before .before .before .parts-of .ensures) ∙ back8 .before .l .given .1) (sym (back4 .before .before .one-pass .ensures .shaped) ∙ not-false _ (c .before .before .before .before .if1 .left))) (rw (← c .before .before .readings-of .ensures) (graded-broken _ (rules-early _ _ _ _ (c .before .rules-2-to-8 .ensures) (c .if2 .taken)) (c .if2 .taken)))
 
 returns-4 : tie.Need-returns-4
 unfolding profileOf
-returns-4 c = shape-good _ (laid-good _ (sym (c .before .before .before .before .before .before .before .before .before .before .before .before .before .parts-of .ensures) ∙ c .before .before .before .before .before .before .before .before .before .before .before .l .given .1) (sym (c .before .before .before .before .before .before .before .before .one-pass .ensures .shaped) ∙ not-false _ (c .before .before .before .before .before .before .if1 .left))) (rw (← c .before .before .before .before .readings-of .ensures) (graded-broken _ (rules-late _ _ _ _ (c .before .before .before .rules-2-to-8 .ensures) (c .before .before .if2 .left) (c .before .rules-9-to-14 .ensures _ (c .before .before .before .before .before .before .before .before .one-pass .ensures .placed) (c .before .before .before .before .before .before .before .before .one-pass .ensures .critical))) (c .if3 .taken)))
-
-fields-of-requires : tie.Need-fields-of-requires
-fields-of-requires c κs = search needs
+returns-4 c =
+    let back4 = c .before .before .before .before in
+    let back8 = back4 .before .before .before .before in
+    let back12 = back8 .before .before .before .before in
+    shape-good _ (laid-good _ (sym (back12 .before .parts-of .ensures) ∙ back8 .before .before .before .l .given .1) (sym (back8 .one-pass .ensures .shaped) ∙ not-false _ (back4 .before .before .if1 .left))) (rw (← c .before .before .before .before .readings-of .ensures) (graded-broken _ (rules-late _ _ _ _ (c .before .before .before .rules-2-to-8 .ensures) (c .before .before .if2 .left) (c .before .rules-9-to-14 .ensures _ (back8 .one-pass .ensures .placed) (back8 .one-pass .ensures .critical))) (c .if3 .taken)))
 
 returns-5 : tie.Need-returns-5
 unfolding profileOf
-returns-5 c = shape-good _ (laid-good _ (sym (c .before .before .before .before .before .before .before .before .before .before .before .before .before .before .parts-of .ensures) ∙ c .before .before .before .before .before .before .before .before .before .before .before .before .l .given .1) (sym (c .before .before .before .before .before .before .before .before .before .one-pass .ensures .shaped) ∙ not-false _ (c .before .before .before .before .before .before .before .if1 .left))) (rw (← c .before .before .before .before .before .readings-of .ensures) (graded-whole (rules-late _ _ _ _ (c .before .before .before .before .rules-2-to-8 .ensures) (c .before .before .before .if2 .left) (c .before .before .rules-9-to-14 .ensures _ (c .before .before .before .before .before .before .before .before .before .one-pass .ensures .placed) (c .before .before .before .before .before .before .before .before .before .one-pass .ensures .critical)) ∙ c .before .if3 .left) (c .fields-of .ensures)))
+returns-5 c =
+    let back4 = c .before .before .before .before in
+    let back8 = back4 .before .before .before .before in
+    let back12 = back8 .before .before .before .before in
+    shape-good _ (laid-good _ (sym (back12 .before .before .parts-of .ensures) ∙ back12 .l .given .1) (sym (back8 .before .one-pass .ensures .shaped) ∙ not-false _ (back4 .before .before .before .if1 .left))) (rw (← back4 .before .readings-of .ensures) (graded-whole (rules-late _ _ _ _ (c .before .before .before .before .rules-2-to-8 .ensures) (c .before .before .before .if2 .left) (c .before .before .rules-9-to-14 .ensures _ (back8 .before .one-pass .ensures .placed) (back8 .before .one-pass .ensures .critical)) ∙ c .before .if3 .left) (c .fields-of .ensures)))
 
 pub profile-spec : {M : Type 1} → statement M
 profile-spec =
     tie.close
     (tie.spec
-    parts-of-requires
-    enum-known-l
-    enum-told
+    (λ c κs. search needs)
+    (λ c. search needs)
+    (λ c. search needs)
     returns
-    one-pass-requires
+    (λ c κs. search needs)
     returns-2
-    readings-of-requires
-    rules-2-to-8-requires
+    (λ c κs. search needs)
+    (λ c κs. search needs)
     returns-3
-    rules-9-to-14-requires
+    (λ c κs. search needs)
     returns-4
-    fields-of-requires
+    (λ c κs. search needs)
     returns-5)

@@ -6,39 +6,26 @@ use borrow.Author.Needs.{needs}
 use Rattle.chain.proofs.best_chain.Statement.{statement}
 use Rattle.chain.proofs.best_chain.Tie as tie
 
-question-requires : tie.Need-question-requires
-question-requires c κs = search needs
-
-enum-known-refusal : tie.Need-enum-known-refusal
-enum-known-refusal c = search needs
-
-refused-requires : tie.Need-refused-requires
-refused-requires c κs = search needs
-
-enum-known-places : tie.Need-enum-known-places
-enum-known-places c = search needs
-
 chain-among-requires : tie.Need-chain-among-requires
 chain-among-requires c κs = asked-over _ _ _ _ (sym (c .before .before .before .question .ensures) ∙ c .before .places .given .1)
-
-shown-requires : tie.Need-shown-requires
-shown-requires c κs = search needs
 
 returns : tie.Need-returns
 returns c = refused _ (sym (c .before .before .before .before .question .ensures) ∙ c .before .before .refusal .given .1) (c .refused .ensures)
 
 returns-2 : tie.Need-returns-2
-returns-2 c = answering _ _ _ _ (sym (c .before .before .before .before .before .question .ensures) ∙ c .before .before .before .places .given .1) (c .before .chain-among .ensures) (c .shown .ensures)
+returns-2 c =
+    let back4 = c .before .before .before .before in
+    answering _ _ _ _ (sym (back4 .before .question .ensures) ∙ c .before .before .before .places .given .1) (c .before .chain-among .ensures) (c .shown .ensures)
 
 pub best-chain-spec : {M : Type 1} → statement M
 best-chain-spec =
     tie.close
     (tie.spec
-    question-requires
-    enum-known-refusal
-    refused-requires
-    enum-known-places
+    (λ c κs. search needs)
+    (λ c. search needs)
+    (λ c κs. search needs)
+    (λ c. search needs)
     chain-among-requires
-    shown-requires
+    (λ c κs. search needs)
     returns
     returns-2)

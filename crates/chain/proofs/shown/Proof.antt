@@ -5,9 +5,6 @@ use borrow.Author.Needs.{needs}
 use Rattle.chain.proofs.shown.Statement.{statement}
 use Rattle.chain.proofs.shown.Tie as tie
 
-refused-requires : tie.Need-refused-requires
-refused-requires c κs = search needs
-
 returns : tie.Need-returns
 returns c = nothing (c .before .if1 .taken) (c .refused .ensures)
 
@@ -15,4 +12,4 @@ returns-2 : tie.Need-returns-2
 returns-2 c = something (c .if1 .left) refl refl refl
 
 pub shown-spec : {M : Type 1} → statement M
-shown-spec = tie.close (tie.spec refused-requires returns returns-2)
+shown-spec = tie.close (tie.spec (λ c κs. search needs) returns returns-2)

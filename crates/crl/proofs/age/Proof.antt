@@ -6,42 +6,31 @@ use Rattle.crl.specs.Age.{agedBy, ageOf}
 use Rattle.crl.proofs.age.Statement.{statement}
 use Rattle.crl.proofs.age.Tie as tie
 
-real-day-requires : tie.Need-real-day-requires
-real-day-requires c κs = search needs
-
 returns : tie.Need-returns
 unfolding ageOf
 returns c = rw (sym (c .before .real-day .ensures) ∙ not-true _ (c .if1 .taken))
 
-judge-requires : tie.Need-judge-requires
-judge-requires c κs = search needs
-
-enum-known-refusal : tie.Need-enum-known-refusal
-enum-known-refusal c = search needs
-
-enum-known-fields : tie.Need-enum-known-fields
-enum-known-fields c = search needs
-
-day-difference-requires : tie.Need-day-difference-requires
-day-difference-requires c κs = search needs
-
 returns-2 : tie.Need-returns-2
 unfolding ageOf agedBy
-returns-2 c = rw (sym (c .before .before .before .before .before .real-day .ensures) ∙ not-false _ (c .before .before .before .before .if1 .left), sym (c .before .before .before .judge .ensures) ∙ c .before .refusal .given .1)
+returns-2 c =
+    let back4 = c .before .before .before .before in
+    rw (sym (back4 .before .real-day .ensures) ∙ not-false _ (c .before .before .before .before .if1 .left), sym (c .before .before .before .judge .ensures) ∙ c .before .refusal .given .1)
 
 returns-3 : tie.Need-returns-3
 unfolding ageOf agedBy
-returns-3 c = c .day-difference .ensures ∙ rw (sym (c .before .before .before .before .before .before .real-day .ensures) ∙ not-false _ (c .before .before .before .before .before .if1 .left), sym (c .before .before .before .before .judge .ensures) ∙ c .before .before .fields .given .1)
+returns-3 c =
+    let back4 = c .before .before .before .before in
+    c .day-difference .ensures ∙ rw (sym (back4 .before .before .real-day .ensures) ∙ not-false _ (back4 .before .if1 .left), sym (c .before .before .before .before .judge .ensures) ∙ c .before .before .fields .given .1)
 
 pub age-spec : {M : Type 1} → statement M
 age-spec =
     tie.close
     (tie.spec
-    real-day-requires
+    (λ c κs. search needs)
     returns
-    judge-requires
-    enum-known-refusal
-    enum-known-fields
-    day-difference-requires
+    (λ c κs. search needs)
+    (λ c. search needs)
+    (λ c. search needs)
+    (λ c κs. search needs)
     returns-2
     returns-3)

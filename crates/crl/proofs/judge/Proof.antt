@@ -5,21 +5,9 @@ use Rattle.crl.specs.Answer.{onWalk, judgedOf}
 use Rattle.crl.proofs.judge.Statement.{statement}
 use Rattle.crl.proofs.judge.Tie as tie
 
-walk-requires : tie.Need-walk-requires
-walk-requires c κs = search needs
-
-enum-known-refusal : tie.Need-enum-known-refusal
-enum-known-refusal c = search needs
-
 returns : tie.Need-returns
 unfolding judgedOf onWalk
 returns c = rw (sym (c .before .before .before .walk .ensures .0) ∙ c .before .refusal .given .1)
-
-enum-told : tie.Need-enum-told
-enum-told c = search needs
-
-profile-requires : tie.Need-profile-requires
-profile-requires c κs = search needs
 
 returns-2 : tie.Need-returns-2
 unfolding judgedOf onWalk
@@ -28,4 +16,4 @@ returns-2 c = c .profile .ensures ∙ rw (sym (c .before .before .before .walk .
 pub judge-spec : {M : Type 1} → statement M
 judge-spec =
     tie.close
-    (tie.spec walk-requires enum-known-refusal returns enum-told profile-requires returns-2)
+    (tie.spec (λ c κs. search needs) (λ c. search needs) returns (λ c. search needs) (λ c κs. search needs) returns-2)

@@ -18,73 +18,93 @@ abbrev μ-loop : tie.MeasureT-loop
 μ-loop item extensions shaped₀ marked₀ critical₀ repeated₀ strange₀ unsure₀ slots₀ at₀ shaped marked critical repeated strange unsure slots at =
     extensions .end - at
 
-held-of-requires : tie.Need-held-of-requires Inv-loop μ-loop
-held-of-requires c κs = search needs
-
 loop-holds : tie.Need-loop-holds Inv-loop μ-loop
 loop-holds c = rw (c .held-of .ensures) (far-start _ _)
 
-met-at-requires : tie.Need-met-at-requires Inv-loop μ-loop
-met-at-requires c κs = search needs
-
-slot-of-requires : tie.Need-slot-of-requires Inv-loop μ-loop
-slot-of-requires c κs = search needs
-
-is-critical-requires : tie.Need-is-critical-requires Inv-loop μ-loop
-is-critical-requires c κs = search needs
-
-unusual-requires : tie.Need-unusual-requires Inv-loop μ-loop
-unusual-requires c κs = search needs
-
-mul-first : tie.Need-mul-first Inv-loop μ-loop
-mul-first c = search needs
-
 array-copy-out-first : tie.Need-array-copy-out-first Inv-loop μ-loop
-array-copy-out-first c = omega (arith, c .before .before .before .before .before .before .before .loop .inv .table .long, c .if2 .taken)
-
-held-of-requires-2 : tie.Need-held-of-requires-2 Inv-loop μ-loop
-held-of-requires-2 c κs = search needs
-
-mul-slots : tie.Need-mul-slots Inv-loop μ-loop
-mul-slots c = search needs
+array-copy-out-first c =
+    let back4 = c .before .before .before .before in
+    omega (arith, back4 .before .before .before .loop .inv .table .long, c .if2 .taken)
 
 array-set-from-slots : tie.Need-array-set-from-slots Inv-loop μ-loop
-array-set-from-slots c = omega (arith, c .before .before .before .before .before .before .before .before .before .before .loop .inv .table .long, c .before .before .before .if2 .taken)
+array-set-from-slots c =
+    let back4 = c .before .before .before .before in
+    let back8 = back4 .before .before .before .before in
+    omega (arith, back8 .before .before .loop .inv .table .long, c .before .before .before .if2 .taken)
 
 loop-less : tie.Need-loop-less Inv-loop μ-loop
-loop-less c = omega (arith, (c .before .before .before .before .before .before .before .before .met-at .ensures .some (not-false _ (c .before .before .before .before .before .before .if1 .left))) .ends, found-within _ _ _ ((c .before .before .before .before .before .before .before .before .met-at .ensures .some (not-false _ (c .before .before .before .before .before .before .if1 .left))) .found))
+loop-less c =
+    let back4 = c .before .before .before .before in
+    let back8 = back4 .before .before .before .before in
+    omega (arith, (back8 .met-at .ensures .some (not-false _ (back4 .before .before .if1 .left))) .ends, found-within _ _ _ ((back8 .met-at .ensures .some (not-false _ (back4 .before .before .if1 .left))) .found))
 
 loop-again : tie.Need-loop-again Inv-loop μ-loop
 unfolding heldOf
-loop-again c = far-again (c .before .before .before .before .before .before .before .before .before .loop .inv) ((c .before .before .before .before .before .before .before .before .met-at .ensures .some (not-false _ (c .before .before .before .before .before .before .if1 .left))) .found) ((c .before .before .before .before .before .before .before .before .met-at .ensures .some (not-false _ (c .before .before .before .before .before .before .if1 .left))) .ends) (rw ((c .before .before .before .before .before .before .before .before .met-at .ensures .some (not-false _ (c .before .before .before .before .before .before .if1 .left))) .is) at (c .before .before .before .before .before .slot-of .ensures)) (rw (← (c .before .before .before .before .before .before .before .before .met-at .ensures .some (not-false _ (c .before .before .before .before .before .before .if1 .left))) .is) (c .before .before .before .before .is-critical .ensures _)) (rw (← (c .before .before .before .before .before .before .before .before .met-at .ensures .some (not-false _ (c .before .before .before .before .before .before .if1 .left))) .is) (c .before .before .before .unusual .ensures _ (c .before .before .before .before .before .slot-of .ensures))) (c .before .before .if2 .taken) (c .if3 .taken)
+loop-again c =
+    let back4 = c .before .before .before .before in
+    let back8 = back4 .before .before .before .before in
+    far-again (back8 .before .loop .inv) ((back8 .met-at .ensures .some (not-false _ (back4 .before .before .if1 .left))) .found) ((back8 .met-at .ensures .some (not-false _ (back4 .before .before .if1 .left))) .ends) (rw ((back8 .met-at .ensures .some (not-false _ (back4 .before .before .if1 .left))) .is) at (back4 .before .slot-of .ensures)) (rw (← (back8 .met-at .ensures .some (not-false _ (back4 .before .before .if1 .left))) .is) (c .before .before .before .before .is-critical .ensures _)) (rw (← (back8 .met-at .ensures .some (not-false _ (back4 .before .before .if1 .left))) .is) (c .before .before .before .unusual .ensures _ (back4 .before .slot-of .ensures))) (c .before .before .if2 .taken) (c .if3 .taken)
 
 loop-less-2 : tie.Need-loop-less-2 Inv-loop μ-loop
-loop-less-2 c = omega (arith, (c .before .before .before .before .before .before .before .before .before .met-at .ensures .some (not-false _ (c .before .before .before .before .before .before .before .if1 .left))) .ends, found-within _ _ _ ((c .before .before .before .before .before .before .before .before .before .met-at .ensures .some (not-false _ (c .before .before .before .before .before .before .before .if1 .left))) .found))
+loop-less-2 c =
+    let back4 = c .before .before .before .before in
+    let back8 = back4 .before .before .before .before in
+    omega (arith, (back8 .before .met-at .ensures .some (not-false _ (back4 .before .before .before .if1 .left))) .ends, found-within _ _ _ ((back8 .before .met-at .ensures .some (not-false _ (back4 .before .before .before .if1 .left))) .found))
 
 loop-again-2 : tie.Need-loop-again-2 Inv-loop μ-loop
 unfolding heldOf
-loop-again-2 c = far-new (c .before .before .before .before .before .before .before .before .before .before .loop .inv) ((c .before .before .before .before .before .before .before .before .before .met-at .ensures .some (not-false _ (c .before .before .before .before .before .before .before .if1 .left))) .found) ((c .before .before .before .before .before .before .before .before .before .met-at .ensures .some (not-false _ (c .before .before .before .before .before .before .before .if1 .left))) .ends) (rw ((c .before .before .before .before .before .before .before .before .before .met-at .ensures .some (not-false _ (c .before .before .before .before .before .before .before .if1 .left))) .is) at (c .before .before .before .before .before .before .slot-of .ensures)) (rw (← (c .before .before .before .before .before .before .before .before .before .met-at .ensures .some (not-false _ (c .before .before .before .before .before .before .before .if1 .left))) .is) (c .before .before .before .before .before .is-critical .ensures _)) (rw (← (c .before .before .before .before .before .before .before .before .before .met-at .ensures .some (not-false _ (c .before .before .before .before .before .before .before .if1 .left))) .is) (c .before .before .before .before .unusual .ensures _ (c .before .before .before .before .before .before .slot-of .ensures))) (rw (← (c .before .before .before .before .before .before .before .before .before .met-at .ensures .some (not-false _ (c .before .before .before .before .before .before .before .if1 .left))) .is) (c .held-of2 .ensures)) (c .before .before .before .if2 .taken) (c .before .if3 .left)
+loop-again-2 c =
+    let back4 = c .before .before .before .before in
+    let back8 = back4 .before .before .before .before in
+    far-new (back8 .before .before .loop .inv) ((back8 .before .met-at .ensures .some (not-false _ (back4 .before .before .before .if1 .left))) .found) ((back8 .before .met-at .ensures .some (not-false _ (back4 .before .before .before .if1 .left))) .ends) (rw ((back8 .before .met-at .ensures .some (not-false _ (back4 .before .before .before .if1 .left))) .is) at (back4 .before .before .slot-of .ensures)) (rw (← (back8 .before .met-at .ensures .some (not-false _ (back4 .before .before .before .if1 .left))) .is) (back4 .before .is-critical .ensures _)) (rw (← (back8 .before .met-at .ensures .some (not-false _ (back4 .before .before .before .if1 .left))) .is) (c .before .before .before .before .unusual .ensures _ (back4 .before .before .slot-of .ensures))) (rw (← (back8 .before .met-at .ensures .some (not-false _ (back4 .before .before .before .if1 .left))) .is) (c .held-of2 .ensures)) (c .before .before .before .if2 .taken) (c .before .if3 .left)
 
 loop-less-3 : tie.Need-loop-less-3 Inv-loop μ-loop
-loop-less-3 c = omega (arith, (c .before .before .before .before .before .before .before .met-at .ensures .some (not-false _ (c .before .before .before .before .before .if1 .left))) .ends, found-within _ _ _ ((c .before .before .before .before .before .before .before .met-at .ensures .some (not-false _ (c .before .before .before .before .before .if1 .left))) .found))
+loop-less-3 c =
+    let back4 = c .before .before .before .before in
+    omega (arith, (back4 .before .before .before .met-at .ensures .some (not-false _ (back4 .before .if1 .left))) .ends, found-within _ _ _ ((back4 .before .before .before .met-at .ensures .some (not-false _ (back4 .before .if1 .left))) .found))
 
 loop-again-3 : tie.Need-loop-again-3 Inv-loop μ-loop
-loop-again-3 c = far-stranger (c .before .before .before .before .before .before .before .before .loop .inv) ((c .before .before .before .before .before .before .before .met-at .ensures .some (not-false _ (c .before .before .before .before .before .if1 .left))) .found) ((c .before .before .before .before .before .before .before .met-at .ensures .some (not-false _ (c .before .before .before .before .before .if1 .left))) .ends) (rw ((c .before .before .before .before .before .before .before .met-at .ensures .some (not-false _ (c .before .before .before .before .before .if1 .left))) .is) at (c .before .before .before .before .slot-of .ensures)) (rw (← (c .before .before .before .before .before .before .before .met-at .ensures .some (not-false _ (c .before .before .before .before .before .if1 .left))) .is) (c .before .before .before .is-critical .ensures _)) (rw (← (c .before .before .before .before .before .before .before .met-at .ensures .some (not-false _ (c .before .before .before .before .before .if1 .left))) .is) (c .before .before .unusual .ensures _ (c .before .before .before .before .slot-of .ensures))) (c .before .if2 .left)
+loop-again-3 c =
+    let back4 = c .before .before .before .before in
+    let back8 = back4 .before .before .before .before in
+    far-stranger (back8 .loop .inv) ((back4 .before .before .before .met-at .ensures .some (not-false _ (back4 .before .if1 .left))) .found) ((back4 .before .before .before .met-at .ensures .some (not-false _ (back4 .before .if1 .left))) .ends) (rw ((back4 .before .before .before .met-at .ensures .some (not-false _ (back4 .before .if1 .left))) .is) at (c .before .before .before .before .slot-of .ensures)) (rw (← (back4 .before .before .before .met-at .ensures .some (not-false _ (back4 .before .if1 .left))) .is) (c .before .before .before .is-critical .ensures _)) (rw (← (back4 .before .before .before .met-at .ensures .some (not-false _ (back4 .before .if1 .left))) .is) (c .before .before .unusual .ensures _ (c .before .before .before .before .slot-of .ensures))) (c .before .if2 .left)
 
 loop-less-4 : tie.Need-loop-less-4 Inv-loop μ-loop
-loop-less-4 c = omega (arith, (c .before .before .before .before .before .before .before .met-at .ensures .some (not-false _ (c .before .before .before .before .before .if1 .left))) .ends, found-within _ _ _ ((c .before .before .before .before .before .before .before .met-at .ensures .some (not-false _ (c .before .before .before .before .before .if1 .left))) .found))
+loop-less-4 c =
+    let back4 = c .before .before .before .before in
+    omega (arith, (back4 .before .before .before .met-at .ensures .some (not-false _ (back4 .before .if1 .left))) .ends, found-within _ _ _ ((back4 .before .before .before .met-at .ensures .some (not-false _ (back4 .before .if1 .left))) .found))
 
 loop-again-4 : tie.Need-loop-again-4 Inv-loop μ-loop
-loop-again-4 c = far-none (c .before .before .before .before .before .before .before .before .loop .inv) ((c .before .before .before .before .before .before .before .met-at .ensures .some (not-false _ (c .before .before .before .before .before .if1 .left))) .found) ((c .before .before .before .before .before .before .before .met-at .ensures .some (not-false _ (c .before .before .before .before .before .if1 .left))) .ends) (rw ((c .before .before .before .before .before .before .before .met-at .ensures .some (not-false _ (c .before .before .before .before .before .if1 .left))) .is) at (c .before .before .before .before .slot-of .ensures)) (rw (← (c .before .before .before .before .before .before .before .met-at .ensures .some (not-false _ (c .before .before .before .before .before .if1 .left))) .is) (c .before .before .before .is-critical .ensures _)) (rw (← (c .before .before .before .before .before .before .before .met-at .ensures .some (not-false _ (c .before .before .before .before .before .if1 .left))) .is) (c .before .before .unusual .ensures _ (c .before .before .before .before .slot-of .ensures))) (c .if4 .left)
-
-doubled-requires : tie.Need-doubled-requires Inv-loop μ-loop
-doubled-requires c κs = search needs
+loop-again-4 c =
+    let back4 = c .before .before .before .before in
+    let back8 = back4 .before .before .before .before in
+    far-none (back8 .loop .inv) ((back4 .before .before .before .met-at .ensures .some (not-false _ (back4 .before .if1 .left))) .found) ((back4 .before .before .before .met-at .ensures .some (not-false _ (back4 .before .if1 .left))) .ends) (rw ((back4 .before .before .before .met-at .ensures .some (not-false _ (back4 .before .if1 .left))) .is) at (c .before .before .before .before .slot-of .ensures)) (rw (← (back4 .before .before .before .met-at .ensures .some (not-false _ (back4 .before .if1 .left))) .is) (c .before .before .before .is-critical .ensures _)) (rw (← (back4 .before .before .before .met-at .ensures .some (not-false _ (back4 .before .if1 .left))) .is) (c .before .before .unusual .ensures _ (c .before .before .before .before .slot-of .ensures))) (c .if4 .left)
 
 returns : tie.Need-returns Inv-loop μ-loop
-returns c = record { shaped = end-shape (c .before .before .before .before .before .before .loop .inv) (c .before .before .before .before .before .met-at .ensures .none (not-true _ (c .before .before .before .if1 .taken))); marked = end-marks (c .before .before .before .before .before .before .loop .inv) (c .before .before .before .before .before .met-at .ensures .none (not-true _ (c .before .before .before .if1 .taken))); critical = end-harsh (c .before .before .before .before .before .before .loop .inv) (c .before .before .before .before .before .met-at .ensures .none (not-true _ (c .before .before .before .if1 .taken))); doubled = c .doubled .ensures; placed = end-placed (c .before .before .before .before .before .before .loop .inv) (c .before .before .before .before .before .met-at .ensures .none (not-true _ (c .before .before .before .if1 .taken))) }
+returns c =
+    let back4 = c .before .before .before .before in
+    record {
+      shaped = end-shape (back4 .before .before .loop .inv) (back4 .before .met-at .ensures .none (not-true _ (c .before .before .before .if1 .taken)));
+      marked = end-marks (back4 .before .before .loop .inv) (back4 .before .met-at .ensures .none (not-true _ (c .before .before .before .if1 .taken)));
+      critical = end-harsh (back4 .before .before .loop .inv) (back4 .before .met-at .ensures .none (not-true _ (c .before .before .before .if1 .taken)));
+      doubled = c .doubled .ensures;
+      placed =
+          let back4 = c .before .before .before .before in
+          end-placed (back4 .before .before .loop .inv) (back4 .before .met-at .ensures .none (not-true _ (c .before .before .before .if1 .taken)));
+    }
 
 returns-2 : tie.Need-returns-2 Inv-loop μ-loop
-returns-2 c = record { shaped = end-shape (c .before .before .before .before .before .loop .inv) (c .before .before .before .before .met-at .ensures .none (not-true _ (c .before .before .if1 .taken))); marked = end-marks (c .before .before .before .before .before .loop .inv) (c .before .before .before .before .met-at .ensures .none (not-true _ (c .before .before .if1 .taken))); critical = end-harsh (c .before .before .before .before .before .loop .inv) (c .before .before .before .before .met-at .ensures .none (not-true _ (c .before .before .if1 .taken))); doubled = end-apart (c .before .before .before .before .before .loop .inv) (c .before .before .before .before .met-at .ensures .none (not-true _ (c .before .before .if1 .taken))) (not-true _ (c .before .if5 .taken)) (c .if6 .left); placed = end-placed (c .before .before .before .before .before .loop .inv) (c .before .before .before .before .met-at .ensures .none (not-true _ (c .before .before .if1 .taken))) }
+returns-2 c =
+    let back4 = c .before .before .before .before in
+    record {
+      shaped = end-shape (back4 .before .loop .inv) (c .before .before .before .before .met-at .ensures .none (not-true _ (c .before .before .if1 .taken)));
+      marked = end-marks (back4 .before .loop .inv) (c .before .before .before .before .met-at .ensures .none (not-true _ (c .before .before .if1 .taken)));
+      critical = end-harsh (back4 .before .loop .inv) (c .before .before .before .before .met-at .ensures .none (not-true _ (c .before .before .if1 .taken)));
+      doubled = end-apart (back4 .before .loop .inv) (c .before .before .before .before .met-at .ensures .none (not-true _ (c .before .before .if1 .taken))) (not-true _ (c .before .if5 .taken)) (c .if6 .left);
+      placed =
+          let back4 = c .before .before .before .before in
+          end-placed (back4 .before .loop .inv) (c .before .before .before .before .met-at .ensures .none (not-true _ (c .before .before .if1 .taken)));
+    }
 
 returns-3 : tie.Need-returns-3 Inv-loop μ-loop
 returns-3 c = record { shaped = end-shape (c .before .before .before .before .loop .inv) (c .before .before .before .met-at .ensures .none (not-true _ (c .before .if1 .taken))); marked = end-marks (c .before .before .before .before .loop .inv) (c .before .before .before .met-at .ensures .none (not-true _ (c .before .if1 .taken))); critical = end-harsh (c .before .before .before .before .loop .inv) (c .before .before .before .met-at .ensures .none (not-true _ (c .before .if1 .taken))); doubled = end-twice (c .before .before .before .before .loop .inv) (c .before .before .before .met-at .ensures .none (not-true _ (c .before .if1 .taken))) (not-false _ (c .if5 .left)); placed = end-placed (c .before .before .before .before .loop .inv) (c .before .before .before .met-at .ensures .none (not-true _ (c .before .if1 .taken))) }
@@ -95,16 +115,16 @@ one-pass-spec =
     (tie.spec
     Inv-loop
     μ-loop
-    held-of-requires
+    (λ c κs. search needs)
     loop-holds
-    met-at-requires
-    slot-of-requires
-    is-critical-requires
-    unusual-requires
-    mul-first
+    (λ c κs. search needs)
+    (λ c κs. search needs)
+    (λ c κs. search needs)
+    (λ c κs. search needs)
+    (λ c. search needs)
     array-copy-out-first
-    held-of-requires-2
-    mul-slots
+    (λ c κs. search needs)
+    (λ c. search needs)
     array-set-from-slots
     loop-less
     loop-again
@@ -114,7 +134,7 @@ one-pass-spec =
     loop-again-3
     loop-less-4
     loop-again-4
-    doubled-requires
+    (λ c κs. search needs)
     returns
     returns-2
     returns-3)

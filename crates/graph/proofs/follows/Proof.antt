@@ -10,9 +10,6 @@ use Rattle.graph.proofs.Steps.{no-step, to-link, by-signer}
 use Rattle.graph.proofs.follows.Statement.{statement}
 use Rattle.graph.proofs.follows.Tie as tie
 
-octet-requires : tie.Need-octet-requires
-octet-requires c κs = search needs
-
 returns : tie.Need-returns
 unfolding followed
 returns c = rw (eq-eqb _ _ (c .before .if1 .taken), c .octet .ensures)
@@ -23,14 +20,8 @@ mul-octet c = omega (arith, c .before .before .before .pre)
 add-octet : tie.Need-add-octet
 add-octet c = omega (arith, c .before .before .before .pre)
 
-octet-requires-2 : tie.Need-octet-requires-2
-octet-requires-2 c κs = search needs
-
 returns-2 : tie.Need-returns-2
 returns-2 c = let p = c .before .before .before .before .before .pre in let a = c .before .before .before .before .before .args in let d = c .before .before .if1 .left in let h : a .u < a .places = omega arith in sym (no-step (a .places) (graphOf (a .places) (a .roles .now) (a .steps .now)) h (ne-eqb _ _ (p .1 h)) (ne-eqb _ _ (λ e. let x = c .before .octet2 .ensures ∙ e in omega (arith, c .if2 .taken))))
-
-octet-requires-3 : tie.Need-octet-requires-3
-octet-requires-3 c κs = search needs
 
 returns-3 : tie.Need-returns-3
 returns-3 c = let p = c .before .before .before .before .before .before .before .pre in let a = c .before .before .before .before .before .before .before .args in let d = c .before .before .before .before .if1 .left in let h : a .u < a .places = omega arith in sym (to-link (a .places) (graphOf (a .places) (a .roles .now) (a .steps .now)) h (ne-eqb _ _ (p .1 h)) (eq-eqb _ _ (sym (c .before .octet3 .ensures) ∙ c .if3 .taken)) (eq-eqb _ _ (sym (c .before .before .before .octet2 .ensures) ∙ c .before .before .if2 .left)))
@@ -42,12 +33,12 @@ pub follows-spec : {M : Type 1} → statement M
 follows-spec =
     tie.close
     (tie.spec
-    octet-requires
+    (λ c κs. search needs)
     returns
     mul-octet
     add-octet
-    octet-requires-2
+    (λ c κs. search needs)
     returns-2
-    octet-requires-3
+    (λ c κs. search needs)
     returns-3
     returns-4)

@@ -6,18 +6,6 @@ use borrow.Author.Needs.{needs}
 use Rattle.image.proofs.entry.Statement.{statement}
 use Rattle.image.proofs.entry.Tie as tie
 
-open-requires : tie.Need-open-requires
-open-requires c κs = search needs
-
-enum-known-refusal : tie.Need-enum-known-refusal
-enum-known-refusal c = search needs
-
-enum-known-entries : tie.Need-enum-known-entries
-enum-known-entries c = search needs
-
-entry-in-requires : tie.Need-entry-in-requires
-entry-in-requires c κs = search needs
-
 returns : tie.Need-returns
 unfolding placeOf onPlace
 returns c = simp (sym ((c .before .before) .before .«open» .ensures) ∙ c .before .refusal .given .1)
@@ -34,10 +22,10 @@ pub entry-spec : {M : Type 1} → statement M
 entry-spec =
     tie.close
     (tie.spec
-    open-requires
-    enum-known-refusal
-    enum-known-entries
-    entry-in-requires
+    (λ c κs. search needs)
+    (λ c. search needs)
+    (λ c. search needs)
+    (λ c κs. search needs)
     returns
     returns-2
     returns-3)

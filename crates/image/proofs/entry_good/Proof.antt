@@ -6,9 +6,6 @@ use borrow.Author.Needs.{needs}
 use Rattle.image.proofs.entry_good.Statement.{statement}
 use Rattle.image.proofs.entry_good.Tie as tie
 
-fields-good-requires : tie.Need-fields-good-requires
-fields-good-requires c κs = search needs
-
 returns : tie.Need-returns
 unfolding entryGood
 returns c = simp (sym (c .before .fields-good .ensures) ∙ not-true _ (c .if1 .taken))
@@ -18,4 +15,4 @@ unfolding entryGood
 returns-2 c = simp (sym (c .before .before .fields-good .ensures) ∙ not-false _ (c .before .if1 .left))
 
 pub entry-good-spec : {M : Type 1} → statement M
-entry-good-spec = tie.close (tie.spec fields-good-requires returns returns-2)
+entry-good-spec = tie.close (tie.spec (λ c κs. search needs) returns returns-2)

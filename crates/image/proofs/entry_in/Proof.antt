@@ -14,42 +14,28 @@ returns c =
     let a = c .before .before .args in
     entry-past (a .image .now) (indexStart (a .image .now) + 8 * a .place) (omega arith)
 
-index-start-requires : tie.Need-index-start-requires
-index-start-requires c κs = search needs
-
-mul-at : tie.Need-mul-at
-mul-at c = search needs
-
-add-at : tie.Need-add-at
-add-at c = search needs
-
-add-if2 : tie.Need-add-if2
-add-if2 c = search needs
-
-entry-cut-requires : tie.Need-entry-cut-requires
-entry-cut-requires c κs = search needs
-
 returns-2 : tie.Need-returns-2
 unfolding entryIn
-returns-2 c = c .entry-cut .ensures ∙ ap (λ (i : ℕ). entryAt (c .before .before .before .before .before .args .image .now) (i + 8 * c .before .before .before .before .before .args .place)) (c .before .before .index-start .ensures .0)
-
-entry-at-requires : tie.Need-entry-at-requires
-entry-at-requires c κs = search needs
+returns-2 c =
+    let back4 = c .before .before .before .before in
+    c .entry-cut .ensures ∙ ap (λ (i : ℕ). entryAt (back4 .before .args .image .now) (i + 8 * back4 .before .args .place)) (c .before .before .index-start .ensures .0)
 
 returns-3 : tie.Need-returns-3
 unfolding entryIn
-returns-3 c = c .entry-at .ensures .0 ∙ ap (λ (i : ℕ). entryAt (c .before .before .before .before .before .args .image .now) (i + 8 * c .before .before .before .before .before .args .place)) (c .before .before .index-start .ensures .0)
+returns-3 c =
+    let back4 = c .before .before .before .before in
+    c .entry-at .ensures .0 ∙ ap (λ (i : ℕ). entryAt (back4 .before .args .image .now) (i + 8 * back4 .before .args .place)) (c .before .before .index-start .ensures .0)
 
 pub entry-in-spec : {M : Type 1} → statement M
 entry-in-spec =
     tie.close
     (tie.spec
     returns
-    index-start-requires
-    mul-at
-    add-at
-    add-if2
-    entry-cut-requires
+    (λ c κs. search needs)
+    (λ c. search needs)
+    (λ c. search needs)
+    (λ c. search needs)
+    (λ c κs. search needs)
     returns-2
-    entry-at-requires
+    (λ c κs. search needs)
     returns-3)

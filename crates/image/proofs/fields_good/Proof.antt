@@ -14,9 +14,6 @@ returns-2 : tie.Need-returns-2
 unfolding fieldsGood
 returns-2 c = simp (le-leb _ _ (c .before .if1 .left), lt-leb _ _ (c .if2 .taken))
 
-flags-good-requires : tie.Need-flags-good-requires
-flags-good-requires c κs = search needs
-
 returns-3 : tie.Need-returns-3
 unfolding fieldsGood
 returns-3 c = simp (le-leb _ _ (c .before .before .before .if1 .left), le-leb _ _ (c .before .before .if2 .left), sym (c .before .flags-good .ensures) ∙ not-true _ (c .if3 .taken))
@@ -31,4 +28,4 @@ returns-5 c = simp (le-leb _ _ (c .before .before .before .before .if1 .left), l
 
 pub fields-good-spec : {M : Type 1} → statement M
 fields-good-spec =
-    tie.close (tie.spec returns returns-2 flags-good-requires returns-3 returns-4 returns-5)
+    tie.close (tie.spec returns returns-2 (λ c κs. search needs) returns-3 returns-4 returns-5)

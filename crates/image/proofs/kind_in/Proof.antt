@@ -9,27 +9,16 @@ use borrow.Author.Needs.{needs}
 use Rattle.image.proofs.kind_in.Statement.{statement}
 use Rattle.image.proofs.kind_in.Tie as tie
 
-index-start-requires : tie.Need-index-start-requires
-index-start-requires c κs = search needs
-
-mul-kind-at : tie.Need-mul-kind-at
-mul-kind-at c = search needs
-
-add-kind-at : tie.Need-add-kind-at
-add-kind-at c = search needs
-
-shared-slice-read-result : tie.Need-shared-slice-read-result
-shared-slice-read-result c = search needs
-
 cast-result : tie.Need-cast-result
-cast-result c = omega (arith, c .before .before .before .before .shared-slice-known .given (c .before .before .index-start .result + 8 * c .before .before .before .before .before .args .place))
+cast-result c =
+    let back4 = c .before .before .before .before in
+    omega (arith, c .before .before .before .before .shared-slice-known .given (c .before .before .index-start .result + 8 * back4 .before .args .place))
 
 returns : tie.Need-returns
 unfolding entryIn entryAt
-returns c = sym (field-one (c .before .before .before .before .before .args .image .now) (c .before .before .index-start .result + 8 * c .before .before .before .before .before .args .place) (c .before .if2 .taken)) ∙ ap (λ (k : ℕ). field (c .before .before .before .before .before .args .image .now) (k + 8 * c .before .before .before .before .before .args .place) 1) (c .before .before .index-start .ensures .0)
-
-entry-in-requires : tie.Need-entry-in-requires
-entry-in-requires c κs = search needs
+returns c =
+    let back4 = c .before .before .before .before in
+    sym (field-one (back4 .before .args .image .now) (c .before .before .index-start .result + 8 * back4 .before .args .place) (c .before .if2 .taken)) ∙ ap (λ (k : ℕ). field (back4 .before .args .image .now) (k + 8 * back4 .before .args .place) 1) (c .before .before .index-start .ensures .0)
 
 returns-2 : tie.Need-returns-2
 returns-2 c = ap (λ (e : IndexEntry). e .kind) (c .entry-in .ensures)
@@ -38,11 +27,11 @@ pub kind-in-spec : {M : Type 1} → statement M
 kind-in-spec =
     tie.close
     (tie.spec
-    index-start-requires
-    mul-kind-at
-    add-kind-at
-    shared-slice-read-result
+    (λ c κs. search needs)
+    (λ c. search needs)
+    (λ c. search needs)
+    (λ c. search needs)
     cast-result
     returns
-    entry-in-requires
+    (λ c κs. search needs)
     returns-2)

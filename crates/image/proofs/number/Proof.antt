@@ -2,14 +2,11 @@
 use mathlib.Core.Path.{ap, _∙_}
 use native.Mathlib.Omega.{arith}
 use lib.ListN.{length-take}
-use Rattle.der.specs.Octets.{number}
+use Rattle.octets.specs.Octets.{number}
 use Rattle.image.specs.Index.{field}
 use borrow.Author.Needs.{needs}
 use Rattle.image.proofs.number.Statement.{statement}
 use Rattle.image.proofs.number.Tie as tie
-
-part-requires : tie.Need-part-requires
-part-requires c κs = search needs
 
 number-of-requires : tie.Need-number-of-requires
 number-of-requires c κs = rw (c .part .ensures) (simp length-take (omega arith))
@@ -19,4 +16,4 @@ unfolding field
 returns c = (c .number-of .ensures .0 ∙ ap number (c .before .part .ensures), c .number-of .ensures .1)
 
 pub number-spec : {M : Type 1} → statement M
-number-spec = tie.close (tie.spec part-requires number-of-requires returns)
+number-spec = tie.close (tie.spec (λ c κs. search needs) number-of-requires returns)

@@ -6,8 +6,8 @@ use native.Mathlib.Numerals.{add-one}
 use native.Mathlib.Omega.{arith}
 use lib.ListN.{length, take, getD}
 use lib.Seq.{take-all}
-use Rattle.der.specs.Octets.{number}
-use Rattle.der.proofs.Weights.{number-next}
+use Rattle.octets.specs.Octets.{number}
+use Rattle.octets.proofs.Weights.{number-next}
 use Rattle.image.proofs.number_of.Statement.{statement}
 use Rattle.image.proofs.number_of.Tie as tie
 

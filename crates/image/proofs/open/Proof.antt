@@ -12,15 +12,9 @@ use borrow.Author.Needs.{needs}
 use Rattle.image.proofs.open.Statement.{statement}
 use Rattle.image.proofs.open.Tie as tie
 
-broken-requires : tie.Need-broken-requires
-broken-requires c κs = search needs
-
 returns : tie.Need-returns
 unfolding rule1
 returns c = c .broken .ensures ∙ sym (breaks-1 (c .before .before .before .args .image .now) (simp (lt-leb _ _ (c .before .if1 .taken))))
-
-broken-requires-2 : tie.Need-broken-requires-2
-broken-requires-2 c κs = search needs
 
 returns-2 : tie.Need-returns-2
 unfolding rule1
@@ -30,62 +24,37 @@ one : (c : tie.Else2) → rule1 (c .before .before .before .args .image .now) �
 unfolding rule1
 one c = simp (le-leb _ _ (c .before .if1 .left), le-leb _ _ (c .if2 .left))
 
-sub-two : tie.Need-sub-two
-sub-two c = search needs
-
-two-requires : tie.Need-two-requires
-two-requires c κs = search needs
-
-broken-requires-3 : tie.Need-broken-requires-3
-broken-requires-3 c κs = search needs
-
 returns-3 : tie.Need-returns-3
 unfolding rule2 versionIn
-returns-3 c = c .broken3 .ensures ∙ sym (breaks-2 (c .before .before .before .before .before .before .args .image .now) (one (c .before .before .before)) (ne-eqb _ _ λ e. c .before .if3 .taken (c .before .before .two .ensures .0 ∙ e)))
+returns-3 c =
+    let back4 = c .before .before .before .before in
+    c .broken3 .ensures ∙ sym (breaks-2 (back4 .before .before .args .image .now) (one (c .before .before .before)) (ne-eqb _ _ λ e. c .before .if3 .taken (c .before .before .two .ensures .0 ∙ e)))
 
 two : (c : tie.Else3) → rule2 (c .before .before .before .before .before .args .image .now) ≡ true
 unfolding rule2 versionIn
 two c = eq-eqb _ _ (sym (c .before .two .ensures .0) ∙ c .if3 .left)
 
-sub-two-2 : tie.Need-sub-two-2
-sub-two-2 c = search needs
-
-two-requires-2 : tie.Need-two-requires-2
-two-requires-2 c κs = search needs
-
-broken-requires-4 : tie.Need-broken-requires-4
-broken-requires-4 c κs = search needs
-
 returns-4 : tie.Need-returns-4
 unfolding rule3 entryCount
-returns-4 c = c .broken4 .ensures ∙ sym (breaks-3 (c .before .before .before .before .before .before .before .before .args .image .now) (one (c .before .before .before .before .before)) (two (c .before .before .before)) (lt-leb _ _ (rw (c .before .before .two2 .ensures .0) at (c .before .if4 .taken))))
+returns-4 c =
+    let back4 = c .before .before .before .before in
+    let back8 = back4 .before .before .before .before in
+    c .broken4 .ensures ∙ sym (breaks-3 (back8 .args .image .now) (one (back4 .before)) (two (c .before .before .before)) (lt-leb _ _ (rw (c .before .before .two2 .ensures .0) at (c .before .if4 .taken))))
 
 three : (c : tie.Else4) → rule3 (c .before .before .before .before .before .before .before .args .image .now) ≡ true
 unfolding rule3 entryCount
 three c = le-leb _ _ (rw (c .before .two2 .ensures .0) at (c .if4 .left))
 
-sub-four : tie.Need-sub-four
-sub-four c = search needs
-
-four-requires : tie.Need-four-requires
-four-requires c κs = search needs
-
-real-day-requires : tie.Need-real-day-requires
-real-day-requires c κs = search needs
-
-broken-requires-5 : tie.Need-broken-requires-5
-broken-requires-5 c κs = search needs
-
 returns-5 : tie.Need-returns-5
 unfolding rule4 dayIn
-returns-5 c = c .broken5 .ensures ∙ sym (breaks-4 (c .before .before .before .before .before .before .before .before .before .before .before .args .image .now) (one (c .before .before .before .before .before .before .before .before)) (two (c .before .before .before .before .before .before)) (three (c .before .before .before .before)) (rw (← c .before .before .before .four .ensures .0) (sym (c .before .before .real-day .ensures) ∙ not-true _ (c .before .if5 .taken))))
+returns-5 c =
+    let back4 = c .before .before .before .before in
+    let back8 = back4 .before .before .before .before in
+    c .broken5 .ensures ∙ sym (breaks-4 (back8 .before .before .before .args .image .now) (one back8) (two (back4 .before .before)) (three (c .before .before .before .before)) (rw (← c .before .before .before .four .ensures .0) (sym (c .before .before .real-day .ensures) ∙ not-true _ (c .before .if5 .taken))))
 
 four : (c : tie.Else5) → rule4 (c .before .before .before .before .before .before .before .before .before .before .args .image .now) ≡ true
 unfolding rule4 dayIn
 four c = rw (← c .before .before .four .ensures .0) (sym (c .before .real-day .ensures) ∙ not-false _ (c .if5 .left))
-
-four-requires-2 : tie.Need-four-requires-2
-four-requires-2 c κs = search needs
 
 -- where the index starts, and where the image ends by it
 start : (c : tie.After-four2) →
@@ -97,25 +66,18 @@ ending : (c : tie.After-four2) →
     let s = c .before .before .before .before .before .before .before .before .before .before .before .args .image .now in
     c .four2 .result + 8 * c .before .before .before .before .before .two2 .result + 12 ≡ indexStart s + 8 * entryCount s + 12
 unfolding entryCount
-ending c = omega (arith, start c, c .before .before .before .before .before .two2 .ensures .0)
-
-mul-if6 : tie.Need-mul-if6
-mul-if6 c = search needs
-
-add-if6 : tie.Need-add-if6
-add-if6 c = search needs
-
-add-if6-2 : tie.Need-add-if6-2
-add-if6-2 c = search needs
-
-broken-requires-6 : tie.Need-broken-requires-6
-broken-requires-6 c κs = search needs
+ending c =
+    let back4 = c .before .before .before .before in
+    omega (arith, start c, back4 .before .two2 .ensures .0)
 
 returns-6 : tie.Need-returns-6
 unfolding rule5 indexStart entryCount
 returns-6 c =
+    let back4 = c .before .before .before .before in
+    let back8 = back4 .before .before .before .before in
+    let back12 = back8 .before .before .before .before in
     c .broken6 .ensures
-    ∙ sym (breaks-5 (c .before .before .before .before .before .before .before .before .before .before .before .before .before .args .image .now) (one (c .before .before .before .before .before .before .before .before .before .before)) (two (c .before .before .before .before .before .before .before .before)) (three (c .before .before .before .before .before .before)) (four (c .before .before .before)) (ne-eqb _ _ λ e. c .before .if6 .taken (ending (c .before .before) ∙ e)))
+    ∙ sym (breaks-5 (back12 .before .args .image .now) (one (back8 .before .before)) (two back8) (three (back4 .before .before)) (four (c .before .before .before)) (ne-eqb _ _ λ e. c .before .if6 .taken (ending (c .before .before) ∙ e)))
 
 five : (c : tie.Else6) → rule5 (c .before .before .before .before .before .before .before .before .before .before .before .before .args .image .now) ≡ true
 unfolding rule5
@@ -125,89 +87,90 @@ five c = eq-eqb _ _ (sym (ending (c .before)) ∙ c .if6 .left)
 kept : (c : tie.Else6) →
     let s = c .before .before .before .before .before .before .before .before .before .before .before .before .args .image .now in
     (rule1 s ≡ true) × (rule2 s ≡ true) × (rule3 s ≡ true) × (rule4 s ≡ true) × (rule5 s ≡ true)
-kept c = (
-  one (c .before .before .before .before .before .before .before .before .before),
-  two (c .before .before .before .before .before .before .before),
-  three (c .before .before .before .before .before),
-  four (c .before .before),
-  five c,
-)
-
-sum-entries-requires : tie.Need-sum-entries-requires
-sum-entries-requires c κs = search needs
-
-enum-known-sum : tie.Need-enum-known-sum
-enum-known-sum c = search needs
-
-enum-told : tie.Need-enum-told
-enum-told c = search needs
-
-broken-requires-7 : tie.Need-broken-requires-7
-broken-requires-7 c κs = search needs
+kept c =
+    let back4 = c .before .before .before .before in
+    let back8 = back4 .before .before .before .before in (
+      one (back8 .before),
+      two (back4 .before .before .before),
+      three (back4 .before),
+      four (c .before .before),
+      five c,
+    )
 
 returns-7 : tie.Need-returns-7
 unfolding rule6 totalOf fit indexStart entryCount
 returns-7 c =
+    let back4 = c .before .before .before .before in
+    let back8 = back4 .before .before .before .before in
+    let back12 = back8 .before .before .before .before in
+    let back16 = back12 .before .before .before .before in
     let k = kept (c .before .before .before .before) in
     c .broken7 .ensures
-    ∙ sym (breaks-6 (c .before .before .before .before .before .before .before .before .before .before .before .before .before .before .before .before .args .image .now) (k .0) (k .1) (k .2) (k .3) (k .4) (simp (sym (c .before .before .before .before .before .before .before .before .before .before .two2 .ensures .0), sym (c .before .before .before .before .before .four2 .ensures .0), sym (c .before .before .before .sum-entries .ensures) ∙ c .before .enum-told .given .1)))
+    ∙ sym (breaks-6 (back16 .args .image .now) (k .0) (k .1) (k .2) (k .3) (k .4) (simp (sym (back8 .before .before .two2 .ensures .0), sym (back4 .before .four2 .ensures .0), sym (c .before .before .before .sum-entries .ensures) ∙ c .before .enum-told .given .1)))
 
 total : (c : tie.After-known-told) →
     totalOf (c .before .before .before .before .before .before .before .before .before .before .before .before .before .before .before .before .args .image .now) ≡ Sum (c .before .sum .given .0 .0)
 unfolding totalOf indexStart entryCount
 total c =
-    rw (← c .before .before .before .before .before .four2 .ensures .0, ← c .before .before .before .before .before .before .before .before .before .before .two2 .ensures .0)
+    let back4 = c .before .before .before .before in
+    let back8 = back4 .before .before .before .before in
+    rw (← back4 .before .four2 .ensures .0, ← back8 .before .before .two2 .ensures .0)
     (sym (c .before .before .before .sum-entries .ensures) ∙ c .before .sum .given .1)
-
-broken-requires-8 : tie.Need-broken-requires-8
-broken-requires-8 c κs = search needs
 
 returns-8 : tie.Need-returns-8
 unfolding rule6 rule7 fit summed
 returns-8 c =
-    let k = kept (c .before .before .before .before .before .before) in
+    let back4 = c .before .before .before .before in
+    let back8 = back4 .before .before .before .before in
+    let back12 = back8 .before .before .before .before in
+    let back16 = back12 .before .before .before .before in
+    let k = kept (back4 .before .before) in
     c .broken8 .ensures
-    ∙ sym (breaks-7 (c .before .before .before .before .before .before .before .before .before .before .before .before .before .before .before .before .before .before .args .image .now) (k .0) (k .1) (k .2) (k .3) (k .4) (simp (total (c .before .before))) (simp (total (c .before .before), ne-eqb _ _ λ e. c .before .if7 .taken (e ∙ sym (start (c .before .before .before .before .before .before .before))))))
+    ∙ sym (breaks-7 (back16 .before .before .args .image .now) (k .0) (k .1) (k .2) (k .3) (k .4) (simp (total (c .before .before))) (simp (total (c .before .before), ne-eqb _ _ λ e. c .before .if7 .taken (e ∙ sym (start (back4 .before .before .before))))))
 
 returns-9 : tie.Need-returns-9
 unfolding rule6 rule7 fit summed entryCount dayIn
 returns-9 c =
-    let k = kept (c .before .before .before .before .before) in
-    let all = keeps-all (c .before .before .before .before .before .before .before .before .before .before .before .before .before .before .before .before .before .args .image .now) (k .0) (k .1) (k .2) (k .3) (k .4) (simp (total (c .before))) (simp (total (c .before), eq-eqb _ _ (c .if7 .left ∙ start (c .before .before .before .before .before .before)))) in
-    rw (c .before .before .before .before .before .before .before .before .before .before .before .two2 .ensures .0, c .before .before .before .before .before .before .before .before .before .four .ensures .0) (sym all)
+    let back4 = c .before .before .before .before in
+    let back8 = back4 .before .before .before .before in
+    let back12 = back8 .before .before .before .before in
+    let back16 = back12 .before .before .before .before in
+    let k = kept (back4 .before) in
+    let all = keeps-all (back16 .before .args .image .now) (k .0) (k .1) (k .2) (k .3) (k .4) (simp (total (c .before))) (simp (total (c .before), eq-eqb _ _ (c .if7 .left ∙ start (back4 .before .before)))) in
+    rw (back8 .before .before .before .two2 .ensures .0, back8 .before .four .ensures .0) (sym all)
 
 pub open-spec : {M : Type 1} → statement M
 open-spec =
     tie.close
     (tie.spec
-    broken-requires
+    (λ c κs. search needs)
     returns
-    broken-requires-2
+    (λ c κs. search needs)
     returns-2
-    sub-two
-    two-requires
-    broken-requires-3
+    (λ c. search needs)
+    (λ c κs. search needs)
+    (λ c κs. search needs)
     returns-3
-    sub-two-2
-    two-requires-2
-    broken-requires-4
+    (λ c. search needs)
+    (λ c κs. search needs)
+    (λ c κs. search needs)
     returns-4
-    sub-four
-    four-requires
-    real-day-requires
-    broken-requires-5
+    (λ c. search needs)
+    (λ c κs. search needs)
+    (λ c κs. search needs)
+    (λ c κs. search needs)
     returns-5
-    four-requires-2
-    mul-if6
-    add-if6
-    add-if6-2
-    broken-requires-6
+    (λ c κs. search needs)
+    (λ c. search needs)
+    (λ c. search needs)
+    (λ c. search needs)
+    (λ c κs. search needs)
     returns-6
-    sum-entries-requires
-    enum-known-sum
-    enum-told
-    broken-requires-7
+    (λ c κs. search needs)
+    (λ c. search needs)
+    (λ c. search needs)
+    (λ c κs. search needs)
     returns-7
-    broken-requires-8
+    (λ c κs. search needs)
     returns-8
     returns-9)

@@ -25,9 +25,6 @@ loop-holds c = (omega arith, omega arith, omega arith, refl)
 entry-at-requires : tie.Need-entry-at-requires Inv-loop μ-loop
 entry-at-requires c κs = omega arith
 
-entry-good-requires : tie.Need-entry-good-requires Inv-loop μ-loop
-entry-good-requires c κs = search needs
-
 returns : tie.Need-returns Inv-loop μ-loop
 returns c =
     let now = c .before .before .before .before .loop in
@@ -49,10 +46,11 @@ loop-less c = omega arith
 
 loop-again : tie.Need-loop-again Inv-loop μ-loop
 loop-again c =
-    let now = c .before .before .before .before .before .loop in
+    let back4 = c .before .before .before .before in
+    let now = back4 .before .loop in
     let one : suc (now .left - 1) ≡ now .left = omega arith in
     let good = sym (ap (λ e. entryGood e (now .sum)) (c .before .before .before .entry-at .ensures .0)) ∙ (sym (c .before .before .entry-good .ensures) ∙ not-false _ (c .before .if1 .left)) in
-    let s = c .before .before .before .before .before .before .before .args .image .now in
+    let s = back4 .before .before .before .args .image .now in
     let more = sum-more s (now .at) (now .left - 1) (now .sum) good in
     let step : sumOf s (now .at) (now .left) (now .sum) ≡ sumOf s (now .at + 8) (now .left - 1) (now .sum + c .before .before .before .entry-at .result .length) =
     ap (λ n. sumOf s (now .at) n (now .sum)) (sym one)
@@ -73,7 +71,7 @@ sum-entries-spec =
     μ-loop
     loop-holds
     entry-at-requires
-    entry-good-requires
+    (λ c κs. search needs)
     returns
     add-sum
     add-at

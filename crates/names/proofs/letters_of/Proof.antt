@@ -22,9 +22,6 @@ none-once s Never h = refl
 none-once s Often h = refl
 none-once s (Once value) h = absurd (⊎-elim (λ e. omega arith) (λ e. omega arith) h)
 
-enum-known-seen : tie.Need-enum-known-seen
-enum-known-seen c = search needs
-
 returns : tie.Need-returns
 returns c = none-once (c .before .before .args .item .now) (c .before .before .args .seen) (c .match .keys2)
 
@@ -32,58 +29,49 @@ returns-2 : tie.Need-returns-2
 unfolding lettersOf lettersIn
 returns-2 c = simp (c .before .before .before .seen .given .1, ne-eqb _ _ (c .if1 .taken))
 
-contents-requires : tie.Need-contents-requires
-contents-requires c κs = search needs
-
 returns-3 : tie.Need-returns-3
 unfolding lettersOf lettersIn
-returns-3 c = simp (c .before .before .before .before .before .seen .given .1, eq-eqb _ _ (c .before .before .if1 .left), sym (c .before .contents .ensures), ne-eqb _ _ (c .if2 .taken))
-
-shared-slice-read-capital : tie.Need-shared-slice-read-capital
-shared-slice-read-capital c = search needs
-
-capital-requires : tie.Need-capital-requires
-capital-requires c κs = search needs
+returns-3 c =
+    let back4 = c .before .before .before .before in
+    simp (back4 .before .seen .given .1, eq-eqb _ _ (c .before .before .if1 .left), sym (c .before .contents .ensures), ne-eqb _ _ (c .if2 .taken))
 
 returns-4 : tie.Need-returns-4
 unfolding lettersOf lettersIn
-returns-4 c = simp (c .before .before .before .before .before .before .before .before .seen .given .1, eq-eqb _ _ (c .before .before .before .before .before .if1 .left), sym (c .before .before .before .before .contents .ensures), eq-eqb _ _ (c .before .before .before .if2 .left), sym (c .before .capital .ensures) ∙ not-true _ (c .if3 .taken))
-
-shared-slice-read-capital-2 : tie.Need-shared-slice-read-capital-2
-shared-slice-read-capital-2 c = search needs
-
-capital-requires-2 : tie.Need-capital-requires-2
-capital-requires-2 c κs = search needs
+returns-4 c =
+    let back4 = c .before .before .before .before in
+    let back8 = back4 .before .before .before .before in
+    simp (back8 .seen .given .1, eq-eqb _ _ (back4 .before .if1 .left), sym (c .before .before .before .before .contents .ensures), eq-eqb _ _ (c .before .before .before .if2 .left), sym (c .before .capital .ensures) ∙ not-true _ (c .if3 .taken))
 
 returns-5 : tie.Need-returns-5
 unfolding lettersOf lettersIn
-returns-5 c = simp (c .before .before .before .before .before .before .before .before .before .before .before .seen .given .1, eq-eqb _ _ (c .before .before .before .before .before .before .before .before .if1 .left), sym (c .before .before .before .before .before .before .before .contents .ensures), eq-eqb _ _ (c .before .before .before .before .before .before .if2 .left), sym (c .before .before .before .before .capital .ensures) ∙ not-false _ (c .before .before .before .if3 .left), sym (c .before .capital2 .ensures) ∙ not-true _ (c .if4 .taken))
-
-shared-slice-read-t8 : tie.Need-shared-slice-read-t8
-shared-slice-read-t8 c = search needs
-
-shared-slice-read-t13 : tie.Need-shared-slice-read-t13
-shared-slice-read-t13 c = search needs
+returns-5 c =
+    let back4 = c .before .before .before .before in
+    let back8 = back4 .before .before .before .before in
+    simp (back8 .before .before .before .seen .given .1, eq-eqb _ _ (back8 .if1 .left), sym (back4 .before .before .before .contents .ensures), eq-eqb _ _ (back4 .before .before .if2 .left), sym (c .before .before .before .before .capital .ensures) ∙ not-false _ (c .before .before .before .if3 .left), sym (c .before .capital2 .ensures) ∙ not-true _ (c .if4 .taken))
 
 returns-6 : tie.Need-returns-6
 unfolding lettersOf lettersIn
-returns-6 c = simp (c .before .before .before .before .before .before .before .before .before .before .before .before .before .seen .given .1, eq-eqb _ _ (c .before .before .before .before .before .before .before .before .before .before .if1 .left), sym (c .before .before .before .before .before .before .before .before .before .contents .ensures), eq-eqb _ _ (c .before .before .before .before .before .before .before .before .if2 .left), sym (c .before .before .before .before .before .before .capital .ensures) ∙ not-false _ (c .before .before .before .before .before .if3 .left), sym (c .before .before .before .capital2 .ensures) ∙ not-false _ (c .before .before .if4 .left))
+returns-6 c =
+    let back4 = c .before .before .before .before in
+    let back8 = back4 .before .before .before .before in
+    let back12 = back8 .before .before .before .before in
+    simp (back12 .before .seen .given .1, eq-eqb _ _ (back8 .before .before .if1 .left), sym (back8 .before .contents .ensures), eq-eqb _ _ (back8 .if2 .left), sym (back4 .before .before .capital .ensures) ∙ not-false _ (back4 .before .if3 .left), sym (c .before .before .before .capital2 .ensures) ∙ not-false _ (c .before .before .if4 .left))
 
 pub letters-of-spec : {M : Type 1} → statement M
 letters-of-spec =
     tie.close
     (tie.spec
-    enum-known-seen
+    (λ c. search needs)
     returns
     returns-2
-    contents-requires
+    (λ c κs. search needs)
     returns-3
-    shared-slice-read-capital
-    capital-requires
+    (λ c. search needs)
+    (λ c κs. search needs)
     returns-4
-    shared-slice-read-capital-2
-    capital-requires-2
+    (λ c. search needs)
+    (λ c κs. search needs)
     returns-5
-    shared-slice-read-t8
-    shared-slice-read-t13
+    (λ c. search needs)
+    (λ c. search needs)
     returns-6)

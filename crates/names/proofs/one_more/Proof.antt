@@ -4,15 +4,6 @@ use borrow.Author.Needs.{needs}
 use Rattle.names.proofs.one_more.Statement.{statement}
 use Rattle.names.proofs.one_more.Tie as tie
 
-enum-told : tie.Need-enum-told
-enum-told c = search needs
-
-enum-told-2 : tie.Need-enum-told-2
-enum-told-2 c = search needs
-
-enum-told-3 : tie.Need-enum-told-3
-enum-told-3 c = search needs
-
 returns : tie.Need-returns
 unfolding oneMore
 returns c = simp (c .enum-told .given .1)
@@ -26,4 +17,4 @@ unfolding oneMore
 returns-3 c = simp (c .enum-told3 .given .1)
 
 pub one-more-spec : {M : Type 1} → statement M
-one-more-spec = tie.close (tie.spec enum-told enum-told-2 enum-told-3 returns returns-2 returns-3)
+one-more-spec = tie.close (tie.spec (λ c. search needs) (λ c. search needs) (λ c. search needs) returns returns-2 returns-3)

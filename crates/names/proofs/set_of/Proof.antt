@@ -21,41 +21,14 @@ abbrev μ-loop : tie.MeasureT-loop
 returns : tie.Need-returns Inv-loop μ-loop
 returns c = sym (set-not _ _ _ (c .if1 .taken))
 
-element-at-requires : tie.Need-element-at-requires Inv-loop μ-loop
-element-at-requires c κs = search needs
-
-enum-known-first : tie.Need-enum-known-first Inv-loop μ-loop
-enum-known-first c = search needs
-
-enum-told : tie.Need-enum-told Inv-loop μ-loop
-enum-told c = search needs
-
 returns-2 : tie.Need-returns-2 Inv-loop μ-loop
 returns-2 c = sym (set-empty _ _ _ (c .before .before .before .if1 .left) (sym (c .before .before .element-at .ensures) ∙ c .enum-told .given .1))
 
 loop-holds : tie.Need-loop-holds Inv-loop μ-loop
 loop-holds c = sym (set-filled _ _ _ (c .before .before .before .before .if1 .left) (sym (c .before .before .before .element-at .ensures) ∙ c .before .first .given .1))
 
-attribute-of-requires : tie.Need-attribute-of-requires Inv-loop μ-loop
-attribute-of-requires c κs = search needs
-
-enum-told-2 : tie.Need-enum-told-2 Inv-loop μ-loop
-enum-told-2 c = search needs
-
 returns-3 : tie.Need-returns-3 Inv-loop μ-loop
 returns-3 c = sym (attributes-bad _ _ _ _ (sym (c .before .before .attribute-of .ensures) ∙ c .enum-told2 .given .1)) ∙ c .before .before .before .loop .inv
-
-enum-told-3 : tie.Need-enum-told-3 Inv-loop μ-loop
-enum-told-3 c = search needs
-
-enum-known-value : tie.Need-enum-known-value Inv-loop μ-loop
-enum-known-value c = search needs
-
-one-more-requires : tie.Need-one-more-requires Inv-loop μ-loop
-one-more-requires c κs = search needs
-
-element-at-requires-2 : tie.Need-element-at-requires-2 Inv-loop μ-loop
-element-at-requires-2 c κs = search needs
 
 -- past this attribute
 further : (c : tie.At-match2-came Inv-loop μ-loop) → let args = c .before .before .before .before .before .before .before .before .before .before .args in attributesOf (args .item .now) (membersOf (args .item .now) (c .before .before .loop .attribute .end) (args .e .end)) (c .match2 .seen) ≡ oneSet (args .item .now) (args .e) (args .before)
@@ -64,12 +37,6 @@ further c =
     (λ w. rw (w .2) (sym (attributes-other _ _ _ _ (sym (c .before .attribute-of .ensures) ∙ w .1 .given .1)) ∙ c .before .before .loop .inv))
     (λ w. rw (w .4, w .3 .ensures) (sym (attributes-country _ _ _ _ (sym (c .before .attribute-of .ensures) ∙ w .1 .given .1)) ∙ c .before .before .loop .inv))
     (c .match2 .came)
-
-enum-known-next : tie.Need-enum-known-next Inv-loop μ-loop
-enum-known-next c = search needs
-
-enum-told-4 : tie.Need-enum-told-4 Inv-loop μ-loop
-enum-told-4 c = search needs
 
 returns-4 : tie.Need-returns-4 Inv-loop μ-loop
 returns-4 c = sym (attributes-done _ _ _ _ (sym (c .before .before .element-at2 .ensures) ∙ c .enum-told4 .given .1)) ∙ further (c .before .before .before)
@@ -87,20 +54,20 @@ set-of-spec =
     Inv-loop
     μ-loop
     returns
-    element-at-requires
-    enum-known-first
-    enum-told
+    (λ c κs. search needs)
+    (λ c. search needs)
+    (λ c. search needs)
     returns-2
     loop-holds
-    attribute-of-requires
-    enum-told-2
+    (λ c κs. search needs)
+    (λ c. search needs)
     returns-3
-    enum-told-3
-    enum-known-value
-    one-more-requires
-    element-at-requires-2
-    enum-known-next
-    enum-told-4
+    (λ c. search needs)
+    (λ c. search needs)
+    (λ c κs. search needs)
+    (λ c κs. search needs)
+    (λ c. search needs)
+    (λ c. search needs)
     returns-4
     loop-less
     loop-again)

@@ -12,58 +12,47 @@ returns : tie.Need-returns
 unfolding timeIn zulu
 returns c = no-year _ _ (simp (ne-eqb _ _ (c .if1 .taken)))
 
-shared-slice-read-if2 : tie.Need-shared-slice-read-if2
-shared-slice-read-if2 c = search needs
-
 returns-2 : tie.Need-returns-2
 unfolding timeIn zulu
 returns-2 c = no-year _ _ (simp (eq-eqb _ _ (c .before .before .if1 .left), ne-eqb _ _ (c .if2 .taken)))
 
-shared-slice-read-pair : tie.Need-shared-slice-read-pair
-shared-slice-read-pair c = search needs
-
-shared-slice-read-pair-2 : tie.Need-shared-slice-read-pair-2
-shared-slice-read-pair-2 c = search needs
-
-pair-requires : tie.Need-pair-requires
-pair-requires c κs = search needs
-
-add-result : tie.Need-add-result
-add-result c = search needs
-
 returns-3 : tie.Need-returns-3
 unfolding timeIn zulu
 returns-3 c =
-    a-year _ _ 2 _ (c .before .before .before .before .before .before .if1 .left) (omega arith)
-    (simp (eq-eqb _ _ (c .before .before .before .before .before .before .if1 .left), eq-eqb _ _ (c .before .before .before .before .if2 .left), short-read (c .before .before .before .before .before .before .before .before .args .c .now) (omega arith) (c .before .pair .ensures) (omega arith))
-    (sym (in-two-thousands _ (ten-left (c .before .before .before .before .before .before .before .before .args .c .now) 2 (omega arith)) _ (c .if3 .taken))))
-
-add-result-2 : tie.Need-add-result-2
-add-result-2 c = search needs
+    let back4 = c .before .before .before .before in
+    let back8 = back4 .before .before .before .before in
+    a-year _ _ 2 _ (back4 .before .before .if1 .left) (omega arith)
+    (simp (eq-eqb _ _ (back4 .before .before .if1 .left), eq-eqb _ _ (c .before .before .before .before .if2 .left), short-read (back8 .args .c .now) (omega arith) (c .before .pair .ensures) (omega arith))
+    (sym (in-two-thousands _ (ten-left (back8 .args .c .now) 2 (omega arith)) _ (c .if3 .taken))))
 
 returns-4 : tie.Need-returns-4
 unfolding timeIn zulu
 returns-4 c =
-    a-year _ _ 2 _ (c .before .before .before .before .before .before .before .if1 .left) (omega arith)
-    (simp (eq-eqb _ _ (c .before .before .before .before .before .before .before .if1 .left), eq-eqb _ _ (c .before .before .before .before .before .if2 .left), short-read (c .before .before .before .before .before .before .before .before .before .args .c .now) (omega arith) (c .before .before .pair .ensures) (omega arith))
-    (sym (in-nineteen-hundreds _ (ten-left (c .before .before .before .before .before .before .before .before .before .args .c .now) 2 (omega arith)) _ (c .before .if3 .left))))
+    let back4 = c .before .before .before .before in
+    let back8 = back4 .before .before .before .before in
+    a-year _ _ 2 _ (back4 .before .before .before .if1 .left) (omega arith)
+    (simp (eq-eqb _ _ (back4 .before .before .before .if1 .left), eq-eqb _ _ (back4 .before .if2 .left), short-read (back8 .before .args .c .now) (omega arith) (c .before .before .pair .ensures) (omega arith))
+    (sym (in-nineteen-hundreds _ (ten-left (back8 .before .args .c .now) 2 (omega arith)) _ (c .before .if3 .left))))
 
 returns-5 : tie.Need-returns-5
 unfolding timeIn zulu inCentury
-returns-5 c = no-year _ _ (simp (eq-eqb _ _ (c .before .before .before .before .before .before .before .if1 .left), eq-eqb _ _ (c .before .before .before .before .before .if2 .left), short-wordy (c .before .before .before .before .before .before .before .before .before .args .c .now) (omega arith) (c .before .before .pair .ensures) (omega arith)))
+returns-5 c =
+    let back4 = c .before .before .before .before in
+    let back8 = back4 .before .before .before .before in
+    no-year _ _ (simp (eq-eqb _ _ (back4 .before .before .before .if1 .left), eq-eqb _ _ (back4 .before .if2 .left), short-wordy (back8 .before .args .c .now) (omega arith) (c .before .before .pair .ensures) (omega arith)))
 
 pub short-year-spec : {M : Type 1} → statement M
 short-year-spec =
     tie.close
     (tie.spec
     returns
-    shared-slice-read-if2
+    (λ c. search needs)
     returns-2
-    shared-slice-read-pair
-    shared-slice-read-pair-2
-    pair-requires
-    add-result
+    (λ c. search needs)
+    (λ c. search needs)
+    (λ c κs. search needs)
+    (λ c. search needs)
     returns-3
-    add-result-2
+    (λ c. search needs)
     returns-4
     returns-5)

@@ -8,12 +8,6 @@ use borrow.Author.Needs.{needs}
 use Rattle.times.proofs.time_of.Statement.{statement}
 use Rattle.times.proofs.time_of.Tie as tie
 
-contents-requires : tie.Need-contents-requires
-contents-requires c κs = search needs
-
-year-of-requires : tie.Need-year-of-requires
-year-of-requires c κs = search needs
-
 returns : tie.Need-returns
 unfolding timeOf
 returns c = sym (rw (← c .before .before .contents .ensures) (c .before .year-of .ensures .none (c .if1 .taken)))
@@ -21,20 +15,8 @@ returns c = sym (rw (← c .before .before .contents .ensures) (c .before .year-
 sub-from : tie.Need-sub-from
 sub-from c = c .before .year-of .ensures .long (c .if1 .left)
 
-add-end : tie.Need-add-end
-add-end c = search needs
-
-sub-within : tie.Need-sub-within
-sub-within c = search needs
-
-part-within-start : tie.Need-part-within-start
-part-within-start c = search needs
-
 part-within-end : tie.Need-part-within-end
 part-within-end c = omega (arith, c .before .year-of .ensures .long (c .if1 .left))
-
-within-requires : tie.Need-within-requires
-within-requires c κs = search needs
 
 returns-2 : tie.Need-returns-2
 unfolding timeOf
@@ -47,13 +29,13 @@ pub time-of-spec : {M : Type 1} → statement M
 time-of-spec =
     tie.close
     (tie.spec
-    contents-requires
-    year-of-requires
+    (λ c κs. search needs)
+    (λ c κs. search needs)
     returns
     sub-from
-    add-end
-    sub-within
-    part-within-start
+    (λ c. search needs)
+    (λ c. search needs)
+    (λ c. search needs)
     part-within-end
-    within-requires
+    (λ c κs. search needs)
     returns-2)

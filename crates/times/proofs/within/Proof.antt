@@ -7,87 +7,58 @@ use borrow.Author.Needs.{needs}
 use Rattle.times.proofs.within.Statement.{statement}
 use Rattle.times.proofs.within.Tie as tie
 
-shared-slice-read-pair : tie.Need-shared-slice-read-pair
-shared-slice-read-pair c = search needs
-
-shared-slice-read-pair-2 : tie.Need-shared-slice-read-pair-2
-shared-slice-read-pair-2 c = search needs
-
-pair-requires : tie.Need-pair-requires
-pair-requires c κs = search needs
-
 returns : tie.Need-returns
-returns c = none-real (c .before .before .before .before .before .args .year) (c .before .before .before .before .before .args .c .now) (c .before .before .before .before .before .pre .1) λ m w r. omega (arith, w .month-is (c .before .pair .ensures), r .date .month-high, c .if1 .taken)
-
-shared-slice-read-pair-3 : tie.Need-shared-slice-read-pair-3
-shared-slice-read-pair-3 c = search needs
-
-shared-slice-read-pair-4 : tie.Need-shared-slice-read-pair-4
-shared-slice-read-pair-4 c = search needs
-
-pair-requires-2 : tie.Need-pair-requires-2
-pair-requires-2 c κs = search needs
+returns c =
+    let back4 = c .before .before .before .before in
+    none-real (back4 .before .args .year) (back4 .before .args .c .now) (back4 .before .pre .1) λ m w r. omega (arith, w .month-is (c .before .pair .ensures), r .date .month-high, c .if1 .taken)
 
 returns-2 : tie.Need-returns-2
-returns-2 c = none-real (c .before .before .before .before .before .before .before .before .before .args .year) (c .before .before .before .before .before .before .before .before .before .args .c .now) (c .before .before .before .before .before .before .before .before .before .pre .1) λ m w r. omega (arith, w .day-is (c .before .pair2 .ensures), r .date .day-low, c .if2 .taken)
-
-month-length-requires : tie.Need-month-length-requires
-month-length-requires c κs = search needs
+returns-2 c =
+    let back4 = c .before .before .before .before in
+    let back8 = back4 .before .before .before .before in
+    none-real (back8 .before .args .year) (back8 .before .args .c .now) (back8 .before .pre .1) λ m w r. omega (arith, w .day-is (c .before .pair2 .ensures), r .date .day-low, c .if2 .taken)
 
 returns-3 : tie.Need-returns-3
 returns-3 c =
-    none-real (c .before .before .before .before .before .before .before .before .before .before .before .args .year) (c .before .before .before .before .before .before .before .before .before .before .before .args .c .now) (c .before .before .before .before .before .before .before .before .before .before .before .pre .1) λ m w r.
-    let high = rw (w .year-is, w .month-is (c .before .before .before .before .before .before .before .pair .ensures), w .day-is (c .before .before .before .pair2 .ensures)) at (r .date .day-high) in
+    let back4 = c .before .before .before .before in
+    let back8 = back4 .before .before .before .before in
+    none-real (back8 .before .before .before .args .year) (back8 .before .before .before .args .c .now) (back8 .before .before .before .pre .1) λ m w r.
+    let high = rw (w .year-is, w .month-is (back4 .before .before .before .pair .ensures), w .day-is (c .before .before .before .pair2 .ensures)) at (r .date .day-high) in
     omega (arith, high, c .before .month-length .ensures, c .if3 .taken)
 
-shared-slice-read-pair-5 : tie.Need-shared-slice-read-pair-5
-shared-slice-read-pair-5 c = search needs
-
-shared-slice-read-pair-6 : tie.Need-shared-slice-read-pair-6
-shared-slice-read-pair-6 c = search needs
-
-pair-requires-3 : tie.Need-pair-requires-3
-pair-requires-3 c κs = search needs
-
 returns-4 : tie.Need-returns-4
-returns-4 c = none-real (c .before .before .before .before .before .before .before .before .before .before .before .before .before .before .before .args .year) (c .before .before .before .before .before .before .before .before .before .before .before .before .before .before .before .args .c .now) (c .before .before .before .before .before .before .before .before .before .before .before .before .before .before .before .pre .1) λ m w r. omega (arith, w .hour-is (c .before .pair3 .ensures), r .hour, c .if4 .taken)
-
-shared-slice-read-pair-7 : tie.Need-shared-slice-read-pair-7
-shared-slice-read-pair-7 c = search needs
-
-shared-slice-read-pair-8 : tie.Need-shared-slice-read-pair-8
-shared-slice-read-pair-8 c = search needs
-
-pair-requires-4 : tie.Need-pair-requires-4
-pair-requires-4 c κs = search needs
+returns-4 c =
+    let back4 = c .before .before .before .before in
+    let back8 = back4 .before .before .before .before in
+    let back12 = back8 .before .before .before .before in
+    none-real (back12 .before .before .before .args .year) (back12 .before .before .before .args .c .now) (back12 .before .before .before .pre .1) λ m w r. omega (arith, w .hour-is (c .before .pair3 .ensures), r .hour, c .if4 .taken)
 
 returns-5 : tie.Need-returns-5
-returns-5 c = none-real (c .before .before .before .before .before .before .before .before .before .before .before .before .before .before .before .before .before .before .before .args .year) (c .before .before .before .before .before .before .before .before .before .before .before .before .before .before .before .before .before .before .before .args .c .now) (c .before .before .before .before .before .before .before .before .before .before .before .before .before .before .before .before .before .before .before .pre .1) λ m w r. omega (arith, w .minute-is (c .before .pair4 .ensures), r .minute, c .if5 .taken)
-
-shared-slice-read-pair-9 : tie.Need-shared-slice-read-pair-9
-shared-slice-read-pair-9 c = search needs
-
-shared-slice-read-pair-10 : tie.Need-shared-slice-read-pair-10
-shared-slice-read-pair-10 c = search needs
-
-pair-requires-5 : tie.Need-pair-requires-5
-pair-requires-5 c κs = search needs
+returns-5 c =
+    let back4 = c .before .before .before .before in
+    let back8 = back4 .before .before .before .before in
+    let back12 = back8 .before .before .before .before in
+    let back16 = back12 .before .before .before .before in
+    none-real (back16 .before .before .before .args .year) (back16 .before .before .before .args .c .now) (back16 .before .before .before .pre .1) λ m w r. omega (arith, w .minute-is (c .before .pair4 .ensures), r .minute, c .if5 .taken)
 
 returns-6 : tie.Need-returns-6
-returns-6 c = none-real (c .before .before .before .before .before .before .before .before .before .before .before .before .before .before .before .before .before .before .before .before .before .before .before .args .year) (c .before .before .before .before .before .before .before .before .before .before .before .before .before .before .before .before .before .before .before .before .before .before .before .args .c .now) (c .before .before .before .before .before .before .before .before .before .before .before .before .before .before .before .before .before .before .before .before .before .before .before .pre .1) λ m w r. omega (arith, w .second-is (c .before .pair5 .ensures), r .second, c .if6 .taken)
-
-mul-date : tie.Need-mul-date
-mul-date c = search needs
-
-add-date : tie.Need-add-date
-add-date c = search needs
-
-mul-date-2 : tie.Need-mul-date-2
-mul-date-2 c = search needs
+returns-6 c =
+    let back4 = c .before .before .before .before in
+    let back8 = back4 .before .before .before .before in
+    let back12 = back8 .before .before .before .before in
+    let back16 = back12 .before .before .before .before in
+    let back20 = back16 .before .before .before .before in
+    none-real (back20 .before .before .before .args .year) (back20 .before .before .before .args .c .now) (back20 .before .before .before .pre .1) λ m w r. omega (arith, w .second-is (c .before .pair5 .ensures), r .second, c .if6 .taken)
 
 -- the day is one that the month has
 few : (c : tie.Else6) → c .before .before .before .before .before .before .before .before .before .before .before .before .before .before .before .pair2 .result ≤ 31
-few c = omega (arith, c .before .before .before .before .before .before .before .before .before .before .before .before .before .month-length .ensures, c .before .before .before .before .before .before .before .before .before .before .before .before .if3 .left, length-most (c .before .before .before .before .before .before .before .before .before .before .before .before .before .before .before .before .before .before .before .before .before .before .before .args .year) (c .before .before .before .before .before .before .before .before .before .before .before .before .before .before .before .before .before .before .before .pair .result))
+few c =
+    let back4 = c .before .before .before .before in
+    let back8 = back4 .before .before .before .before in
+    let back12 = back8 .before .before .before .before in
+    let back16 = back12 .before .before .before .before in
+    let back20 = back16 .before .before .before .before in
+    omega (arith, back12 .before .month-length .ensures, back12 .if3 .left, length-most (back20 .before .before .before .args .year) (back16 .before .before .before .pair .result))
 
 add-date-2 : tie.Need-add-date-2
 add-date-2 c = omega (arith, few c)
@@ -112,38 +83,43 @@ add-t27 c = omega (arith, few c)
 
 returns-7 : tie.Need-returns-7
 returns-7 c =
-    one-real (c .before .before .before .before .before .before .before .before .before .before .before .before .before .before .before .before .before .before .before .before .before .before .before .args .year) (c .before .before .before .before .before .before .before .before .before .before .before .before .before .before .before .before .before .before .before .before .before .before .before .args .c .now) (c .before .before .before .before .before .before .before .before .before .before .before .before .before .before .before .before .before .before .before .before .before .before .before .pre .1) (c .before .before .before .before .before .before .before .before .before .before .before .before .before .before .before .before .before .before .before .pair .ensures) (c .before .before .before .before .before .before .before .before .before .before .before .before .before .before .before .pair2 .ensures) (c .before .before .before .before .before .before .before .before .before .pair3 .ensures) (c .before .before .before .before .before .pair4 .ensures) (c .before .pair5 .ensures)
-    (c .before .before .before .before .before .before .before .before .before .before .before .before .before .before .before .before .before .before .before .before .before .before .before .pre .0) (c .before .before .before .before .before .before .before .before .before .before .before .before .before .before .before .before .before .before .if1 .left) (c .before .before .before .before .before .before .before .before .before .before .before .before .before .before .if2 .left) (rw (c .before .before .before .before .before .before .before .before .before .before .before .before .before .month-length .ensures) at (c .before .before .before .before .before .before .before .before .before .before .before .before .if3 .left)) (c .before .before .before .before .before .before .before .before .if4 .left) (c .before .before .before .before .if5 .left) (c .if6 .left)
+    let back4 = c .before .before .before .before in
+    let back8 = back4 .before .before .before .before in
+    let back12 = back8 .before .before .before .before in
+    let back16 = back12 .before .before .before .before in
+    let back20 = back16 .before .before .before .before in
+    one-real (back20 .before .before .before .args .year) (back20 .before .before .before .args .c .now) (back20 .before .before .before .pre .1) (back16 .before .before .before .pair .ensures) (back12 .before .before .before .pair2 .ensures) (back8 .before .pair3 .ensures) (back4 .before .pair4 .ensures) (c .before .pair5 .ensures)
+    (back20 .before .before .before .pre .0) (back16 .before .before .if1 .left) (back12 .before .before .if2 .left) (rw (back12 .before .month-length .ensures) at (back12 .if3 .left)) (back8 .if4 .left) (c .before .before .before .before .if5 .left) (c .if6 .left)
 
 pub within-spec : {M : Type 1} → statement M
 within-spec =
     tie.close
     (tie.spec
-    shared-slice-read-pair
-    shared-slice-read-pair-2
-    pair-requires
+    (λ c. search needs)
+    (λ c. search needs)
+    (λ c κs. search needs)
     returns
-    shared-slice-read-pair-3
-    shared-slice-read-pair-4
-    pair-requires-2
+    (λ c. search needs)
+    (λ c. search needs)
+    (λ c κs. search needs)
     returns-2
-    month-length-requires
+    (λ c κs. search needs)
     returns-3
-    shared-slice-read-pair-5
-    shared-slice-read-pair-6
-    pair-requires-3
+    (λ c. search needs)
+    (λ c. search needs)
+    (λ c κs. search needs)
     returns-4
-    shared-slice-read-pair-7
-    shared-slice-read-pair-8
-    pair-requires-4
+    (λ c. search needs)
+    (λ c. search needs)
+    (λ c κs. search needs)
     returns-5
-    shared-slice-read-pair-9
-    shared-slice-read-pair-10
-    pair-requires-5
+    (λ c. search needs)
+    (λ c. search needs)
+    (λ c κs. search needs)
     returns-6
-    mul-date
-    add-date
-    mul-date-2
+    (λ c. search needs)
+    (λ c. search needs)
+    (λ c. search needs)
     add-date-2
     mul-t16
     add-t24

@@ -5,16 +5,6 @@ use Rattle.times.specs.Times.{timeIn}
 use Rattle.times.proofs.Years.{no-year}
 use Rattle.times.proofs.year_of.Statement.{statement}
 use Rattle.times.proofs.year_of.Tie as tie
-use Rattle.times.proofs.year_of.Reads as reads
-use Rattle.times.proofs.year_of.Lts as lts
-use Rattle.times.proofs.full_year.Reads as full-year-reads
-use Rattle.times.proofs.short_year.Reads as short-year-reads
-
-short-year-requires : tie.Need-short-year-requires
-short-year-requires c κs = search needs
-
-full-year-requires : tie.Need-full-year-requires
-full-year-requires c κs = search needs
 
 returns : tie.Need-returns
 returns c = rw (c .before .match .keys1) (c .short-year .ensures)
@@ -28,4 +18,4 @@ returns-3 c = no-year _ _ (simp (ne-eqb _ _ (c .match .rest .0 .1), ne-eqb _ _ (
 
 pub year-of-spec : {M : Type 1} → statement M
 year-of-spec =
-    tie.close (tie.spec short-year-requires full-year-requires returns returns-2 returns-3)
+    tie.close (tie.spec (λ c κs. search needs) (λ c κs. search needs) returns returns-2 returns-3)

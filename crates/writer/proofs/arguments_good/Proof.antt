@@ -6,9 +6,6 @@ use borrow.Author.Needs.{needs}
 use Rattle.writer.proofs.arguments_good.Statement.{statement}
 use Rattle.writer.proofs.arguments_good.Tie as tie
 
-real-day-requires : tie.Need-real-day-requires
-real-day-requires c κs = search needs
-
 returns : tie.Need-returns
 unfolding argumentsGood
 returns c = simp (sym (c .before .real-day .ensures) ∙ not-true _ (c .if1 .taken))
@@ -25,30 +22,28 @@ returns-4 : tie.Need-returns-4
 unfolding argumentsGood
 returns-4 c = simp (sym (c .before .before .before .before .real-day .ensures) ∙ not-false _ (c .before .before .before .if1 .left), le-leb _ _ (c .before .before .if2 .left), eq-eqb _ _ (c .before .if3 .left), ne-eqb _ _ (c .if4 .taken))
 
-rows-good-requires : tie.Need-rows-good-requires
-rows-good-requires c κs = search needs
-
 returns-5 : tie.Need-returns-5
 unfolding argumentsGood
-returns-5 c = simp (sym (c .before .before .before .before .before .before .real-day .ensures) ∙ not-false _ (c .before .before .before .before .before .if1 .left), le-leb _ _ (c .before .before .before .before .if2 .left), eq-eqb _ _ (c .before .before .before .if3 .left), eq-eqb _ _ (c .before .before .if4 .left), sym (c .before .rows-good .ensures) ∙ not-true _ (c .if5 .taken))
-
-sum-all-requires : tie.Need-sum-all-requires
-sum-all-requires c κs = search needs
+returns-5 c =
+    let back4 = c .before .before .before .before in
+    simp (sym (back4 .before .before .real-day .ensures) ∙ not-false _ (back4 .before .if1 .left), le-leb _ _ (c .before .before .before .before .if2 .left), eq-eqb _ _ (c .before .before .before .if3 .left), eq-eqb _ _ (c .before .before .if4 .left), sym (c .before .rows-good .ensures) ∙ not-true _ (c .if5 .taken))
 
 returns-6 : tie.Need-returns-6
 unfolding argumentsGood
-returns-6 c = simp (sym (c .before .before .before .before .before .before .before .real-day .ensures) ∙ not-false _ (c .before .before .before .before .before .before .if1 .left), le-leb _ _ (c .before .before .before .before .before .if2 .left), eq-eqb _ _ (c .before .before .before .before .if3 .left), eq-eqb _ _ (c .before .before .before .if4 .left), sym (c .before .before .rows-good .ensures) ∙ not-false _ (c .before .if5 .left), sym (c .sum-all .ensures))
+returns-6 c =
+    let back4 = c .before .before .before .before in
+    simp (sym (back4 .before .before .before .real-day .ensures) ∙ not-false _ (back4 .before .before .if1 .left), le-leb _ _ (back4 .before .if2 .left), eq-eqb _ _ (c .before .before .before .before .if3 .left), eq-eqb _ _ (c .before .before .before .if4 .left), sym (c .before .before .rows-good .ensures) ∙ not-false _ (c .before .if5 .left), sym (c .sum-all .ensures))
 
 pub arguments-good-spec : {M : Type 1} → statement M
 arguments-good-spec =
     tie.close
     (tie.spec
-    real-day-requires
+    (λ c κs. search needs)
     returns
     returns-2
     returns-3
     returns-4
-    rows-good-requires
+    (λ c κs. search needs)
     returns-5
-    sum-all-requires
+    (λ c κs. search needs)
     returns-6)

@@ -1,38 +1,17 @@
 -- The four octets are stored one after the other.
 use native.Mathlib.Omega.{arith}
 use lib.ListN.{length-set}
-use Rattle.der.specs.Octets.{big}
+use Rattle.octets.specs.Octets.{big}
 use Rattle.writer.proofs.Stores.{set-four, last-octet}
 use borrow.Author.Needs.{needs}
 use Rattle.writer.proofs.put_four.Statement.{statement}
 use Rattle.writer.proofs.put_four.Tie as tie
 
-cast-out : tie.Need-cast-out
-cast-out c = search needs
-
-slice-write-out : tie.Need-slice-write-out
-slice-write-out c = search needs
-
-cast-out-2 : tie.Need-cast-out-2
-cast-out-2 c = search needs
-
 slice-write-out-2 : tie.Need-slice-write-out-2
 slice-write-out-2 c = simp length-set (omega arith)
 
-cast-out-3 : tie.Need-cast-out-3
-cast-out-3 c = search needs
-
 slice-write-out-3 : tie.Need-slice-write-out-3
 slice-write-out-3 c = simp length-set (omega arith)
-
-cast-out-4 : tie.Need-cast-out-4
-cast-out-4 c = search needs
-
-slice-write-out-4 : tie.Need-slice-write-out-4
-slice-write-out-4 c = search needs
-
-same-length : tie.Need-same-length
-same-length c = search needs
 
 returns : tie.Need-returns
 unfolding big
@@ -42,13 +21,13 @@ pub put-four-spec : {M : Type 1} → statement M
 put-four-spec =
     tie.close
     (tie.spec
-    cast-out
-    slice-write-out
-    cast-out-2
+    (λ c. search needs)
+    (λ c. search needs)
+    (λ c. search needs)
     slice-write-out-2
-    cast-out-3
+    (λ c. search needs)
     slice-write-out-3
-    cast-out-4
-    slice-write-out-4
-    same-length
+    (λ c. search needs)
+    (λ c. search needs)
+    (λ c. search needs)
     returns)

@@ -24,56 +24,97 @@ loop-holds : tie.Need-loop-holds Inv-loop μ-loop
 loop-holds c = (omega arith, omega arith, omega arith, refl, ([], refl, refl, refl))
 
 mul-size : tie.Need-mul-size Inv-loop μ-loop
-mul-size c = omega (arith, c .before .before .before .before .before .before .pre)
+mul-size c =
+    let back4 = c .before .before .before .before in
+    omega (arith, back4 .before .before .pre)
 
 shared-slice-read-size : tie.Need-shared-slice-read-size Inv-loop μ-loop
-shared-slice-read-size c = omega (arith, c .before .before .before .before .before .before .before .pre)
+shared-slice-read-size c =
+    let back4 = c .before .before .before .before in
+    omega (arith, back4 .before .before .before .pre)
 
 cast-size : tie.Need-cast-size Inv-loop μ-loop
 cast-size c = omega (arith, c .shared-slice-known4 .given (c .before .before .loop .i))
 
 shared-slice-read-put-entry : tie.Need-shared-slice-read-put-entry Inv-loop μ-loop
-shared-slice-read-put-entry c = omega (arith, c .before .before .before .before .before .before .before .before .pre)
+shared-slice-read-put-entry c =
+    let back4 = c .before .before .before .before in
+    let back8 = back4 .before .before .before .before in
+    omega (arith, back8 .pre)
 
 shared-slice-read-put-entry-2 : tie.Need-shared-slice-read-put-entry-2 Inv-loop μ-loop
-shared-slice-read-put-entry-2 c = omega (arith, c .before .before .before .before .before .before .before .before .before .pre)
+shared-slice-read-put-entry-2 c =
+    let back4 = c .before .before .before .before in
+    let back8 = back4 .before .before .before .before in
+    omega (arith, back8 .before .pre)
 
 sub-put-entry : tie.Need-sub-put-entry Inv-loop μ-loop
-sub-put-entry c = omega (arith, c .before .before .before .before .before .before .before .before .before .pre)
+sub-put-entry c =
+    let back4 = c .before .before .before .before in
+    let back8 = back4 .before .before .before .before in
+    omega (arith, back8 .before .pre)
 
 part-put-entry-start : tie.Need-part-put-entry-start Inv-loop μ-loop
-part-put-entry-start c = omega (arith, c .before .before .before .before .before .before .before .before .before .pre)
+part-put-entry-start c =
+    let back4 = c .before .before .before .before in
+    let back8 = back4 .before .before .before .before in
+    omega (arith, back8 .before .pre)
 
 part-put-entry-end : tie.Need-part-put-entry-end Inv-loop μ-loop
-part-put-entry-end c = omega (arith, c .before .before .before .before .before .before .before .before .before .pre)
+part-put-entry-end c =
+    let back4 = c .before .before .before .before in
+    let back8 = back4 .before .before .before .before in
+    omega (arith, back8 .before .pre)
 
 put-entry-requires : tie.Need-put-entry-requires Inv-loop μ-loop
-put-entry-requires c κs = simp (length-take, length-drop) (omega (arith, c .before .before .before .before .before .before .before .before .before .before .pre))
+put-entry-requires c κs =
+    let back4 = c .before .before .before .before in
+    let back8 = back4 .before .before .before .before in
+    simp (length-take, length-drop) (omega (arith, back8 .before .before .pre))
 
 add-offset : tie.Need-add-offset Inv-loop μ-loop
-add-offset c = omega (arith, c .before .before .before .before .before .before .before .before .before .before .before .before .before .pre, c .before .before .before .before .before .before .shared-slice-known4 .given (c .before .before .before .before .before .before .before .before .loop .i))
+add-offset c =
+    let back4 = c .before .before .before .before in
+    let back8 = back4 .before .before .before .before in
+    let back12 = back8 .before .before .before .before in
+    omega (arith, back12 .before .pre, back4 .before .before .shared-slice-known4 .given (back8 .loop .i))
 
 add-at : tie.Need-add-at Inv-loop μ-loop
-add-at c = omega (arith, c .before .before .before .before .before .before .before .before .before .before .before .before .before .pre)
+add-at c =
+    let back4 = c .before .before .before .before in
+    let back8 = back4 .before .before .before .before in
+    let back12 = back8 .before .before .before .before in
+    omega (arith, back12 .before .pre)
 
 add-i : tie.Need-add-i Inv-loop μ-loop
-add-i c = omega (arith, c .before .before .before .before .before .before .before .before .before .before .before .before .before .pre)
+add-i c =
+    let back4 = c .before .before .before .before in
+    let back8 = back4 .before .before .before .before in
+    let back12 = back8 .before .before .before .before in
+    omega (arith, back12 .before .pre)
 
 loop-less : tie.Need-loop-less Inv-loop μ-loop
-loop-less c = omega (arith, c .before .before .before .before .before .before .before .before .before .before .before .before .before .pre)
+loop-less c =
+    let back4 = c .before .before .before .before in
+    let back8 = back4 .before .before .before .before in
+    let back12 = back8 .before .before .before .before in
+    omega (arith, back12 .before .pre)
 
 loop-again : tie.Need-loop-again Inv-loop μ-loop
 loop-again c =
-    let a = c .before .before .before .before .before .before .before .before .before .before .before .before .before .args in
-    let now = c .before .before .before .before .before .before .before .before .loop in
+    let back4 = c .before .before .before .before in
+    let back8 = back4 .before .before .before .before in
+    let back12 = back8 .before .before .before .before in
+    let a = back12 .before .args in
+    let now = back8 .loop in
     let done = now .inv .4 .0 in
     let entry = entryBytes (getD (a .kinds .now) (now .i) 0) (getD (a .flags .now) (now .i) 0) (getD (a .lengths .now) (now .i) 0) (now .offset) in
-    let row = rows-next (a .kinds .now) (a .flags .now) (a .lengths .now) (now .i) (c .before .before .before .before .before .before .before .loop-test .taken) (now .offset) in
+    let row = rows-next (a .kinds .now) (a .flags .now) (a .lengths .now) (now .i) (back4 .before .before .before .loop-test .taken) (now .offset) in
     let rest = rowsBytes (now .offset + getD (a .lengths .now) (now .i) 0) (drop (now .i + 1) (a .kinds .now)) (drop (now .i + 1) (a .flags .now)) (drop (now .i + 1) (a .lengths .now)) in
     let size : length (done ++ entry) ≡ now .at + 8 = length-append done entry ∙ rw (now .inv .4 .1, entry-length) in (
       omega arith,
       omega arith,
-      omega (arith, c .before .before .before .before .before .before .shared-slice-known4 .given (now .i)),
+      omega (arith, back4 .before .before .shared-slice-known4 .given (now .i)),
       c .before .out .given .1 ∙ now .inv .3,
       (
         done ++ entry,
@@ -84,12 +125,15 @@ loop-again c =
     )
 
 same-length : tie.Need-same-length Inv-loop μ-loop
-same-length c = omega (arith, c .before .before .before .before .before .before .pre)
+same-length c =
+    let back4 = c .before .before .before .before in
+    omega (arith, back4 .before .before .pre)
 
 returns : tie.Need-returns Inv-loop μ-loop
 unfolding rowsBytes
 returns c =
-    let a = c .before .before .before .before .before .before .args in
+    let back4 = c .before .before .before .before in
+    let a = back4 .before .before .args in
     let kinds = a .kinds .now in
     let now = c .before .loop in
     let all : now .at ≡ 8 * length kinds = omega arith in

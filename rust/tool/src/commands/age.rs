@@ -2,11 +2,12 @@
 
 use super::days::unreal;
 use super::Command;
-use crate::answer::{Answer, Stop};
+use crate::answer::Answer;
 use crate::args::{self, Given, Takes};
 use crate::explain::{self, Judged};
 use crate::files::{self, Item};
 use crate::json::object;
+use crate::stop::Stop;
 use crate::text::{day, moment};
 use vrbolist::Refusal;
 

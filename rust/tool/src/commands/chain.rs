@@ -3,7 +3,7 @@
 use super::days::unreal;
 use super::image::words as image_words;
 use super::Command;
-use crate::answer::{Answer, Stop};
+use crate::answer::Answer;
 use crate::args::{self, Given, Takes};
 use crate::explain;
 use crate::files;
@@ -11,6 +11,7 @@ use crate::json::{object, Json};
 use crate::names;
 use crate::places::{self, kind_name};
 use crate::reasons::{Reason, Source, World};
+use crate::stop::Stop;
 use crate::table;
 use crate::text::{clip, counted, hex, moment, wrapped, WIDTH};
 use vrbolist::Refusal;

@@ -1,9 +1,10 @@
 //! `vrbolist days`: days from one day to another.
 
 use super::Command;
-use crate::answer::{Answer, Stop};
+use crate::answer::Answer;
 use crate::args::{self, Given, Takes};
 use crate::json::object;
+use crate::stop::Stop;
 use crate::text::day;
 
 pub const COMMAND: Command = Command {

@@ -3,12 +3,13 @@
 use super::chain::certificate_lines;
 use super::pack::Columns;
 use super::Command;
-use crate::answer::{Answer, Stop};
+use crate::answer::Answer;
 use crate::args::{Given, Takes};
 use crate::explain;
 use crate::json::{object, Json};
 use crate::places;
 use crate::reasons::World;
+use crate::stop::Stop;
 use crate::text::{day, wrapped};
 
 pub const COMMAND: Command = Command {

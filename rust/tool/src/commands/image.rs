@@ -2,12 +2,13 @@
 
 use super::item::{certificate_json, crl_json};
 use super::Command;
-use crate::answer::{Answer, Stop};
+use crate::answer::Answer;
 use crate::args::{self, Given, Takes};
 use crate::explain::{self, Judged};
 use crate::files;
 use crate::json::{object, Json};
 use crate::places::{self, kind_name, Place, Told};
+use crate::stop::Stop;
 use crate::text::{counted, day, letters};
 use vrbolist::{Image, Refusal};
 

@@ -1,7 +1,7 @@
 //! `vrbolist item`: one certificate or CRL against its profile.
 
 use super::Command;
-use crate::answer::{Answer, Stop};
+use crate::answer::Answer;
 use crate::args::{Given, Takes};
 use crate::explain::{self, Judged};
 use crate::facts;
@@ -9,6 +9,7 @@ use crate::files::{self, Item};
 use crate::json::{object, Json};
 use crate::names;
 use crate::places::{judge, kind_name, kind_number, Told};
+use crate::stop::Stop;
 use crate::text::{hex, letters, moment, printable, wrapped};
 use vrbolist::{Certificate, Crl, Refusal};
 

@@ -10,8 +10,9 @@ pub mod pack;
 pub mod unpack;
 pub mod walk;
 
-use crate::answer::{complain, print, Answer, Stop};
+use crate::answer::{complain, print, Answer};
 use crate::args::{self, Given, Takes};
+use crate::stop::Stop;
 use crate::text::printable;
 use std::ffi::OsString;
 
@@ -99,7 +100,7 @@ fn one(command: &Command, words: &[OsString]) -> Result<u8, Stop> {
 /// Wrong usage points to the help of the command.
 fn pointed(stop: Stop, command: &Command) -> Stop {
     match stop.status {
-        crate::answer::USAGE => Stop::usage(format!("{}: see vrbolist {} --help", stop.message, command.name)),
+        crate::stop::USAGE => Stop::usage(format!("{}: see vrbolist {} --help", stop.message, command.name)),
         _ => stop,
     }
 }

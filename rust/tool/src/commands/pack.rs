@@ -2,11 +2,12 @@
 
 use super::image::{listing, places_json};
 use super::Command;
-use crate::answer::{Answer, Stop};
+use crate::answer::Answer;
 use crate::args::{self, Given, Takes};
 use crate::files;
 use crate::json::{object, Json};
 use crate::places;
+use crate::stop::Stop;
 use crate::text::{counted, day};
 use std::path::Path;
 use vrbolist::Refusal;

@@ -2,11 +2,12 @@
 
 use super::image::words;
 use super::Command;
-use crate::answer::{Answer, Stop};
+use crate::answer::Answer;
 use crate::args::{Given, Takes};
 use crate::files;
 use crate::json::{object, Json};
 use crate::places::kind_name;
+use crate::stop::Stop;
 use crate::text::{counted, day};
 use std::ffi::OsStr;
 use std::fs;

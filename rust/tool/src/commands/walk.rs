@@ -1,11 +1,12 @@
 //! `vrbolist walk`: the tree of an item.
 
 use super::Command;
-use crate::answer::{Answer, Stop};
+use crate::answer::Answer;
 use crate::args::{Given, Takes};
 use crate::explain::{self, Judged};
 use crate::files::{self, Item};
 use crate::json::{object, Json};
+use crate::stop::Stop;
 use crate::text::{clip, counted, WIDTH};
 use crate::tree::{self, Node};
 use vrbolist::Refusal;

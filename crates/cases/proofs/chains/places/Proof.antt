@@ -15,23 +15,14 @@ abbrev μ-loop : tie.MeasureT-loop
 loop-holds : tie.Need-loop-holds Inv-loop μ-loop
 loop-holds c = tt
 
-slice-aggregate-text : tie.Need-slice-aggregate-text Inv-loop μ-loop
-slice-aggregate-text c = search needs
-
 text-requires : tie.Need-text-requires Inv-loop μ-loop
 text-requires c κs = tt
-
-shared-slice-read-number : tie.Need-shared-slice-read-number Inv-loop μ-loop
-shared-slice-read-number c = search needs
 
 cast-number : tie.Need-cast-number Inv-loop μ-loop
 cast-number c = omega (arith, c .shared-slice-known2 .given (c .before .before .before .before .loop .i))
 
 number-requires : tie.Need-number-requires Inv-loop μ-loop
 number-requires c κs = tt
-
-add-i : tie.Need-add-i Inv-loop μ-loop
-add-i c = search needs
 
 loop-less : tie.Need-loop-less Inv-loop μ-loop
 loop-less c = omega arith
@@ -49,12 +40,12 @@ places-spec =
     Inv-loop
     μ-loop
     loop-holds
-    slice-aggregate-text
+    (λ c. search needs)
     text-requires
-    shared-slice-read-number
+    (λ c. search needs)
     cast-number
     number-requires
-    add-i
+    (λ c. search needs)
     loop-less
     loop-again
     returns)

@@ -1,4 +1,4 @@
--- The two forms that are told at a look pass the walk.
+-- The two forms of the fast path pass the walk.
 use mathlib.Core.Path.{sym, _∙_}
 use mathlib.Core.Bool.{false≢true}
 use native.Mathlib.Omega.{arith}
@@ -12,23 +12,14 @@ use Rattle.certificate.proofs.keys.lone.Tie as tie
 returns : tie.Need-returns
 returns c = λ yes. absurd (false≢true yes)
 
-short-end-requires : tie.Need-short-end-requires
-short-end-requires c κs = search needs
-
 returns-2 : tie.Need-returns-2
 returns-2 c = λ yes. lone-octets _ _ (omega arith) (sym (c .if2 .taken) ∙ c .before .short-end .ensures)
-
-short-end-requires-2 : tie.Need-short-end-requires-2
-short-end-requires-2 c κs = search needs
 
 returns-3 : tie.Need-returns-3
 returns-3 c = λ yes. absurd (false≢true yes)
 
 add-short-end : tie.Need-add-short-end
 add-short-end c = omega (arith, short-within _ _ _ _ (sym (c .if3 .left) ∙ c .before .short-end2 .ensures) (omega arith))
-
-short-end-requires-3 : tie.Need-short-end-requires-3
-short-end-requires-3 c κs = search needs
 
 returns-4 : tie.Need-returns-4
 returns-4 c = λ yes. lone-sequence _ _ (omega arith) (sym (c .before .if3 .left) ∙ c .before .before .short-end2 .ensures) (sym (eqb-true _ _ yes) ∙ c .short-end3 .ensures)
@@ -38,10 +29,10 @@ lone-spec =
     tie.close
     (tie.spec
     returns
-    short-end-requires
+    (λ c κs. search needs)
     returns-2
-    short-end-requires-2
+    (λ c κs. search needs)
     returns-3
     add-short-end
-    short-end-requires-3
+    (λ c κs. search needs)
     returns-4)

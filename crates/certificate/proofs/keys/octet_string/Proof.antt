@@ -6,15 +6,6 @@ use Rattle.elements.proofs.Members.{on-missing, on-found}
 use Rattle.certificate.proofs.keys.octet_string.Statement.{statement}
 use Rattle.certificate.proofs.keys.octet_string.Tie as tie
 
-element-tagged-requires : tie.Need-element-tagged-requires
-element-tagged-requires c κs = search needs
-
-enum-known-key : tie.Need-enum-known-key
-enum-known-key c = search needs
-
-enum-told : tie.Need-enum-told
-enum-told c = search needs
-
 returns : tie.Need-returns
 unfolding octetString
 returns c = on-missing _ (sym (c .before .before .element-tagged .ensures) ∙ c .enum-told .given .1)
@@ -25,4 +16,4 @@ returns-2 c = on-found _ _ (sym (c .before .before .before .element-tagged .ensu
 
 pub octet-string-spec : {M : Type 1} → statement M
 octet-string-spec =
-    tie.close (tie.spec element-tagged-requires enum-known-key enum-told returns returns-2)
+    tie.close (tie.spec (λ c κs. search needs) (λ c. search needs) (λ c. search needs) returns returns-2)

@@ -1,6 +1,6 @@
 -- The value is what the definition makes of the offsets.
 use mathlib.Core.Path.{refl}
-use Rattle.certificate.specs.Keys.{valueOf}
+use Rattle.certificate.specs.Values.{valueOf}
 use Rattle.certificate.proofs.keys.value_of.Statement.{statement}
 use Rattle.certificate.proofs.keys.value_of.Tie as tie
 

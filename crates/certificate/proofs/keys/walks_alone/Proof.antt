@@ -5,27 +5,12 @@ use Rattle.certificate.specs.Keys.{passes, walks}
 use Rattle.certificate.proofs.keys.walks_alone.Statement.{statement}
 use Rattle.certificate.proofs.keys.walks_alone.Tie as tie
 
-lone-requires : tie.Need-lone-requires
-lone-requires c κs = search needs
-
 returns : tie.Need-returns
 returns c = sym (c .before .lone .ensures (c .if1 .taken))
-
-contents-requires : tie.Need-contents-requires
-contents-requires c κs = search needs
-
-walk-requires : tie.Need-walk-requires
-walk-requires c κs = search needs
-
-enum-told : tie.Need-enum-told
-enum-told c = search needs
 
 returns-2 : tie.Need-returns-2
 unfolding walks passes
 returns-2 c = rw (← c .before .before .before .contents .ensures, sym (c .before .before .walk .ensures .0) ∙ c .enum-told .given .1)
-
-enum-told-2 : tie.Need-enum-told-2
-enum-told-2 c = search needs
 
 returns-3 : tie.Need-returns-3
 unfolding walks passes
@@ -35,11 +20,11 @@ pub walks-alone-spec : {M : Type 1} → statement M
 walks-alone-spec =
     tie.close
     (tie.spec
-    lone-requires
+    (λ c κs. search needs)
     returns
-    contents-requires
-    walk-requires
-    enum-told
+    (λ c κs. search needs)
+    (λ c κs. search needs)
+    (λ c. search needs)
     returns-2
-    enum-told-2
+    (λ c. search needs)
     returns-3)

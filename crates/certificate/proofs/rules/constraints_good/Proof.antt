@@ -12,12 +12,6 @@ returns : tie.Need-returns
 unfolding constrained
 returns c = λ x h. rw (eq-eqb _ _ (c .before .if1 .taken)) (ap not (there-present x h))
 
-slice-aggregate-critical-with : tie.Need-slice-aggregate-critical-with
-slice-aggregate-critical-with c = search needs
-
-critical-with-requires : tie.Need-critical-with-requires
-critical-with-requires c κs = search needs
-
 returns-2 : tie.Need-returns-2
 unfolding constrained
 returns-2 c = λ x h. rw (ne-eqb _ _ (c .before .before .if1 .left)) (c .critical-with .ensures x h)
@@ -27,6 +21,6 @@ constraints-good-spec =
     tie.close
     (tie.spec
     returns
-    slice-aggregate-critical-with
-    critical-with-requires
+    (λ c. search needs)
+    (λ c κs. search needs)
     returns-2)

@@ -9,24 +9,14 @@ use Rattle.certificate.proofs.rules.critical_with.Tie as tie
 returns : tie.Need-returns
 returns c = λ x h. critical-not _ _ x h (not-true _ (c .if1 .taken))
 
-value-of-requires : tie.Need-value-of-requires
-value-of-requires c κs = search needs
-
-contents-requires : tie.Need-contents-requires
-contents-requires c κs = search needs
-
-same-requires : tie.Need-same-requires
-same-requires c κs = search needs
-
 returns-2 : tie.Need-returns-2
-returns-2 c = λ x h. c .same .ensures ∙ rw (c .before .contents .ensures) (critical-same _ (c .before .before .value-of .ensures) _ x h (not-false _ (c .before .before .before .if1 .left)))
+returns-2 c = λ x h. c .holds .ensures ∙ critical-same _ (c .before .value-of .ensures) _ x h (not-false _ (c .before .before .if1 .left))
 
 pub critical-with-spec : {M : Type 1} → statement M
 critical-with-spec =
     tie.close
     (tie.spec
     returns
-    value-of-requires
-    contents-requires
-    same-requires
+    (λ c κs. search needs)
+    (λ c κs. search needs)
     returns-2)

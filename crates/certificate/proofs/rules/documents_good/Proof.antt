@@ -4,9 +4,6 @@ use borrow.Author.Needs.{needs}
 use Rattle.certificate.proofs.rules.documents_good.Statement.{statement}
 use Rattle.certificate.proofs.rules.documents_good.Tie as tie
 
-document-types-requires : tie.Need-document-types-requires
-document-types-requires c κs = search needs
-
 returns : tie.Need-returns
 returns c = λ x h. rw (eq-eqb _ _ (c .before .if1 .taken)) (c .document-types .ensures x h)
 
@@ -17,6 +14,6 @@ pub documents-good-spec : {M : Type 1} → statement M
 documents-good-spec =
     tie.close
     (tie.spec
-    document-types-requires
+    (λ c κs. search needs)
     returns
     returns-2)

@@ -7,29 +7,24 @@ use Rattle.certificate.proofs.Inside.{none-inside, some-inside}
 use Rattle.certificate.proofs.rules.extensions_once.Statement.{statement}
 use Rattle.certificate.proofs.rules.extensions_once.Tie as tie
 
-element-at-requires : tie.Need-element-at-requires
-element-at-requires c κs = search needs
-
-enum-told : tie.Need-enum-told
-enum-told c = search needs
-
-enum-told-2 : tie.Need-enum-told-2
-enum-told-2 c = search needs
-
 returns : tie.Need-returns
 unfolding rule8
-returns c = rw (none-inside (c .before .before .before .before .before .args .item .now) (c .before .before .before .before .before .args .l .extensions) (sym (c .before .before .element-at .ensures) ∙ c .enum-told2 .given .1))
+returns c =
+    let back4 = c .before .before .before .before in
+    rw (none-inside (back4 .before .args .item .now) (back4 .before .args .l .extensions) (sym (c .before .before .element-at .ensures) ∙ c .enum-told2 .given .1))
 
 returns-2 : tie.Need-returns-2
 unfolding rule8
-returns-2 c = rw (some-inside (c .before .before .before .before .before .args .item .now) (c .before .before .before .before .before .args .l .extensions) (sym (c .before .before .element-at .ensures) ∙ c .enum-told .given .1)) (ap not (c .before .before .before .before .before .pre))
+returns-2 c =
+    let back4 = c .before .before .before .before in
+    rw (some-inside (back4 .before .args .item .now) (back4 .before .args .l .extensions) (sym (c .before .before .element-at .ensures) ∙ c .enum-told .given .1)) (ap not (back4 .before .pre))
 
 pub extensions-once-spec : {M : Type 1} → statement M
 extensions-once-spec =
     tie.close
     (tie.spec
-    element-at-requires
-    enum-told
-    enum-told-2
+    (λ c κs. search needs)
+    (λ c. search needs)
+    (λ c. search needs)
     returns
     returns-2)

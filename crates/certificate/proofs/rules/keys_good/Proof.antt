@@ -6,19 +6,13 @@ use Rattle.certificate.specs.Rules.{bothKeys}
 use Rattle.certificate.proofs.rules.keys_good.Statement.{statement}
 use Rattle.certificate.proofs.rules.keys_good.Tie as tie
 
-key-good-requires : tie.Need-key-good-requires
-key-good-requires c κs = search needs
-
 returns : tie.Need-returns
 unfolding bothKeys
 returns c = rw (sym (c .before .key-good .ensures) ∙ not-true _ (c .if1 .taken))
-
-key-good-requires-2 : tie.Need-key-good-requires-2
-key-good-requires-2 c κs = search needs
 
 returns-2 : tie.Need-returns-2
 unfolding bothKeys
 returns-2 c = rw (sym (c .before .before .key-good .ensures) ∙ not-false _ (c .before .if1 .left)) (c .key-good2 .ensures)
 
 pub keys-good-spec : {M : Type 1} → statement M
-keys-good-spec = tie.close (tie.spec key-good-requires returns key-good-requires-2 returns-2)
+keys-good-spec = tie.close (tie.spec (λ c κs. search needs) returns (λ c κs. search needs) returns-2)

@@ -3,76 +3,79 @@ use mathlib.Core.Path.{sym, ap, _∙_}
 use mathlib.Core.Bool.{not}
 use borrow.Author.Needs.{needs}
 use borrow.Author.Tests.{not-true, not-false}
-use Rattle.certificate.specs.Rules.{rule5, rule6, rule7, rules2to8}
+use Rattle.certificate.specs.Rules.{rule2, rule4, rule5, rule6, rule7, rules2to8}
 use Rattle.refusal.proofs.Order.{broken-here, broken-later, none-broken}
 use Rattle.certificate.proofs.rules.rules_2_to_8.Statement.{statement}
 use Rattle.certificate.proofs.rules.rules_2_to_8.Tie as tie
 
-version-good-requires : tie.Need-version-good-requires
-version-good-requires c κs = search needs
-
 returns : tie.Need-returns
-unfolding rules2to8 rule5 rule6 rule7
-returns c = sym (broken-here _ _ (sym (c .before .version-good .ensures) ∙ not-true _ (c .if1 .taken)))
-
-serial-good-requires : tie.Need-serial-good-requires
-serial-good-requires c κs = search needs
+unfolding rules2to8 rule2 rule4 rule5 rule6 rule7
+returns c = sym (broken-here _ _ (sym (c .before .holds .ensures) ∙ not-true _ (c .if1 .taken)))
 
 returns-2 : tie.Need-returns-2
-unfolding rules2to8 rule5 rule6 rule7
-returns-2 c = sym (broken-later _ _ (sym (c .before .before .before .version-good .ensures) ∙ not-false _ (c .before .before .if1 .left)) ∙ broken-here _ _ (sym (c .before .serial-good .ensures) ∙ not-true _ (c .if2 .taken)))
-
-algorithms-same-requires : tie.Need-algorithms-same-requires
-algorithms-same-requires c κs = search needs
+unfolding rules2to8 rule2 rule4 rule5 rule6 rule7
+returns-2 c = sym (broken-later _ _ (sym (c .before .before .before .holds .ensures) ∙ not-false _ (c .before .before .if1 .left)) ∙ broken-here _ _ (sym (c .before .serial-good .ensures) ∙ not-true _ (c .if2 .taken)))
 
 returns-3 : tie.Need-returns-3
-unfolding rules2to8 rule5 rule6 rule7
-returns-3 c = sym (broken-later _ _ (sym (c .before .before .before .before .before .version-good .ensures) ∙ not-false _ (c .before .before .before .before .if1 .left)) ∙ broken-later _ _ (sym (c .before .before .before .serial-good .ensures) ∙ not-false _ (c .before .before .if2 .left)) ∙ broken-here _ _ (sym (c .before .algorithms-same .ensures) ∙ not-true _ (c .if3 .taken)))
-
-same-two-requires : tie.Need-same-two-requires
-same-two-requires c κs = search needs
+unfolding rules2to8 rule2 rule4 rule5 rule6 rule7
+returns-3 c =
+    let back4 = c .before .before .before .before in
+    sym (broken-later _ _ (sym (back4 .before .before .before .holds .ensures) ∙ not-false _ (back4 .before .before .if1 .left)) ∙ broken-later _ _ (sym (back4 .before .serial-good .ensures) ∙ not-false _ (c .before .before .before .before .if2 .left)) ∙ broken-here _ _ (sym (c .before .twins .ensures) ∙ not-true _ (c .if3 .taken)))
 
 returns-4 : tie.Need-returns-4
-unfolding rules2to8 rule5 rule6 rule7
-returns-4 c = sym (broken-later _ _ (sym (c .before .before .before .before .before .before .before .version-good .ensures) ∙ not-false _ (c .before .before .before .before .before .before .if1 .left)) ∙ broken-later _ _ (sym (c .before .before .before .before .before .serial-good .ensures) ∙ not-false _ (c .before .before .before .before .if2 .left)) ∙ broken-later _ _ (sym (c .before .before .before .algorithms-same .ensures) ∙ not-false _ (c .before .before .if3 .left)) ∙ broken-here _ _ (sym (c .before .same-two .ensures) ∙ not-true _ (c .if4 .taken)))
+unfolding rules2to8 rule2 rule4 rule5 rule6 rule7
+returns-4 c =
+    let back4 = c .before .before .before .before in
+    let back8 = back4 .before .before .before .before in
+    sym (broken-later _ _ (sym (back8 .before .holds .ensures) ∙ not-false _ (back8 .if1 .left)) ∙ broken-later _ _ (sym (back4 .before .before .before .serial-good .ensures) ∙ not-false _ (back4 .before .before .if2 .left)) ∙ broken-later _ _ (sym (c .before .before .before .twins .ensures) ∙ not-false _ (c .before .before .if3 .left)) ∙ broken-here _ _ (sym (c .before .same-two .ensures) ∙ not-true _ (c .if4 .taken)))
 
 returns-5 : tie.Need-returns-5
-unfolding rules2to8 rule5 rule6 rule7
-returns-5 c = sym (broken-later _ _ (sym (c .before .before .before .before .before .before .before .before .version-good .ensures) ∙ not-false _ (c .before .before .before .before .before .before .before .if1 .left)) ∙ broken-later _ _ (sym (c .before .before .before .before .before .before .serial-good .ensures) ∙ not-false _ (c .before .before .before .before .before .if2 .left)) ∙ broken-later _ _ (sym (c .before .before .before .before .algorithms-same .ensures) ∙ not-false _ (c .before .before .before .if3 .left)) ∙ broken-later _ _ (sym (c .before .before .same-two .ensures) ∙ not-false _ (c .before .if4 .left)) ∙ broken-here _ _ (ap not (c .if5 .taken)))
-
-in-order-requires : tie.Need-in-order-requires
-in-order-requires c κs = search needs
+unfolding rules2to8 rule2 rule4 rule5 rule6 rule7
+returns-5 c =
+    let back4 = c .before .before .before .before in
+    let back8 = back4 .before .before .before .before in
+    sym (broken-later _ _ (sym (back8 .before .before .holds .ensures) ∙ not-false _ (back8 .before .if1 .left)) ∙ broken-later _ _ (sym (back8 .serial-good .ensures) ∙ not-false _ (back4 .before .before .before .if2 .left)) ∙ broken-later _ _ (sym (c .before .before .before .before .twins .ensures) ∙ not-false _ (c .before .before .before .if3 .left)) ∙ broken-later _ _ (sym (c .before .before .same-two .ensures) ∙ not-false _ (c .before .if4 .left)) ∙ broken-here _ _ (ap not (c .if5 .taken)))
 
 returns-6 : tie.Need-returns-6
-unfolding rules2to8 rule5 rule6 rule7
-returns-6 c = sym (broken-later _ _ (sym (c .before .before .before .before .before .before .before .before .before .before .version-good .ensures) ∙ not-false _ (c .before .before .before .before .before .before .before .before .before .if1 .left)) ∙ broken-later _ _ (sym (c .before .before .before .before .before .before .before .before .serial-good .ensures) ∙ not-false _ (c .before .before .before .before .before .before .before .if2 .left)) ∙ broken-later _ _ (sym (c .before .before .before .before .before .before .algorithms-same .ensures) ∙ not-false _ (c .before .before .before .before .before .if3 .left)) ∙ broken-later _ _ (sym (c .before .before .before .before .same-two .ensures) ∙ not-false _ (c .before .before .before .if4 .left)) ∙ broken-later _ _ (ap not (c .before .before .if5 .left)) ∙ broken-here _ _ (sym (c .before .in-order .ensures) ∙ not-true _ (c .if6 .taken)))
-
-extensions-once-requires : tie.Need-extensions-once-requires
-extensions-once-requires c κs = search needs
+unfolding rules2to8 rule2 rule4 rule5 rule6 rule7
+returns-6 c =
+    let back4 = c .before .before .before .before in
+    let back8 = back4 .before .before .before .before in
+    let back12 = back8 .before .before .before .before in
+    sym (broken-later _ _ (sym (back12 .holds .ensures) ∙ not-false _ (back8 .before .before .before .if1 .left)) ∙ broken-later _ _ (sym (back8 .before .before .serial-good .ensures) ∙ not-false _ (back8 .before .if2 .left)) ∙ broken-later _ _ (sym (back4 .before .before .twins .ensures) ∙ not-false _ (back4 .before .if3 .left)) ∙ broken-later _ _ (sym (c .before .before .before .before .same-two .ensures) ∙ not-false _ (c .before .before .before .if4 .left)) ∙ broken-later _ _ (ap not (c .before .before .if5 .left)) ∙ broken-here _ _ (sym (c .before .in-order .ensures) ∙ not-true _ (c .if6 .taken)))
 
 returns-7 : tie.Need-returns-7
-unfolding rules2to8 rule5 rule6 rule7
-returns-7 c = sym (broken-later _ _ (sym (c .before .before .before .before .before .before .before .before .before .before .before .before .version-good .ensures) ∙ not-false _ (c .before .before .before .before .before .before .before .before .before .before .before .if1 .left)) ∙ broken-later _ _ (sym (c .before .before .before .before .before .before .before .before .before .before .serial-good .ensures) ∙ not-false _ (c .before .before .before .before .before .before .before .before .before .if2 .left)) ∙ broken-later _ _ (sym (c .before .before .before .before .before .before .before .before .algorithms-same .ensures) ∙ not-false _ (c .before .before .before .before .before .before .before .if3 .left)) ∙ broken-later _ _ (sym (c .before .before .before .before .before .before .same-two .ensures) ∙ not-false _ (c .before .before .before .before .before .if4 .left)) ∙ broken-later _ _ (ap not (c .before .before .before .before .if5 .left)) ∙ broken-later _ _ (sym (c .before .before .before .in-order .ensures) ∙ not-false _ (c .before .before .if6 .left)) ∙ broken-here _ _ (sym (c .before .extensions-once .ensures) ∙ not-true _ (c .if7 .taken)))
+unfolding rules2to8 rule2 rule4 rule5 rule6 rule7
+returns-7 c =
+    let back4 = c .before .before .before .before in
+    let back8 = back4 .before .before .before .before in
+    let back12 = back8 .before .before .before .before in
+    sym (broken-later _ _ (sym (back12 .before .before .holds .ensures) ∙ not-false _ (back12 .before .if1 .left)) ∙ broken-later _ _ (sym (back12 .serial-good .ensures) ∙ not-false _ (back8 .before .before .before .if2 .left)) ∙ broken-later _ _ (sym (back8 .twins .ensures) ∙ not-false _ (back4 .before .before .before .if3 .left)) ∙ broken-later _ _ (sym (back4 .before .before .same-two .ensures) ∙ not-false _ (back4 .before .if4 .left)) ∙ broken-later _ _ (ap not (c .before .before .before .before .if5 .left)) ∙ broken-later _ _ (sym (c .before .before .before .in-order .ensures) ∙ not-false _ (c .before .before .if6 .left)) ∙ broken-here _ _ (sym (c .before .extensions-once .ensures) ∙ not-true _ (c .if7 .taken)))
 
 returns-8 : tie.Need-returns-8
-unfolding rules2to8 rule5 rule6 rule7
-returns-8 c = sym (broken-later _ _ (sym (c .before .before .before .before .before .before .before .before .before .before .before .before .version-good .ensures) ∙ not-false _ (c .before .before .before .before .before .before .before .before .before .before .before .if1 .left)) ∙ broken-later _ _ (sym (c .before .before .before .before .before .before .before .before .before .before .serial-good .ensures) ∙ not-false _ (c .before .before .before .before .before .before .before .before .before .if2 .left)) ∙ broken-later _ _ (sym (c .before .before .before .before .before .before .before .before .algorithms-same .ensures) ∙ not-false _ (c .before .before .before .before .before .before .before .if3 .left)) ∙ broken-later _ _ (sym (c .before .before .before .before .before .before .same-two .ensures) ∙ not-false _ (c .before .before .before .before .before .if4 .left)) ∙ broken-later _ _ (ap not (c .before .before .before .before .if5 .left)) ∙ broken-later _ _ (sym (c .before .before .before .in-order .ensures) ∙ not-false _ (c .before .before .if6 .left)) ∙ broken-later _ _ (sym (c .before .extensions-once .ensures) ∙ not-false _ (c .if7 .left)) ∙ none-broken _)
+unfolding rules2to8 rule2 rule4 rule5 rule6 rule7
+returns-8 c =
+    let back4 = c .before .before .before .before in
+    let back8 = back4 .before .before .before .before in
+    let back12 = back8 .before .before .before .before in
+    sym (broken-later _ _ (sym (back12 .before .before .holds .ensures) ∙ not-false _ (back12 .before .if1 .left)) ∙ broken-later _ _ (sym (back12 .serial-good .ensures) ∙ not-false _ (back8 .before .before .before .if2 .left)) ∙ broken-later _ _ (sym (back8 .twins .ensures) ∙ not-false _ (back4 .before .before .before .if3 .left)) ∙ broken-later _ _ (sym (back4 .before .before .same-two .ensures) ∙ not-false _ (back4 .before .if4 .left)) ∙ broken-later _ _ (ap not (c .before .before .before .before .if5 .left)) ∙ broken-later _ _ (sym (c .before .before .before .in-order .ensures) ∙ not-false _ (c .before .before .if6 .left)) ∙ broken-later _ _ (sym (c .before .extensions-once .ensures) ∙ not-false _ (c .if7 .left)) ∙ none-broken _)
 
 pub rules-2-to-8-spec : {M : Type 1} → statement M
 rules-2-to-8-spec =
     tie.close
     (tie.spec
-    version-good-requires
+    (λ c. search needs)
+    (λ c κs. search needs)
     returns
-    serial-good-requires
+    (λ c κs. search needs)
     returns-2
-    algorithms-same-requires
+    (λ c κs. search needs)
     returns-3
-    same-two-requires
+    (λ c κs. search needs)
     returns-4
     returns-5
-    in-order-requires
+    (λ c κs. search needs)
     returns-6
-    extensions-once-requires
+    (λ c κs. search needs)
     returns-7
     returns-8)

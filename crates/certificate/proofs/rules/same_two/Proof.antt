@@ -5,21 +5,9 @@ use Rattle.certificate.specs.Rules.{sameTwo}
 use Rattle.certificate.proofs.rules.same_two.Statement.{statement}
 use Rattle.certificate.proofs.rules.same_two.Tie as tie
 
-enum-known-one : tie.Need-enum-known-one
-enum-known-one c = search needs
-
-enum-told : tie.Need-enum-told
-enum-told c = search needs
-
 returns : tie.Need-returns
 unfolding sameTwo
 returns c = rw (c .enum-told .given .1)
-
-enum-known-other : tie.Need-enum-known-other
-enum-known-other c = search needs
-
-enum-told-2 : tie.Need-enum-told-2
-enum-told-2 c = search needs
 
 returns-2 : tie.Need-returns-2
 unfolding sameTwo
@@ -27,21 +15,25 @@ returns-2 c = rw (c .before .before .before .one .given .1, c .enum-told2 .given
 
 returns-3 : tie.Need-returns-3
 unfolding sameTwo
-returns-3 c = rw (c .before .before .before .before .before .one .given .1, c .before .before .other .given .1, ne-eqb _ _ (c .if1 .taken))
+returns-3 c =
+    let back4 = c .before .before .before .before in
+    rw (back4 .before .one .given .1, c .before .before .other .given .1, ne-eqb _ _ (c .if1 .taken))
 
 returns-4 : tie.Need-returns-4
 unfolding sameTwo
-returns-4 c = rw (c .before .before .before .before .before .one .given .1, c .before .before .other .given .1, eq-eqb _ _ (c .if1 .left))
+returns-4 c =
+    let back4 = c .before .before .before .before in
+    rw (back4 .before .one .given .1, c .before .before .other .given .1, eq-eqb _ _ (c .if1 .left))
 
 pub same-two-spec : {M : Type 1} → statement M
 same-two-spec =
     tie.close
     (tie.spec
-    enum-known-one
-    enum-told
+    (λ c. search needs)
+    (λ c. search needs)
     returns
-    enum-known-other
-    enum-told-2
+    (λ c. search needs)
+    (λ c. search needs)
     returns-2
     returns-3
     returns-4)

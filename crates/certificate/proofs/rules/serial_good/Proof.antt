@@ -4,7 +4,7 @@ use mathlib.Core.Bool.{not}
 use native.Mathlib.Omega.{arith}
 use borrow.Author.Needs.{needs}
 use borrow.Author.Tests.{lt-leb, le-leb, lt-ltb, le-ltb}
-use Rattle.elements.specs.Octets.{alike}
+use Rattle.octets.specs.Alike.{alike}
 use Rattle.certificate.specs.Rules.{serialGood, rule3}
 use Prim.Native.Nat.{ℕ}
 use mathlib.Core.Bool.{true}
@@ -19,9 +19,6 @@ unfolding serialGood alike
 empty-good [] h = refl
 empty-good (x ∷ c) h = absurd (omega arith)
 
-contents-requires : tie.Need-contents-requires
-contents-requires c κs = search needs
-
 returns : tie.Need-returns
 unfolding rule3 serialGood
 returns c = rw (← c .before .contents .ensures, lt-leb _ _ (c .if1 .taken))
@@ -30,32 +27,25 @@ returns-2 : tie.Need-returns-2
 unfolding rule3
 returns-2 c = rw (← c .before .before .contents .ensures) (sym (empty-good _ (c .if2 .taken)))
 
-shared-slice-read-if3 : tie.Need-shared-slice-read-if3
-shared-slice-read-if3 c = search needs
-
 returns-3 : tie.Need-returns-3
 unfolding rule3 serialGood
 returns-3 c = rw (← c .before .before .before .before .contents .ensures, le-leb _ _ (c .before .before .before .if1 .left), le-ltb _ _ (c .if3 .taken))
 
-slice-aggregate-same : tie.Need-slice-aggregate-same
-slice-aggregate-same c = search needs
-
-same-requires : tie.Need-same-requires
-same-requires c κs = search needs
-
 returns-4 : tie.Need-returns-4
 unfolding rule3 serialGood
-returns-4 c = rw (← c .before .before .before .before .before .before .contents .ensures, le-leb _ _ (c .before .before .before .before .before .if1 .left), lt-ltb _ _ (c .before .before .if3 .left)) (ap not (c .same .ensures))
+returns-4 c =
+    let back4 = c .before .before .before .before in
+    rw (← back4 .before .before .contents .ensures, le-leb _ _ (back4 .before .if1 .left), lt-ltb _ _ (c .before .before .if3 .left)) (ap not (c .same .ensures))
 
 pub serial-good-spec : {M : Type 1} → statement M
 serial-good-spec =
     tie.close
     (tie.spec
-    contents-requires
+    (λ c κs. search needs)
     returns
     returns-2
-    shared-slice-read-if3
+    (λ c. search needs)
     returns-3
-    slice-aggregate-same
-    same-requires
+    (λ c. search needs)
+    (λ c κs. search needs)
     returns-4)

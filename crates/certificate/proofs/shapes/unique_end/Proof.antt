@@ -5,15 +5,9 @@ use Rattle.certificate.specs.Shape.{uniqueEnd}
 use Rattle.certificate.proofs.shapes.unique_end.Statement.{statement}
 use Rattle.certificate.proofs.shapes.unique_end.Tie as tie
 
-past-requires : tie.Need-past-requires
-past-requires c κs = search needs
-
-past-requires-2 : tie.Need-past-requires-2
-past-requires-2 c κs = search needs
-
 returns : tie.Need-returns
 unfolding uniqueEnd
 returns c = c .past2 .ensures ∙ rw (c .before .past .ensures)
 
 pub unique-end-spec : {M : Type 1} → statement M
-unique-end-spec = tie.close (tie.spec past-requires past-requires-2 returns)
+unique-end-spec = tie.close (tie.spec (λ c κs. search needs) (λ c κs. search needs) returns)

@@ -7,51 +7,41 @@ use Rattle.elements.proofs.Members.{on-missing, on-found}
 use Rattle.certificate.proofs.shapes.validity_of.Statement.{statement}
 use Rattle.certificate.proofs.shapes.validity_of.Tie as tie
 
-time-at-requires : tie.Need-time-at-requires
-time-at-requires c κs = search needs
-
-enum-known-start : tie.Need-enum-known-start
-enum-known-start c = search needs
-
-enum-told : tie.Need-enum-told
-enum-told c = search needs
-
 returns : tie.Need-returns
 unfolding validityOf
 returns c = on-missing _ (sym (c .before .before .time-at .ensures) ∙ c .enum-told .given .1)
 
-time-at-requires-2 : tie.Need-time-at-requires-2
-time-at-requires-2 c κs = search needs
-
-enum-known-finish : tie.Need-enum-known-finish
-enum-known-finish c = search needs
-
-enum-told-2 : tie.Need-enum-told-2
-enum-told-2 c = search needs
-
 returns-2 : tie.Need-returns-2
 unfolding validityOf
-returns-2 c = on-found _ _ (sym (c .before .before .before .before .before .before .time-at .ensures) ∙ c .before .before .before .before .start .given .1) (on-missing _ (sym (c .before .before .time-at2 .ensures) ∙ c .enum-told2 .given .1))
+returns-2 c =
+    let back4 = c .before .before .before .before in
+    on-found _ _ (sym (back4 .before .before .time-at .ensures) ∙ c .before .before .before .before .start .given .1) (on-missing _ (sym (c .before .before .time-at2 .ensures) ∙ c .enum-told2 .given .1))
 
 returns-3 : tie.Need-returns-3
 unfolding validityOf
-returns-3 c = on-found _ _ (sym (c .before .before .before .before .before .before .before .before .before .before .time-at .ensures) ∙ c .before .before .before .before .before .before .before .before .start .given .1) (on-found _ _ (sym (c .before .before .before .before .before .before .time-at2 .ensures) ∙ c .before .before .before .before .finish .given .1) (rw (eq-eqb _ _ (c .if1 .taken))))
+returns-3 c =
+    let back4 = c .before .before .before .before in
+    let back8 = back4 .before .before .before .before in
+    on-found _ _ (sym (back8 .before .before .time-at .ensures) ∙ back8 .start .given .1) (on-found _ _ (sym (back4 .before .before .time-at2 .ensures) ∙ c .before .before .before .before .finish .given .1) (rw (eq-eqb _ _ (c .if1 .taken))))
 
 returns-4 : tie.Need-returns-4
 unfolding validityOf
-returns-4 c = on-found _ _ (sym (c .before .before .before .before .before .before .before .before .before .before .time-at .ensures) ∙ c .before .before .before .before .before .before .before .before .start .given .1) (on-found _ _ (sym (c .before .before .before .before .before .before .time-at2 .ensures) ∙ c .before .before .before .before .finish .given .1) (rw (ne-eqb _ _ (c .if1 .left))))
+returns-4 c =
+    let back4 = c .before .before .before .before in
+    let back8 = back4 .before .before .before .before in
+    on-found _ _ (sym (back8 .before .before .time-at .ensures) ∙ back8 .start .given .1) (on-found _ _ (sym (back4 .before .before .time-at2 .ensures) ∙ c .before .before .before .before .finish .given .1) (rw (ne-eqb _ _ (c .if1 .left))))
 
 pub validity-of-spec : {M : Type 1} → statement M
 validity-of-spec =
     tie.close
     (tie.spec
-    time-at-requires
-    enum-known-start
-    enum-told
+    (λ c κs. search needs)
+    (λ c. search needs)
+    (λ c. search needs)
     returns
-    time-at-requires-2
-    enum-known-finish
-    enum-told-2
+    (λ c κs. search needs)
+    (λ c. search needs)
+    (λ c. search needs)
     returns-2
     returns-3
     returns-4)

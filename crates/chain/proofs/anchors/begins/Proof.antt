@@ -30,31 +30,45 @@ loop2-holds : tie.Need-loop2-holds Inv-loop2 μ-loop2 Inv-loop μ-loop
 loop2-holds c = omega arith
 
 array-read-if2 : tie.Need-array-read-if2 Inv-loop2 μ-loop2 Inv-loop μ-loop
-array-read-if2 c = omega (arith, c .before .before .before .before .before .before .before .pre, c .before .before .before .loop-test .taken, c .loop2-test .taken)
+array-read-if2 c =
+    let back4 = c .before .before .before .before in
+    omega (arith, back4 .before .before .before .pre, c .before .before .before .loop-test .taken, c .loop2-test .taken)
 
 mul-octet : tie.Need-mul-octet Inv-loop2 μ-loop2 Inv-loop μ-loop
-mul-octet c = let m : c .before .before .before .before .before .loop .u * c .before .before .before .before .before .before .before .before .args .places ≤ 96 * 96 = mul-le-mul {n₂ = 96} {m₂ = 96} (omega (arith, c .before .before .before .before .before .before .before .before .pre, c .before .before .before .before .loop-test .taken, c .before .loop2-test .taken)) (omega (arith, c .before .before .before .before .before .before .before .before .pre)) in omega (arith, m, c .before .before .before .before .before .before .before .before .pre, c .before .before .before .before .loop-test .taken, c .before .loop2-test .taken)
+mul-octet c =
+    let back4 = c .before .before .before .before in
+    let back8 = back4 .before .before .before .before in
+    let m : back4 .before .loop .u * back8 .args .places ≤ 96 * 96 = mul-le-mul {n₂ = 96} {m₂ = 96} (omega (arith, back8 .pre, c .before .before .before .before .loop-test .taken, c .before .loop2-test .taken)) (omega (arith, back8 .pre)) in omega (arith, m, back8 .pre, c .before .before .before .before .loop-test .taken, c .before .loop2-test .taken)
 
 add-octet : tie.Need-add-octet Inv-loop2 μ-loop2 Inv-loop μ-loop
-add-octet c = let m : c .before .before .before .before .before .loop .u * c .before .before .before .before .before .before .before .before .args .places ≤ 96 * 96 = mul-le-mul {n₂ = 96} {m₂ = 96} (omega (arith, c .before .before .before .before .before .before .before .before .pre, c .before .before .before .before .loop-test .taken, c .before .loop2-test .taken)) (omega (arith, c .before .before .before .before .before .before .before .before .pre)) in omega (arith, m, c .before .before .before .before .before .before .before .before .pre, c .before .before .before .before .loop-test .taken, c .before .loop2-test .taken)
-
-octet-requires : tie.Need-octet-requires Inv-loop2 μ-loop2 Inv-loop μ-loop
-octet-requires c κs = search needs
+add-octet c =
+    let back4 = c .before .before .before .before in
+    let back8 = back4 .before .before .before .before in
+    let m : back4 .before .loop .u * back8 .args .places ≤ 96 * 96 = mul-le-mul {n₂ = 96} {m₂ = 96} (omega (arith, back8 .pre, c .before .before .before .before .loop-test .taken, c .before .loop2-test .taken)) (omega (arith, back8 .pre)) in omega (arith, m, back8 .pre, c .before .before .before .before .loop-test .taken, c .before .loop2-test .taken)
 
 row-at-requires : tie.Need-row-at-requires Inv-loop2 μ-loop2 Inv-loop μ-loop
-row-at-requires c κs = omega (arith, c .before .before .before .before .before .before .before .before .before .before .pre, c .before .before .before .before .before .before .loop-test .taken, c .before .before .before .loop2-test .taken)
+row-at-requires c κs =
+    let back4 = c .before .before .before .before in
+    let back8 = back4 .before .before .before .before in
+    omega (arith, back8 .before .before .pre, back4 .before .before .loop-test .taken, c .before .before .before .loop2-test .taken)
 
 row-at-requires-2 : tie.Need-row-at-requires-2 Inv-loop2 μ-loop2 Inv-loop μ-loop
-row-at-requires-2 c κs = omega (arith, c .before .before .before .before .before .before .before .before .before .before .before .pre, c .before .before .before .before .before .before .before .loop-test .taken, c .before .before .before .before .loop2-test .taken)
-
-matched-requires : tie.Need-matched-requires Inv-loop2 μ-loop2 Inv-loop μ-loop
-matched-requires c κs = search needs
+row-at-requires-2 c κs =
+    let back4 = c .before .before .before .before in
+    let back8 = back4 .before .before .before .before in
+    omega (arith, back8 .before .before .before .pre, back4 .before .before .before .loop-test .taken, c .before .before .before .before .loop2-test .taken)
 
 returns : tie.Need-returns Inv-loop2 μ-loop2 Inv-loop μ-loop
-returns c = λ e. (c .before .before .before .before .before .before .before .before .before .before .before .loop .u, c .before .before .before .before .before .before .before .before .loop2 .v, flag-true _ (step-asked _ _ _ _ _ _ _ (c .before .before .before .row-at .ensures) (c .before .before .row-at2 .ensures) (sym (c .before .before .before .before .before .before .if2 .taken)) refl (leads-anchor (c .before .before .before .before .before .before .before .before .before .if1 .taken)) (c .before .before .before .before .before .octet .ensures) (c .before .before .before .before .if3 .taken) (c .before .matched .ensures)) (c .if4 .taken))
+returns c =
+    let back4 = c .before .before .before .before in
+    let back8 = back4 .before .before .before .before in
+    λ e. (back8 .before .before .before .loop .u, back8 .loop2 .v, flag-true _ (step-asked _ _ _ _ _ _ _ (c .before .before .before .row-at .ensures) (c .before .before .row-at2 .ensures) (sym (back4 .before .before .if2 .taken)) refl (leads-anchor (back8 .before .if1 .taken)) (back4 .before .octet .ensures) (c .before .before .before .before .if3 .taken) (c .before .matched .ensures)) (c .if4 .taken))
 
 add-v : tie.Need-add-v Inv-loop2 μ-loop2 Inv-loop μ-loop
-add-v c = omega (arith, c .before .before .before .before .before .before .before .before .pre, c .before .before .before .before .loop-test .taken, c .before .loop2-test .taken)
+add-v c =
+    let back4 = c .before .before .before .before in
+    let back8 = back4 .before .before .before .before in
+    omega (arith, back8 .pre, c .before .before .before .before .loop-test .taken, c .before .loop2-test .taken)
 
 loop2-less : tie.Need-loop2-less Inv-loop2 μ-loop2 Inv-loop μ-loop
 loop2-less c = omega (arith, c .before .loop2-test .taken)
@@ -63,7 +77,9 @@ loop2-again : tie.Need-loop2-again Inv-loop2 μ-loop2 Inv-loop μ-loop
 loop2-again c = omega (arith, c .before .loop2-test .taken)
 
 add-u : tie.Need-add-u Inv-loop2 μ-loop2 Inv-loop μ-loop
-add-u c = omega (arith, c .before .before .before .before .before .pre, c .before .loop-test .taken)
+add-u c =
+    let back4 = c .before .before .before .before in
+    omega (arith, back4 .before .pre, c .before .loop-test .taken)
 
 loop-less : tie.Need-loop-less Inv-loop2 μ-loop2 Inv-loop μ-loop
 loop-less c = omega (arith, c .before .loop-test .taken)
@@ -88,10 +104,10 @@ begins-spec =
     array-read-if2
     mul-octet
     add-octet
-    octet-requires
+    (λ c κs. search needs)
     row-at-requires
     row-at-requires-2
-    matched-requires
+    (λ c κs. search needs)
     returns
     add-v
     loop2-less

@@ -15,12 +15,9 @@ returns : tie.Need-returns
 unfolding tableGood
 returns c = rw (ne-eqb _ _ (c .if1 .taken))
 
-all-bits-requires : tie.Need-all-bits-requires
-all-bits-requires c κs = search needs
-
 returns-2 : tie.Need-returns-2
 unfolding tableGood
 returns-2 c = rw (eq-eqb _ _ (c .before .if1 .left)) (c .all-bits .ensures)
 
 pub table-good-spec : {M : Type 1} → statement M
-table-good-spec = tie.close (tie.spec mul-if1 returns all-bits-requires returns-2)
+table-good-spec = tie.close (tie.spec mul-if1 returns (λ c κs. search needs) returns-2)

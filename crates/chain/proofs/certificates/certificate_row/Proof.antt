@@ -1,65 +1,44 @@
 -- The judge decides, then the moment.
 use mathlib.Core.Path.{sym, _∙_}
+use borrow.Author.Needs.{needs}
 use borrow.Author.Tests.{le-leb, lt-leb}
 use Rattle.chain.specs.Items.{within}
-use Rattle.chain.specs.Rows.{certificateRow}
-use borrow.Author.Needs.{needs}
+use Rattle.chain.specs.Rows.{blank, certificateRow}
 use Rattle.chain.proofs.certificates.certificate_row.Statement.{statement}
 use Rattle.chain.proofs.certificates.certificate_row.Tie as tie
 
-judge-requires : tie.Need-judge-requires
-judge-requires c κs = search needs
-
-enum-known-f : tie.Need-enum-known-f
-enum-known-f c = search needs
-
-enum-told : tie.Need-enum-told
-enum-told c = search needs
-
-blank-row-requires : tie.Need-blank-row-requires
-blank-row-requires c κs = search needs
-
 returns : tie.Need-returns
-unfolding certificateRow
-returns c = rw (sym (c .before .before .before .judge .ensures) ∙ c .before .enum-told .given .1) (c .blank-row .ensures)
-
-blank-row-requires-2 : tie.Need-blank-row-requires-2
-blank-row-requires-2 c κs = search needs
+unfolding certificateRow blank
+returns c = rw (sym (c .before .before .judge .ensures) ∙ c .enum-told .given .1)
 
 returns-2 : tie.Need-returns-2
-unfolding certificateRow within
-returns-2 c = rw (sym (c .before .before .before .before .before .before .judge .ensures) ∙ c .before .before .before .before .f .given .1, lt-leb _ _ (c .before .if1 .taken)) (c .blank-row2 .ensures)
-
-blank-row-requires-3 : tie.Need-blank-row-requires-3
-blank-row-requires-3 c κs = search needs
+unfolding certificateRow blank within
+returns-2 c = let b = c .before .before .before in rw (sym (b .before .before .judge .ensures) ∙ b .f .given .1, lt-leb _ _ (c .if1 .taken))
 
 returns-3 : tie.Need-returns-3
-unfolding certificateRow within
-returns-3 c = rw (sym (c .before .before .before .before .before .before .before .before .judge .ensures) ∙ c .before .before .before .before .before .before .f .given .1, le-leb _ _ (c .before .before .before .if1 .left), lt-leb _ _ (c .before .if2 .taken)) (c .blank-row3 .ensures)
-
-cast-t11 : tie.Need-cast-t11
-cast-t11 c = search needs
-
-cast-t12 : tie.Need-cast-t12
-cast-t12 c = search needs
+unfolding certificateRow blank within
+returns-3 c =
+    let a = c .before .before in
+    let b = a .before .before .before in
+    rw (sym (b .before .before .judge .ensures) ∙ b .f .given .1, le-leb _ _ (a .if1 .left), lt-leb _ _ (c .if2 .taken))
 
 returns-4 : tie.Need-returns-4
 unfolding certificateRow within
-returns-4 c = rw (sym (c .before .before .before .before .before .before .before .judge .ensures) ∙ c .before .before .before .before .before .f .given .1, le-leb _ _ (c .before .before .if1 .left), le-leb _ _ (c .if2 .left))
+returns-4 c =
+    let a = c .before .before in
+    let b = a .before .before .before in
+    rw (sym (b .before .before .judge .ensures) ∙ b .f .given .1, le-leb _ _ (a .if1 .left), le-leb _ _ (c .if2 .left))
 
 pub certificate-row-spec : {M : Type 1} → statement M
 certificate-row-spec =
     tie.close
     (tie.spec
-    judge-requires
-    enum-known-f
-    enum-told
-    blank-row-requires
+    (λ c κs. search needs)
+    (λ c. search needs)
+    (λ c. search needs)
     returns
-    blank-row-requires-2
     returns-2
-    blank-row-requires-3
     returns-3
-    cast-t11
-    cast-t12
+    (λ c. search needs)
+    (λ c. search needs)
     returns-4)

@@ -2,21 +2,12 @@
 use borrow.Author.Needs.{needs}
 use Rattle.chain.proofs.counting.vouched_by.Statement.{statement}
 use Rattle.chain.proofs.counting.vouched_by.Tie as tie
-use Rattle.chain.proofs.counting.vouched_by.Reads as reads
-use Rattle.chain.proofs.counting.vouched_by.Lts as lts
-use Rattle.chain.proofs.counting.vouches.Reads as vouches-reads
 
--- src/counting.rt:45:8
-vouches-requires : tie.Need-vouches-requires
-vouches-requires c κs = search needs
-
--- src/counting.rt:46:9
 returns : tie.Need-returns
 returns c = rw (← (c .before .vouches .ensures), c .if1 .taken)
 
--- src/counting.rt:42:1
 returns-2 : tie.Need-returns-2
 returns-2 c = rw (← (c .before .vouches .ensures), c .if1 .left)
 
 pub vouched-by-spec : {M : Type 1} → statement M
-vouched-by-spec = tie.close (tie.spec vouches-requires returns returns-2)
+vouched-by-spec = tie.close (tie.spec (λ c κs. search needs) returns returns-2)

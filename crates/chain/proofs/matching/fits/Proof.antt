@@ -4,52 +4,24 @@ use Rattle.chain.proofs.RowLaws.{alike-parts, fits-not, fits-named}
 use borrow.Author.Needs.{needs}
 use Rattle.chain.proofs.matching.fits.Statement.{statement}
 use Rattle.chain.proofs.matching.fits.Tie as tie
-use Rattle.chain.proofs.matching.fits.Reads as reads
-use Rattle.chain.proofs.matching.fits.Lts as lts
-use Rattle.chain.proofs.roles.piece.Reads as piece-reads
-use Rattle.elements.proofs.same.Reads as same-reads
 
--- src/matching.rt:76:9
-piece-requires : tie.Need-piece-requires
-piece-requires c κs = search needs
-
--- src/matching.rt:77:14
-piece-requires-2 : tie.Need-piece-requires-2
-piece-requires-2 c κs = search needs
-
--- src/matching.rt:77:9
-same-requires : tie.Need-same-requires
-same-requires c κs = search needs
-
--- src/matching.rt:78:9
 returns : tie.Need-returns
 returns c = fits-not _ _ _ (alike-parts (c .before .same .ensures) (c .before .before .piece2 .ensures) (c .before .before .before .piece .ensures)) (not-true _ (c .if1 .taken))
 
--- src/matching.rt:80:9
-piece-requires-3 : tie.Need-piece-requires-3
-piece-requires-3 c κs = search needs
-
--- src/matching.rt:81:10
-piece-requires-4 : tie.Need-piece-requires-4
-piece-requires-4 c κs = search needs
-
--- src/matching.rt:81:5
-same-requires-2 : tie.Need-same-requires-2
-same-requires-2 c κs = search needs
-
--- src/matching.rt:73:1
 returns-2 : tie.Need-returns-2
-returns-2 c = fits-named _ _ _ (alike-parts (c .before .before .before .before .same .ensures) (c .before .before .before .before .before .piece2 .ensures) (c .before .before .before .before .before .before .piece .ensures)) (not-false _ (c .before .before .before .if1 .left)) (alike-parts (c .same2 .ensures) (c .before .piece4 .ensures) (c .before .before .piece3 .ensures))
+returns-2 c =
+    let back4 = c .before .before .before .before in
+    fits-named _ _ _ (alike-parts (c .before .before .before .before .same .ensures) (back4 .before .piece2 .ensures) (back4 .before .before .piece .ensures)) (not-false _ (c .before .before .before .if1 .left)) (alike-parts (c .same2 .ensures) (c .before .piece4 .ensures) (c .before .before .piece3 .ensures))
 
 pub fits-spec : {M : Type 1} → statement M
 fits-spec =
     tie.close
     (tie.spec
-    piece-requires
-    piece-requires-2
-    same-requires
+    (λ c κs. search needs)
+    (λ c κs. search needs)
+    (λ c κs. search needs)
     returns
-    piece-requires-3
-    piece-requires-4
-    same-requires-2
+    (λ c κs. search needs)
+    (λ c κs. search needs)
+    (λ c κs. search needs)
     returns-2)

@@ -3,15 +3,11 @@ use borrow.Author.Tests.{eq-eqb, ne-eqb}
 use Rattle.chain.specs.Rows.{leadsOf}
 use Rattle.chain.proofs.matching.leads.Statement.{statement}
 use Rattle.chain.proofs.matching.leads.Tie as tie
-use Rattle.chain.proofs.matching.leads.Reads as reads
-use Rattle.chain.proofs.matching.leads.Lts as lts
 
--- src/matching.rt:57:9
 returns : tie.Need-returns
 unfolding leadsOf
 returns c = simp (eq-eqb _ _ (c .if1 .taken))
 
--- src/matching.rt:53:1
 returns-2 : tie.Need-returns-2
 unfolding leadsOf
 returns-2 c = simp (ne-eqb _ _ (c .if1 .left))

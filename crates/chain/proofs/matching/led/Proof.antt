@@ -3,15 +3,11 @@ use borrow.Author.Tests.{eq-eqb, ne-eqb}
 use Rattle.chain.specs.Near.{ledOf}
 use Rattle.chain.proofs.matching.led.Statement.{statement}
 use Rattle.chain.proofs.matching.led.Tie as tie
-use Rattle.chain.proofs.matching.led.Reads as reads
-use Rattle.chain.proofs.matching.led.Lts as lts
 
--- src/matching.rt:67:9
 returns : tie.Need-returns
 unfolding ledOf
 returns c = simp (eq-eqb _ _ (c .if1 .taken))
 
--- src/matching.rt:63:1
 returns-2 : tie.Need-returns-2
 unfolding ledOf
 returns-2 c = simp (ne-eqb _ _ (c .if1 .left))

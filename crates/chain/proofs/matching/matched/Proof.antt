@@ -5,30 +5,15 @@ use Rattle.chain.proofs.RowLaws.{matched-unled, matched-fits, matched-u
 use borrow.Author.Needs.{needs}
 use Rattle.chain.proofs.matching.matched.Statement.{statement}
 use Rattle.chain.proofs.matching.matched.Tie as tie
-use Rattle.chain.proofs.matching.matched.Reads as reads
-use Rattle.chain.proofs.matching.matched.Lts as lts
-use Rattle.chain.proofs.matching.fits.Reads as fits-reads
-use Rattle.chain.proofs.matching.led.Reads as led-reads
 
--- src/matching.rt:43:9
-led-requires : tie.Need-led-requires
-led-requires c κs = search needs
-
--- src/matching.rt:44:9
 returns : tie.Need-returns
 returns c = sym (matched-unled _ _ _ _ (sym (c .before .led .ensures) ∙ not-true _ (c .if1 .taken)))
 
--- src/matching.rt:46:8
-fits-requires : tie.Need-fits-requires
-fits-requires c κs = search needs
-
--- src/matching.rt:47:9
 returns-2 : tie.Need-returns-2
 returns-2 c = sym (matched-fits _ _ _ _ (sym (c .before .before .before .led .ensures) ∙ not-false _ (c .before .before .if1 .left)) (sym (c .before .fits2 .ensures) ∙ c .if2 .taken))
 
--- src/matching.rt:40:1
 returns-3 : tie.Need-returns-3
 returns-3 c = sym (matched-unfit _ _ _ _ (sym (c .before .before .before .led .ensures) ∙ not-false _ (c .before .before .if1 .left)) (sym (c .before .fits2 .ensures) ∙ c .if2 .left))
 
 pub matched-spec : {M : Type 1} → statement M
-matched-spec = tie.close (tie.spec led-requires returns fits-requires returns-2 returns-3)
+matched-spec = tie.close (tie.spec (λ c κs. search needs) returns (λ c κs. search needs) returns-2 returns-3)

@@ -19,23 +19,23 @@ abbrev μ-loop : tie.MeasureT-loop
 loop-holds : tie.Need-loop-holds Inv-loop μ-loop
 loop-holds c = (omega arith, refl, record { before = λ c h. absurd (omega arith); behind = λ c h. empty-slots 96 c })
 
-kind-in-requires : tie.Need-kind-in-requires Inv-loop μ-loop
-kind-in-requires c κs = search needs
-
-first-requires : tie.Need-first-requires Inv-loop μ-loop
-first-requires c κs = search needs
-
 array-write-near : tie.Need-array-write-near Inv-loop μ-loop
-array-write-near c = omega (arith, c .before .before .before .before .before .pre, c .before .before .loop-test .taken)
+array-write-near c =
+    let back4 = c .before .before .before .before in
+    omega (arith, back4 .before .pre, c .before .before .loop-test .taken)
 
 add-place : tie.Need-add-place Inv-loop μ-loop
-add-place c = omega (arith, c .before .before .before .before .before .pre, c .before .before .loop-test .taken)
+add-place c =
+    let back4 = c .before .before .before .before in
+    omega (arith, back4 .before .pre, c .before .before .loop-test .taken)
 
 loop-less : tie.Need-loop-less Inv-loop μ-loop
 loop-less c = omega (arith, c .before .before .loop-test .taken)
 
 loop-again : tie.Need-loop-again Inv-loop μ-loop
-loop-again c = let inv = c .before .before .before .loop .inv in (omega (arith, c .before .before .loop-test .taken), rw length-set (inv .1), slot-set (inv .2) (omega (arith, inv .1, c .before .before .before .before .before .pre, c .before .before .loop-test .taken)) (rw (c .before .kind-in .ensures) at (c .first .ensures)))
+loop-again c =
+    let back4 = c .before .before .before .before in
+    let inv = c .before .before .before .loop .inv in (omega (arith, c .before .before .loop-test .taken), rw length-set (inv .1), slot-set (inv .2) (omega (arith, inv .1, back4 .before .pre, c .before .before .loop-test .taken)) (rw (c .before .kind-in .ensures) at (c .first .ensures)))
 
 returns : tie.Need-returns Inv-loop μ-loop
 returns c = let all : c .before .loop .place ≡ c .before .before .before .args .places = omega (arith, c .loop-test .left, c .before .loop .inv .0) in λ k h. c .before .loop .inv .2 .before k (omega arith)
@@ -47,8 +47,8 @@ near-first-spec =
     Inv-loop
     μ-loop
     loop-holds
-    kind-in-requires
-    first-requires
+    (λ c κs. search needs)
+    (λ c κs. search needs)
     array-write-near
     add-place
     loop-less

@@ -4,17 +4,11 @@ use Rattle.chain.proofs.Layers.{links-wider, layer-wider}
 use Rattle.chain.proofs.near.near_next.Statement.{statement}
 use Rattle.chain.proofs.near.near_next.Tie as tie
 
-with-links-requires : tie.Need-with-links-requires
-with-links-requires c κs = search needs
-
 returns : tie.Need-returns
 returns c = links-wider _ _ _ _ _ _ (c .with-links .ensures)
-
-with-signers-requires : tie.Need-with-signers-requires
-with-signers-requires c κs = search needs
 
 returns-2 : tie.Need-returns-2
 returns-2 c = layer-wider (c .before .if1 .left) (c .with-signers .ensures)
 
 pub near-next-spec : {M : Type 1} → statement M
-near-next-spec = tie.close (tie.spec with-links-requires returns with-signers-requires returns-2)
+near-next-spec = tie.close (tie.spec (λ c κs. search needs) returns (λ c κs. search needs) returns-2)

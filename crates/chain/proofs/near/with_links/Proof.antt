@@ -24,9 +24,6 @@ array-read-marked c = omega (arith, c .before .before .pre, c .loop-test .taken)
 array-read-marked-2 : tie.Need-array-read-marked-2 Inv-loop μ-loop
 array-read-marked-2 c = omega (arith, c .before .before .pre, c .loop-test .taken)
 
-marked-requires : tie.Need-marked-requires Inv-loop μ-loop
-marked-requires c κs = search needs
-
 array-write-more : tie.Need-array-write-more Inv-loop μ-loop
 array-write-more c = omega (arith, c .before .before .before .pre, c .before .loop-test .taken)
 
@@ -51,7 +48,7 @@ with-links-spec =
     loop-holds
     array-read-marked
     array-read-marked-2
-    marked-requires
+    (λ c κs. search needs)
     array-write-more
     add-place
     loop-less

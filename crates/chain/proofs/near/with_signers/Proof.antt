@@ -28,38 +28,51 @@ loop-holds c = (omega arith, omega arith, layer-start _ _ _ _)
 array-read-led : tie.Need-array-read-led Inv-loop2 μ-loop2 Inv-loop μ-loop
 array-read-led c = omega (arith, c .before .before .before .pre, c .loop-test .taken)
 
-led-requires : tie.Need-led-requires Inv-loop2 μ-loop2 Inv-loop μ-loop
-led-requires c κs = search needs
-
 loop2-holds : tie.Need-loop2-holds Inv-loop2 μ-loop2 Inv-loop μ-loop
 loop2-holds c = (omega arith, c .before .before .before .loop .inv .1, c .before .before .before .loop .inv .2)
 
 array-read-if2 : tie.Need-array-read-if2 Inv-loop2 μ-loop2 Inv-loop μ-loop
-array-read-if2 c = omega (arith, c .before .before .before .before .before .before .before .pre, c .loop2-test .taken)
+array-read-if2 c =
+    let back4 = c .before .before .before .before in
+    omega (arith, back4 .before .before .before .pre, c .loop2-test .taken)
 
 mul-octet : tie.Need-mul-octet Inv-loop2 μ-loop2 Inv-loop μ-loop
-mul-octet c = let m : c .before .before .loop2 .u * c .before .before .before .before .before .before .before .before .args .places ≤ 96 * 96 = mul-le-mul {n₂ = 96} {m₂ = 96} (omega (arith, c .before .before .before .before .before .before .before .before .pre, c .before .before .before .before .before .loop-test .taken, c .before .loop2-test .taken)) (omega (arith, c .before .before .before .before .before .before .before .before .pre)) in omega (arith, m, c .before .before .before .before .before .before .before .before .pre, c .before .before .before .before .before .loop-test .taken, c .before .loop2-test .taken)
+mul-octet c =
+    let back4 = c .before .before .before .before in
+    let back8 = back4 .before .before .before .before in
+    let m : c .before .before .loop2 .u * back8 .args .places ≤ 96 * 96 = mul-le-mul {n₂ = 96} {m₂ = 96} (omega (arith, back8 .pre, back4 .before .loop-test .taken, c .before .loop2-test .taken)) (omega (arith, back8 .pre)) in omega (arith, m, back8 .pre, back4 .before .loop-test .taken, c .before .loop2-test .taken)
 
 add-octet : tie.Need-add-octet Inv-loop2 μ-loop2 Inv-loop μ-loop
-add-octet c = let m : c .before .before .loop2 .u * c .before .before .before .before .before .before .before .before .args .places ≤ 96 * 96 = mul-le-mul {n₂ = 96} {m₂ = 96} (omega (arith, c .before .before .before .before .before .before .before .before .pre, c .before .before .before .before .before .loop-test .taken, c .before .loop2-test .taken)) (omega (arith, c .before .before .before .before .before .before .before .before .pre)) in omega (arith, m, c .before .before .before .before .before .before .before .before .pre, c .before .before .before .before .before .loop-test .taken, c .before .loop2-test .taken)
-
-octet-requires : tie.Need-octet-requires Inv-loop2 μ-loop2 Inv-loop μ-loop
-octet-requires c κs = search needs
+add-octet c =
+    let back4 = c .before .before .before .before in
+    let back8 = back4 .before .before .before .before in
+    let m : c .before .before .loop2 .u * back8 .args .places ≤ 96 * 96 = mul-le-mul {n₂ = 96} {m₂ = 96} (omega (arith, back8 .pre, back4 .before .loop-test .taken, c .before .loop2-test .taken)) (omega (arith, back8 .pre)) in omega (arith, m, back8 .pre, back4 .before .loop-test .taken, c .before .loop2-test .taken)
 
 array-write-more : tie.Need-array-write-more Inv-loop2 μ-loop2 Inv-loop μ-loop
-array-write-more c = omega (arith, c .before .before .before .before .before .before .before .before .before .before .pre, c .before .before .before .loop2-test .taken)
+array-write-more c =
+    let back4 = c .before .before .before .before in
+    let back8 = back4 .before .before .before .before in
+    omega (arith, back8 .before .before .pre, c .before .before .before .loop2-test .taken)
 
 add-u : tie.Need-add-u Inv-loop2 μ-loop2 Inv-loop μ-loop
-add-u c = omega (arith, c .before .before .before .before .before .before .before .before .pre, c .before .loop2-test .taken)
+add-u c =
+    let back4 = c .before .before .before .before in
+    let back8 = back4 .before .before .before .before in
+    omega (arith, back8 .pre, c .before .loop2-test .taken)
 
 loop2-less : tie.Need-loop2-less Inv-loop2 μ-loop2 Inv-loop μ-loop
 loop2-less c = omega (arith, c .before .loop2-test .taken)
 
 loop2-again : tie.Need-loop2-again Inv-loop2 μ-loop2 Inv-loop μ-loop
-loop2-again c = (omega (arith, c .before .loop2-test .taken), ⊎-elim (λ w. rw (w .3, length-set) (c .before .before .loop2 .inv .1)) (λ k. ⊎-elim (λ w. rw (w .3) (c .before .before .loop2 .inv .1)) (λ w. rw (w .1) (c .before .before .loop2 .inv .1)) k) (c .if2 .came), ⊎-elim (λ w. rw (w .3) (layer-marked (c .before .before .loop2 .inv .2) (omega (arith, c .before .before .loop2 .inv .1, c .before .before .before .before .before .before .before .before .pre, c .before .loop2-test .taken)))) (λ k. ⊎-elim (λ w. rw (w .3) (layer-passed (c .before .before .loop2 .inv .2) (λ b t. no-verdict _ _ _ _ (w .1 .ensures) (w .2 .left) b))) (λ w. rw (w .1) (layer-passed (c .before .before .loop2 .inv .2) (λ b t. absurd (w .0 .left t)))) k) (c .if2 .came))
+loop2-again c =
+    let back4 = c .before .before .before .before in
+    let back8 = back4 .before .before .before .before in
+    (omega (arith, c .before .loop2-test .taken), ⊎-elim (λ w. rw (w .3, length-set) (c .before .before .loop2 .inv .1)) (λ k. ⊎-elim (λ w. rw (w .3) (c .before .before .loop2 .inv .1)) (λ w. rw (w .1) (c .before .before .loop2 .inv .1)) k) (c .if2 .came), ⊎-elim (λ w. rw (w .3) (layer-marked (c .before .before .loop2 .inv .2) (omega (arith, c .before .before .loop2 .inv .1, back8 .pre, c .before .loop2-test .taken)))) (λ k. ⊎-elim (λ w. rw (w .3) (layer-passed (c .before .before .loop2 .inv .2) (λ b t. no-verdict _ _ _ _ (w .1 .ensures) (w .2 .left) b))) (λ w. rw (w .1) (layer-passed (c .before .before .loop2 .inv .2) (λ b t. absurd (w .0 .left t)))) k) (c .if2 .came))
 
 add-v : tie.Need-add-v Inv-loop2 μ-loop2 Inv-loop μ-loop
-add-v c = omega (arith, c .before .before .before .before .before .pre, c .before .before .loop-test .taken)
+add-v c =
+    let back4 = c .before .before .before .before in
+    omega (arith, back4 .before .pre, c .before .before .loop-test .taken)
 
 loop-less : tie.Need-loop-less Inv-loop2 μ-loop2 Inv-loop μ-loop
 loop-less c = omega (arith, c .before .before .loop-test .taken)
@@ -80,12 +93,12 @@ with-signers-spec =
     μ-loop
     loop-holds
     array-read-led
-    led-requires
+    (λ c κs. search needs)
     loop2-holds
     array-read-if2
     mul-octet
     add-octet
-    octet-requires
+    (λ c κs. search needs)
     array-write-more
     add-u
     loop2-less

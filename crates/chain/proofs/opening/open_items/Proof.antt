@@ -11,49 +11,55 @@ use Rattle.chain.proofs.opening.open_items.Statement.{statement}
 use Rattle.chain.proofs.opening.open_items.Tie as tie
 
 abbrev Inv-loop : tie.InvT-loop
-Inv-loop image places moment rows₀ before near place₀ rows place = (place ≤ places) × (length rows ≡ 96) × Rewritten (rowIn moment image before near rows₀) rows₀ rows place
+Inv-loop image places moment rows₀ before near place₀ rows place =
+    (places ≤ 96) × (place ≤ places) × (length rows ≡ 96) × Rewritten (rowIn moment image before near rows₀) rows₀ rows place
 
 abbrev μ-loop : tie.MeasureT-loop
 μ-loop image places moment rows₀ before near place₀ rows place = places - place
 
 loop-holds : tie.Need-loop-holds Inv-loop μ-loop
-loop-holds c = (omega arith, c .before .pre .1, record { before = λ k h. absurd (omega arith); behind = λ k h. refl })
+loop-holds c =
+    let p = c .before .pre in
+    (p .0, omega arith, p .1, record { before = λ k h. absurd (omega arith); behind = λ k h. refl })
 
 array-read-fresh : tie.Need-array-read-fresh Inv-loop μ-loop
-array-read-fresh c = omega (arith, c .before .before .before .pre .0, c .loop-test .taken)
+array-read-fresh c = omega (arith, c .before .loop .inv .0, c .loop-test .taken)
 
 array-read-fresh-2 : tie.Need-array-read-fresh-2 Inv-loop μ-loop
-array-read-fresh-2 c = omega (arith, c .before .before .before .pre .0, c .loop-test .taken)
+array-read-fresh-2 c = omega (arith, c .before .loop .inv .0, c .loop-test .taken)
 
-fresh-requires : tie.Need-fresh-requires Inv-loop μ-loop
-fresh-requires c κs = search needs
+mul-row : tie.Need-mul-row Inv-loop μ-loop
+mul-row c = let b = c .before .before .before .before in omega (arith, b .before .loop .inv .0, b .loop-test .taken)
 
-entry-in-requires : tie.Need-entry-in-requires Inv-loop μ-loop
-entry-in-requires c κs = search needs
-
-open-item-requires : tie.Need-open-item-requires Inv-loop μ-loop
-open-item-requires c κs = search needs
-
-cells-of-requires : tie.Need-cells-of-requires Inv-loop μ-loop
-cells-of-requires c κs = search needs
-
-mul-cells : tie.Need-mul-cells Inv-loop μ-loop
-mul-cells c = omega (arith, c .before .before .before .before .before .before .before .before .pre .0, c .before .before .before .before .before .loop-test .taken)
-
-element-set-from-cells : tie.Need-element-set-from-cells Inv-loop μ-loop
-element-set-from-cells c = omega (arith, c .before .before .before .before .before .before .before .before .pre .0, c .before .before .before .before .before .loop-test .taken, c .before .before .before .before .before .before .loop .inv .1)
+element-set-from-row : tie.Need-element-set-from-row Inv-loop μ-loop
+element-set-from-row c =
+    let b = c .before .before .before .before in
+    let i = b .before .loop .inv in
+    omega (arith, i .0, i .2, b .loop-test .taken)
 
 add-place : tie.Need-add-place Inv-loop μ-loop
-add-place c = omega (arith, c .before .before .before .before .before .pre .0, c .before .before .loop-test .taken)
+add-place c = let b = c .before .before in omega (arith, b .before .loop .inv .0, b .loop-test .taken)
 
 loop-less : tie.Need-loop-less Inv-loop μ-loop
 loop-less c = omega (arith, c .before .before .loop-test .taken)
 
 loop-again : tie.Need-loop-again Inv-loop μ-loop
-loop-again c = (omega (arith, c .before .before .loop-test .taken), ⊎-elim (λ w. rw (w .4, length-set) (c .before .before .before .loop .inv .1)) (λ w. rw (w .1) (c .before .before .before .loop .inv .1)) (c .if1 .came), ⊎-elim (λ w. rw (w .4) (row-set _ (c .before .before .before .loop .inv .2) (omega (arith, c .before .before .before .loop .inv .1, c .before .before .before .before .before .pre .0, c .before .before .loop-test .taken)) (w .3 .ensures ∙ row-fresh _ _ _ _ _ _ (sym (c .before .fresh .ensures) ∙ w .0 .taken) (w .1 .ensures) (w .2 .ensures)))) (λ w. rw (w .1) (row-left (c .before .before .before .loop .inv .2) (row-stays _ _ _ _ _ _ (sym (c .before .fresh .ensures) ∙ w .0 .left)))) (c .if1 .came))
+loop-again c =
+    let b = c .before .before in
+    let i = b .before .loop .inv in
+    let inside = b .loop-test .taken in
+    let told = sym (c .before .fresh .ensures) in (
+      i .0,
+      omega (arith, inside),
+      ⊎-elim (λ w. rw (w .3, length-set) (i .2)) (λ w. rw (w .1) (i .2)) (c .if1 .came),
+      ⊎-elim
+          (λ w. rw (w .3) (row-set _ (i .3) (omega (arith, i .0, i .2, inside)) (row-fresh _ _ _ _ _ _ (told ∙ w .0 .taken) (w .1 .ensures) (w .2 .ensures))))
+          (λ w. rw (w .1) (row-left (i .3) (row-stays _ _ _ _ _ _ (told ∙ w .0 .left))))
+          (c .if1 .came),
+    )
 
 returns : tie.Need-returns Inv-loop μ-loop
-returns c = (c .before .loop .inv .1, λ k h. c .before .loop .inv .2 .before k (omega (arith, c .loop-test .left)))
+returns c = let i = c .before .loop .inv in (i .2, λ k h. i .3 .before k (omega (arith, c .loop-test .left)))
 
 pub open-items-spec : {M : Type 1} → statement M
 open-items-spec =
@@ -64,12 +70,11 @@ open-items-spec =
     loop-holds
     array-read-fresh
     array-read-fresh-2
-    fresh-requires
-    entry-in-requires
-    open-item-requires
-    cells-of-requires
-    mul-cells
-    element-set-from-cells
+    (λ c κs. search needs)
+    (λ c κs. search needs)
+    (λ c κs. search needs)
+    mul-row
+    element-set-from-row
     add-place
     loop-less
     loop-again

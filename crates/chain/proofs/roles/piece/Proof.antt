@@ -3,22 +3,10 @@ use Rattle.chain.specs.Rows.{pieceOf}
 use borrow.Author.Needs.{needs}
 use Rattle.chain.proofs.roles.piece.Statement.{statement}
 use Rattle.chain.proofs.roles.piece.Tie as tie
-use Rattle.chain.proofs.roles.piece.Reads as reads
-use Rattle.chain.proofs.roles.piece.Lts as lts
-use Rattle.image.proofs.part.Reads as part-reads
 
--- src/roles.rt:86:10
-part-requires : tie.Need-part-requires
-part-requires c κs = search needs
-
--- src/roles.rt:86:5
-part-requires-2 : tie.Need-part-requires-2
-part-requires-2 c κs = search needs
-
--- src/roles.rt:83:1
 returns : tie.Need-returns
 unfolding pieceOf
 returns c = rw (c .part2 .ensures, c .before .part .ensures)
 
 pub piece-spec : {M : Type 1} → statement M
-piece-spec = tie.close (tie.spec part-requires part-requires-2 returns)
+piece-spec = tie.close (tie.spec (λ c κs. search needs) (λ c κs. search needs) returns)

@@ -5,33 +5,21 @@ use Rattle.chain.proofs.RowLaws.{role-unspoken, role-link, role-signer,
 use borrow.Author.Needs.{needs}
 use Rattle.chain.proofs.roles.role_of.Statement.{statement}
 use Rattle.chain.proofs.roles.role_of.Tie as tie
-use Rattle.chain.proofs.roles.role_of.Reads as reads
-use Rattle.chain.proofs.roles.role_of.Lts as lts
-use Rattle.chain.proofs.roles.signed.Reads as signed-reads
 
--- src/roles.rt:49:8
-signed-requires : tie.Need-signed-requires
-signed-requires c κs = search needs
-
--- src/roles.rt:51:13
 returns : tie.Need-returns
 returns c = sym (role-unspoken _ _ (sym (c .before .before .signed .ensures) ∙ c .before .if1 .taken) (ne-eqb _ _ (c .if2 .taken)))
 
--- src/roles.rt:54:13
 returns-2 : tie.Need-returns-2
 returns-2 c = sym (role-link _ _ (sym (c .before .before .before .before .signed .ensures) ∙ c .before .before .before .if1 .taken) (eq-eqb _ _ (c .before .before .if2 .left)) (eq-eqb _ _ (c .if3 .taken)))
 
--- src/roles.rt:56:9
 returns-3 : tie.Need-returns-3
 returns-3 c = sym (role-signer _ _ (sym (c .before .before .before .before .signed .ensures) ∙ c .before .before .before .if1 .taken) (eq-eqb _ _ (c .before .before .if2 .left)) (ne-eqb _ _ (c .if3 .left)))
 
--- src/roles.rt:59:9
 returns-4 : tie.Need-returns-4
 returns-4 c = sym (role-anchor _ _ (sym (c .before .before .before .signed .ensures) ∙ c .before .before .if1 .left) (eq-eqb _ _ (c .if4 .taken)))
 
--- src/roles.rt:46:1
 returns-5 : tie.Need-returns-5
 returns-5 c = sym (role-none _ _ (sym (c .before .before .before .signed .ensures) ∙ c .before .before .if1 .left) (ne-eqb _ _ (c .if4 .left)))
 
 pub role-of-spec : {M : Type 1} → statement M
-role-of-spec = tie.close (tie.spec signed-requires returns returns-2 returns-3 returns-4 returns-5)
+role-of-spec = tie.close (tie.spec (λ c κs. search needs) returns returns-2 returns-3 returns-4 returns-5)

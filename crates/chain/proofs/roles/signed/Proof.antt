@@ -3,15 +3,11 @@ use borrow.Author.Tests.{eq-eqb, ne-eqb}
 use Rattle.chain.specs.Rows.{signedOf}
 use Rattle.chain.proofs.roles.signed.Statement.{statement}
 use Rattle.chain.proofs.roles.signed.Tie as tie
-use Rattle.chain.proofs.roles.signed.Reads as reads
-use Rattle.chain.proofs.roles.signed.Lts as lts
 
--- src/roles.rt:40:9
 returns : tie.Need-returns
 unfolding signedOf
 returns c = simp (eq-eqb _ _ (c .if1 .taken))
 
--- src/roles.rt:36:1
 returns-2 : tie.Need-returns-2
 unfolding signedOf
 returns-2 c = simp (ne-eqb _ _ (c .before .if1 .left))

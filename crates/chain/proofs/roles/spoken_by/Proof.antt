@@ -5,64 +5,38 @@ use borrow.Author.Tests.{eq-eqb, ne-eqb, not-true, not-false}
 use Rattle.chain.proofs.RowLaws.{covers-parts, lists-parts, spoken-listed, spoken-apart, spoken-lists, spoken-covers}
 use Rattle.chain.proofs.roles.spoken_by.Statement.{statement}
 use Rattle.chain.proofs.roles.spoken_by.Tie as tie
-use Rattle.chain.proofs.roles.spoken_by.Reads as reads
-use Rattle.chain.proofs.roles.spoken_by.Lts as lts
-use Rattle.chain.proofs.roles.piece.Reads as piece-reads
-use Rattle.crl.proofs.listed.Reads as listed-reads
-use Rattle.elements.proofs.same.Reads as same-reads
-use Rattle.image.proofs.part.Reads as part-reads
 
--- src/roles.rt:69:9
 returns : tie.Need-returns
 returns c = sym (spoken-listed _ _ _ _ (eq-eqb _ _ (c .if1 .taken)))
 
--- src/roles.rt:71:9
-part-requires : tie.Need-part-requires
-part-requires c κs = search needs
-
--- src/roles.rt:72:9
-part-requires-2 : tie.Need-part-requires-2
-part-requires-2 c κs = search needs
-
--- src/roles.rt:73:22
-piece-requires : tie.Need-piece-requires
-piece-requires c κs = search needs
-
--- src/roles.rt:73:9
-same-requires : tie.Need-same-requires
-same-requires c κs = search needs
-
--- src/roles.rt:74:9
 returns-2 : tie.Need-returns-2
-returns-2 c = sym (spoken-apart _ _ _ _ (ne-eqb _ _ (c .before .before .before .before .before .if1 .left)) (sym (covers-parts _ _ _ (c .before .same .ensures) (c .before .before .before .part2 .ensures) (c .before .before .before .before .part .ensures) (c .before .before .piece .ensures)) ∙ not-true _ (c .if2 .taken)))
+returns-2 c =
+    let back4 = c .before .before .before .before in
+    sym (spoken-apart _ _ _ _ (ne-eqb _ _ (back4 .before .if1 .left)) (sym (covers-parts _ _ _ (c .before .same .ensures) (c .before .before .before .part2 .ensures) (c .before .before .before .before .part .ensures) (c .before .before .piece .ensures)) ∙ not-true _ (c .if2 .taken)))
 
--- src/roles.rt:76:45
-piece-requires-2 : tie.Need-piece-requires-2
-piece-requires-2 c κs = search needs
-
--- src/roles.rt:76:8
-listed-requires : tie.Need-listed-requires
-listed-requires c κs = search needs
-
--- src/roles.rt:77:9
 returns-3 : tie.Need-returns-3
-returns-3 c = sym (spoken-lists _ _ _ _ (ne-eqb _ _ (c .before .before .before .before .before .before .before .before .if1 .left)) (sym (covers-parts _ _ _ (c .before .before .before .before .same .ensures) (c .before .before .before .before .before .before .part2 .ensures) (c .before .before .before .before .before .before .before .part .ensures) (c .before .before .before .before .before .piece .ensures)) ∙ not-false _ (c .before .before .before .if2 .left)) (sym (lists-parts _ _ _ (c .before .listed .ensures) (c .before .before .before .before .before .before .before .part .ensures) (c .before .before .piece2 .ensures)) ∙ c .if3 .taken))
+returns-3 c =
+    let back4 = c .before .before .before .before in
+    let back8 = back4 .before .before .before .before in
+    sym (spoken-lists _ _ _ _ (ne-eqb _ _ (back8 .if1 .left)) (sym (covers-parts _ _ _ (c .before .before .before .before .same .ensures) (back4 .before .before .part2 .ensures) (back4 .before .before .before .part .ensures) (back4 .before .piece .ensures)) ∙ not-false _ (c .before .before .before .if2 .left)) (sym (lists-parts _ _ _ (c .before .listed .ensures) (back4 .before .before .before .part .ensures) (c .before .before .piece2 .ensures)) ∙ c .if3 .taken))
 
--- src/roles.rt:65:1
 returns-4 : tie.Need-returns-4
-returns-4 c = sym (spoken-covers _ _ _ _ (ne-eqb _ _ (c .before .before .before .before .before .before .before .before .if1 .left)) (sym (covers-parts _ _ _ (c .before .before .before .before .same .ensures) (c .before .before .before .before .before .before .part2 .ensures) (c .before .before .before .before .before .before .before .part .ensures) (c .before .before .before .before .before .piece .ensures)) ∙ not-false _ (c .before .before .before .if2 .left)) (sym (lists-parts _ _ _ (c .before .listed .ensures) (c .before .before .before .before .before .before .before .part .ensures) (c .before .before .piece2 .ensures)) ∙ c .if3 .left))
+returns-4 c =
+    let back4 = c .before .before .before .before in
+    let back8 = back4 .before .before .before .before in
+    sym (spoken-covers _ _ _ _ (ne-eqb _ _ (back8 .if1 .left)) (sym (covers-parts _ _ _ (c .before .before .before .before .same .ensures) (back4 .before .before .part2 .ensures) (back4 .before .before .before .part .ensures) (back4 .before .piece .ensures)) ∙ not-false _ (c .before .before .before .if2 .left)) (sym (lists-parts _ _ _ (c .before .listed .ensures) (back4 .before .before .before .part .ensures) (c .before .before .piece2 .ensures)) ∙ c .if3 .left))
 
 pub spoken-by-spec : {M : Type 1} → statement M
 spoken-by-spec =
     tie.close
     (tie.spec
     returns
-    part-requires
-    part-requires-2
-    piece-requires
-    same-requires
+    (λ c κs. search needs)
+    (λ c κs. search needs)
+    (λ c κs. search needs)
+    (λ c κs. search needs)
     returns-2
-    piece-requires-2
-    listed-requires
+    (λ c κs. search needs)
+    (λ c κs. search needs)
     returns-3
     returns-4)

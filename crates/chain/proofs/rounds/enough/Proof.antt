@@ -4,24 +4,18 @@ use borrow.Author.Tests.{eq-eqb, ne-eqb}
 use Rattle.chain.specs.Rows.{enoughOf}
 use Rattle.chain.proofs.rounds.enough.Statement.{statement}
 use Rattle.chain.proofs.rounds.enough.Tie as tie
-use Rattle.chain.proofs.rounds.enough.Reads as reads
-use Rattle.chain.proofs.rounds.enough.Lts as lts
 
--- src/rounds.rt:108:9
 returns : tie.Need-returns
 unfolding enoughOf
 returns c = simp (eq-eqb _ _ (c .if1 .taken))
 
--- src/rounds.rt:111:9
 returns-2 : tie.Need-returns-2
 unfolding enoughOf
 returns-2 c = simp (ne-eqb _ _ (c .before .if1 .left), eq-eqb _ _ (c .if2 .taken))
 
--- src/rounds.rt:113:15
 add-result : tie.Need-add-result
 add-result c = omega arith
 
--- src/rounds.rt:103:1
 returns-3 : tie.Need-returns-3
 unfolding enoughOf
 returns-3 c = simp (ne-eqb _ _ (c .before .if1 .left), ne-eqb _ _ (c .if2 .left))

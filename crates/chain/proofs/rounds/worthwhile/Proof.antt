@@ -7,11 +7,8 @@ use Rattle.chain.proofs.rounds.worthwhile.Tie as tie
 returns : tie.Need-returns
 returns c = λ e. refl
 
-begins-requires : tie.Need-begins-requires
-begins-requires c κs = search needs
-
 returns-2 : tie.Need-returns-2
 returns-2 c = λ e. absurd (c .before .if1 .left e)
 
 pub worthwhile-spec : {M : Type 1} → statement M
-worthwhile-spec = tie.close (tie.spec returns begins-requires returns-2)
+worthwhile-spec = tie.close (tie.spec returns (λ c κs. search needs) returns-2)

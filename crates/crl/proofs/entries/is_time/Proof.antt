@@ -5,15 +5,6 @@ use Rattle.crl.specs.Entries.{isTime}
 use Rattle.crl.proofs.entries.is_time.Statement.{statement}
 use Rattle.crl.proofs.entries.is_time.Tie as tie
 
-time-of-requires : tie.Need-time-of-requires
-time-of-requires c κs = search needs
-
-enum-told : tie.Need-enum-told
-enum-told c = search needs
-
-enum-told-2 : tie.Need-enum-told-2
-enum-told-2 c = search needs
-
 returns : tie.Need-returns
 unfolding isTime
 returns c = rw (sym (c .before .before .time-of .ensures) ∙ c .enum-told .given .1)
@@ -23,4 +14,4 @@ unfolding isTime
 returns-2 c = rw (sym (c .before .before .time-of .ensures) ∙ c .enum-told2 .given .1)
 
 pub is-time-spec : {M : Type 1} → statement M
-is-time-spec = tie.close (tie.spec time-of-requires enum-told enum-told-2 returns returns-2)
+is-time-spec = tie.close (tie.spec (λ c κs. search needs) (λ c. search needs) (λ c. search needs) returns returns-2)

@@ -2,7 +2,7 @@
 use Prim.Native.Nat.{_+_}
 use native.Mathlib.Omega.{arith}
 use Rattle.crl.proofs.Digits.{never}
-use Rattle.crl.proofs.Looks.{left-told}
+use Rattle.crl.proofs.FastEntries.{left-told}
 use borrow.Author.Needs.{needs}
 use Rattle.crl.proofs.entries.opens.Statement.{statement}
 use Rattle.crl.proofs.entries.opens.Tie as tie
@@ -16,48 +16,33 @@ returns-2 c = λ no. never no
 returns-3 : tie.Need-returns-3
 returns-3 c = λ no. never no
 
-shared-slice-read-if4 : tie.Need-shared-slice-read-if4
-shared-slice-read-if4 c = search needs
-
 returns-4 : tie.Need-returns-4
 returns-4 c = λ no. never no
-
-add-if5 : tie.Need-add-if5
-add-if5 c = search needs
-
-shared-slice-read-if5 : tie.Need-shared-slice-read-if5
-shared-slice-read-if5 c = search needs
 
 returns-5 : tie.Need-returns-5
 returns-5 c = λ no. never no
 
-add-size : tie.Need-add-size
-add-size c = search needs
-
-shared-slice-read-size : tie.Need-shared-slice-read-size
-shared-slice-read-size c = search needs
-
 cast-size : tie.Need-cast-size
-cast-size c = omega (arith, c .before .before .before .before .shared-slice-known .given (c .before .before .before .before .before .before .before .before .args .at + 1))
+cast-size c =
+    let back4 = c .before .before .before .before in
+    let back8 = back4 .before .before .before .before in
+    omega (arith, c .before .before .before .before .shared-slice-known .given (back8 .args .at + 1))
 
 returns-6 : tie.Need-returns-6
 returns-6 c = λ no. never no
 
-sub-result : tie.Need-sub-result
-sub-result c = search needs
-
-sub-result-2 : tie.Need-sub-result-2
-sub-result-2 c = search needs
-
 returns-7 : tie.Need-returns-7
-returns-7 c = λ some.
+returns-7 c =
+    let back4 = c .before .before .before .before in
+    let back8 = back4 .before .before .before .before in
+    λ some.
     record {
-      inside = c .before .before .before .before .before .before .before .before .if1 .left;
-      room = omega (arith, c .before .before .before .before .before .before .before .if2 .left, c .before .before .before .before .before .before .if3 .left);
+      inside = back8 .if1 .left;
+      room = omega (arith, back4 .before .before .before .if2 .left, back4 .before .before .if3 .left);
       tag = c .before .before .before .before .if4 .left;
       first = c .before .before .if5 .left;
       brief = c .if6 .left;
-      fits = left-told _ _ _ (omega (arith, c .before .before .before .before .before .before .before .if2 .left, c .before .before .before .before .before .before .if3 .left)) some;
+      fits = left-told _ _ _ (omega (arith, back4 .before .before .before .if2 .left, back4 .before .before .if3 .left)) some;
     }
 
 pub opens-spec : {M : Type 1} → statement M
@@ -67,15 +52,15 @@ opens-spec =
     returns
     returns-2
     returns-3
-    shared-slice-read-if4
+    (λ c. search needs)
     returns-4
-    add-if5
-    shared-slice-read-if5
+    (λ c. search needs)
+    (λ c. search needs)
     returns-5
-    add-size
-    shared-slice-read-size
+    (λ c. search needs)
+    (λ c. search needs)
     cast-size
     returns-6
-    sub-result
-    sub-result-2
+    (λ c. search needs)
+    (λ c. search needs)
     returns-7)

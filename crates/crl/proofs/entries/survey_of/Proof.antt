@@ -23,9 +23,6 @@ abbrev μ-loop : tie.MeasureT-loop
 loop-holds : tie.Need-loop-holds Inv-loop μ-loop
 loop-holds c = (omega (arith, members-few (c .before .args .item .now) (c .before .args .from) (c .before .args .end)), survey-starts _ _ _)
 
-usual-time-requires : tie.Need-usual-time-requires Inv-loop μ-loop
-usual-time-requires c κs = search needs
-
 is-utc-requires : tie.Need-is-utc-requires Inv-loop μ-loop
 is-utc-requires c κs = (c .before .usual-time .ensures (c .if1 .taken)) .room
 
@@ -52,52 +49,34 @@ loop-again c =
           (c .if2 .came)),
     )
 
-element-at-requires : tie.Need-element-at-requires Inv-loop μ-loop
-element-at-requires c κs = search needs
-
-enum-known-e : tie.Need-enum-known-e Inv-loop μ-loop
-enum-known-e c = search needs
-
-enum-told : tie.Need-enum-told Inv-loop μ-loop
-enum-told c = search needs
-
 returns : tie.Need-returns Inv-loop μ-loop
-returns c = sym (c .before .before .before .before .before .loop .inv .1 ∙ survey-done _ _ _ _ _ _ (sym (c .before .before .element-at .ensures) ∙ c .enum-told .given .1))
-
-entry-of-requires : tie.Need-entry-of-requires Inv-loop μ-loop
-entry-of-requires c κs = search needs
-
-enum-told-2 : tie.Need-enum-told-2 Inv-loop μ-loop
-enum-told-2 c = search needs
+returns c =
+    let back4 = c .before .before .before .before in
+    sym (back4 .before .loop .inv .1 ∙ survey-done _ _ _ _ _ _ (sym (c .before .before .element-at .ensures) ∙ c .enum-told .given .1))
 
 returns-2 : tie.Need-returns-2 Inv-loop μ-loop
-returns-2 c = sym (c .before .before .before .before .before .before .before .before .before .loop .inv .1 ∙ survey-bad _ _ _ _ _ _ (sym (c .before .before .before .before .before .before .element-at .ensures) ∙ c .before .before .before .before .e .given .1) (sym (c .before .before .entry-of .ensures) ∙ c .enum-told2 .given .1))
-
-enum-known-time : tie.Need-enum-known-time Inv-loop μ-loop
-enum-known-time c = search needs
-
-is-time-requires : tie.Need-is-time-requires Inv-loop μ-loop
-is-time-requires c κs = search needs
-
-enum-known-time-2 : tie.Need-enum-known-time-2 Inv-loop μ-loop
-enum-known-time-2 c = search needs
-
-is-time-requires-2 : tie.Need-is-time-requires-2 Inv-loop μ-loop
-is-time-requires-2 c κs = search needs
-
-some-critical-requires : tie.Need-some-critical-requires Inv-loop μ-loop
-some-critical-requires c κs = search needs
+returns-2 c =
+    let back4 = c .before .before .before .before in
+    let back8 = back4 .before .before .before .before in
+    sym (back8 .before .loop .inv .1 ∙ survey-bad _ _ _ _ _ _ (sym (back4 .before .before .element-at .ensures) ∙ c .before .before .before .before .e .given .1) (sym (c .before .before .entry-of .ensures) ∙ c .enum-told2 .given .1))
 
 add-count-2 : tie.Need-add-count-2 Inv-loop μ-loop
-add-count-2 c = omega (arith, c .before .before .before .before .before .before .before .before .loop .inv .0, ap length (members-more _ _ _ (sym (c .before .before .before .before .before .element-at .ensures) ∙ c .before .before .before .e .given .1)))
+add-count-2 c =
+    let back4 = c .before .before .before .before in
+    let back8 = back4 .before .before .before .before in
+    omega (arith, back8 .loop .inv .0, ap length (members-more _ _ _ (sym (back4 .before .element-at .ensures) ∙ c .before .before .before .e .given .1)))
 
 loop-less-2 : tie.Need-loop-less-2 Inv-loop μ-loop
-loop-less-2 c = omega (arith, found-within _ _ _ (sym (c .before .before .before .before .before .element-at .ensures) ∙ c .before .before .before .e .given .1))
+loop-less-2 c =
+    let back4 = c .before .before .before .before in
+    omega (arith, found-within _ _ _ (sym (back4 .before .element-at .ensures) ∙ c .before .before .before .e .given .1))
 
 loop-again-2 : tie.Need-loop-again-2 Inv-loop μ-loop
 loop-again-2 c =
-    let was = c .before .before .before .before .before .before .before .before .loop in
-    let found = sym (c .before .before .before .before .before .element-at .ensures) ∙ c .before .before .before .e .given .1 in
+    let back4 = c .before .before .before .before in
+    let back8 = back4 .before .before .before .before in
+    let was = back8 .loop in
+    let found = sym (back4 .before .element-at .ensures) ∙ c .before .before .before .e .given .1 in
     let entry = sym (c .before .entry-of .ensures) in (
       omega (arith, was .inv .0, ap length (members-more _ _ _ found)),
       was .inv .1
@@ -119,24 +98,24 @@ survey-of-spec =
     Inv-loop
     μ-loop
     loop-holds
-    usual-time-requires
+    (λ c κs. search needs)
     is-utc-requires
     add-count
     add-at
     loop-less
     loop-again
-    element-at-requires
-    enum-known-e
-    enum-told
+    (λ c κs. search needs)
+    (λ c. search needs)
+    (λ c. search needs)
     returns
-    entry-of-requires
-    enum-told-2
+    (λ c κs. search needs)
+    (λ c. search needs)
     returns-2
-    enum-known-time
-    is-time-requires
-    enum-known-time-2
-    is-time-requires-2
-    some-critical-requires
+    (λ c. search needs)
+    (λ c κs. search needs)
+    (λ c. search needs)
+    (λ c κs. search needs)
+    (λ c κs. search needs)
     add-count-2
     loop-less-2
     loop-again-2)

@@ -6,37 +6,21 @@ use Rattle.crl.specs.Listed.{lists}
 use Rattle.crl.proofs.listing.has_serial.Statement.{statement}
 use Rattle.crl.proofs.listing.has_serial.Tie as tie
 
-element-tagged-requires : tie.Need-element-tagged-requires
-element-tagged-requires c κs = search needs
-
-enum-known-own : tie.Need-enum-known-own
-enum-known-own c = search needs
-
-enum-told : tie.Need-enum-told
-enum-told c = search needs
-
 returns : tie.Need-returns
 unfolding lists
 returns c = on-missing _ (sym (c .before .before .element-tagged .ensures) ∙ c .enum-told .given .1)
 
-contents-requires : tie.Need-contents-requires
-contents-requires c κs = search needs
-
-same-requires : tie.Need-same-requires
-same-requires c κs = search needs
-
 returns-2 : tie.Need-returns-2
 unfolding lists
-returns-2 c = on-found _ _ (sym (c .before .before .before .before .before .element-tagged .ensures) ∙ c .before .before .before .own .given .1) (c .same .ensures ∙ rw (c .before .contents .ensures))
+returns-2 c = on-found _ _ (sym (c .before .before .before .before .element-tagged .ensures) ∙ c .before .before .own .given .1) (c .holds .ensures)
 
 pub has-serial-spec : {M : Type 1} → statement M
 has-serial-spec =
     tie.close
     (tie.spec
-    element-tagged-requires
-    enum-known-own
-    enum-told
+    (λ c κs. search needs)
+    (λ c. search needs)
+    (λ c. search needs)
     returns
-    contents-requires
-    same-requires
+    (λ c κs. search needs)
     returns-2)

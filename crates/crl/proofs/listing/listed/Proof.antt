@@ -19,35 +19,26 @@ loop-holds : tie.Need-loop-holds Inv-loop μ-loop
 unfolding listedOf
 loop-holds c = refl
 
-first-like-requires : tie.Need-first-like-requires Inv-loop μ-loop
-first-like-requires c κs = search needs
-
-element-at-requires : tie.Need-element-at-requires Inv-loop μ-loop
-element-at-requires c κs = search needs
-
-enum-known-e : tie.Need-enum-known-e Inv-loop μ-loop
-enum-known-e c = search needs
-
-enum-told : tie.Need-enum-told Inv-loop μ-loop
-enum-told c = search needs
-
 returns : tie.Need-returns Inv-loop μ-loop
 unfolding someLists
 returns c = sym (c .before .before .before .before .loop .inv ∙ c .before .before .before .first-like .ensures .none ∙ rw (members-none _ _ _ (sym (c .before .before .element-at .ensures) ∙ c .enum-told .given .1)))
 
-has-serial-requires : tie.Need-has-serial-requires Inv-loop μ-loop
-has-serial-requires c κs = search needs
-
 returns-2 : tie.Need-returns-2 Inv-loop μ-loop
 unfolding someLists
-returns-2 c = sym (c .before .before .before .before .before .before .before .loop .inv ∙ c .before .before .before .before .before .before .first-like .ensures .none ∙ rw (members-more _ _ _ (sym (c .before .before .before .before .before .element-at .ensures) ∙ c .before .before .before .e .given .1), ← c .before .has-serial .ensures, c .if1 .taken))
+returns-2 c =
+    let back4 = c .before .before .before .before in
+    sym (back4 .before .before .before .loop .inv ∙ back4 .before .before .first-like .ensures .none ∙ rw (members-more _ _ _ (sym (back4 .before .element-at .ensures) ∙ c .before .before .before .e .given .1), ← c .before .has-serial .ensures, c .if1 .taken))
 
 loop-less : tie.Need-loop-less Inv-loop μ-loop
-loop-less c = omega (arith, c .before .before .before .before .before .before .first-like .ensures .nearer, found-within _ _ _ (sym (c .before .before .before .before .before .element-at .ensures) ∙ c .before .before .before .e .given .1))
+loop-less c =
+    let back4 = c .before .before .before .before in
+    omega (arith, back4 .before .before .first-like .ensures .nearer, found-within _ _ _ (sym (back4 .before .element-at .ensures) ∙ c .before .before .before .e .given .1))
 
 loop-again : tie.Need-loop-again Inv-loop μ-loop
 unfolding someLists
-loop-again c = c .before .before .before .before .before .before .before .loop .inv ∙ c .before .before .before .before .before .before .first-like .ensures .none ∙ rw (members-more _ _ _ (sym (c .before .before .before .before .before .element-at .ensures) ∙ c .before .before .before .e .given .1), ← c .before .has-serial .ensures, c .if1 .left)
+loop-again c =
+    let back4 = c .before .before .before .before in
+    back4 .before .before .before .loop .inv ∙ back4 .before .before .first-like .ensures .none ∙ rw (members-more _ _ _ (sym (back4 .before .element-at .ensures) ∙ c .before .before .before .e .given .1), ← c .before .has-serial .ensures, c .if1 .left)
 
 pub listed-spec : {M : Type 1} → statement M
 listed-spec =
@@ -56,12 +47,12 @@ listed-spec =
     Inv-loop
     μ-loop
     loop-holds
-    first-like-requires
-    element-at-requires
-    enum-known-e
-    enum-told
+    (λ c κs. search needs)
+    (λ c κs. search needs)
+    (λ c. search needs)
+    (λ c. search needs)
     returns
-    has-serial-requires
+    (λ c κs. search needs)
     returns-2
     loop-less
     loop-again)

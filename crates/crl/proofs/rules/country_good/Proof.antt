@@ -4,12 +4,6 @@ use Rattle.crl.specs.Rules.{twoLetters, rule4}
 use Rattle.crl.proofs.rules.country_good.Statement.{statement}
 use Rattle.crl.proofs.rules.country_good.Tie as tie
 
-enum-told : tie.Need-enum-told
-enum-told c = search needs
-
-enum-told-2 : tie.Need-enum-told-2
-enum-told-2 c = search needs
-
 returns : tie.Need-returns
 unfolding rule4 twoLetters
 returns c = rw (c .enum-told .given .1)
@@ -19,4 +13,4 @@ unfolding rule4 twoLetters
 returns-2 c = rw (c .enum-told2 .given .1)
 
 pub country-good-spec : {M : Type 1} → statement M
-country-good-spec = tie.close (tie.spec enum-told enum-told-2 returns returns-2)
+country-good-spec = tie.close (tie.spec (λ c. search needs) (λ c. search needs) returns returns-2)

@@ -10,42 +10,29 @@ returns : tie.Need-returns
 unfolding rule7
 returns c = rw (sym (c .before .before .pre) ∙ c .if1 .taken)
 
-slice-aggregate-lookup : tie.Need-slice-aggregate-lookup
-slice-aggregate-lookup c = search needs
-
-lookup-requires : tie.Need-lookup-requires
-lookup-requires c κs = search needs
-
-there-requires : tie.Need-there-requires
-there-requires c κs = search needs
-
 returns-2 : tie.Need-returns-2
 unfolding rule7
-returns-2 c = rw (sym (c .before .before .before .before .before .before .before .pre) ∙ c .before .before .before .before .before .if1 .left, ← c .before .before .lookup .ensures, sym (c .before .there .ensures) ∙ not-true _ (c .if2 .taken))
-
-slice-aggregate-lookup-2 : tie.Need-slice-aggregate-lookup-2
-slice-aggregate-lookup-2 c = search needs
-
-lookup-requires-2 : tie.Need-lookup-requires-2
-lookup-requires-2 c κs = search needs
-
-there-requires-2 : tie.Need-there-requires-2
-there-requires-2 c κs = search needs
+returns-2 c =
+    let back4 = c .before .before .before .before in
+    rw (sym (back4 .before .before .before .pre) ∙ back4 .before .if1 .left, ← c .before .before .lookup .ensures, sym (c .before .there .ensures) ∙ not-true _ (c .if2 .taken))
 
 returns-3 : tie.Need-returns-3
 unfolding rule7
-returns-3 c = rw (sym (c .before .before .before .before .before .before .before .before .before .before .pre) ∙ c .before .before .before .before .before .before .before .before .if1 .left, ← c .before .before .before .before .before .lookup .ensures, sym (c .before .before .before .before .there .ensures) ∙ not-false _ (c .before .before .before .if2 .left), ← c .before .lookup2 .ensures) (c .there2 .ensures)
+returns-3 c =
+    let back4 = c .before .before .before .before in
+    let back8 = back4 .before .before .before .before in
+    rw (sym (back8 .before .before .pre) ∙ back8 .if1 .left, ← back4 .before .lookup .ensures, sym (c .before .before .before .before .there .ensures) ∙ not-false _ (c .before .before .before .if2 .left), ← c .before .lookup2 .ensures) (c .there2 .ensures)
 
 pub extensions-good-spec : {M : Type 1} → statement M
 extensions-good-spec =
     tie.close
     (tie.spec
     returns
-    slice-aggregate-lookup
-    lookup-requires
-    there-requires
+    (λ c. search needs)
+    (λ c κs. search needs)
+    (λ c κs. search needs)
     returns-2
-    slice-aggregate-lookup-2
-    lookup-requires-2
-    there-requires-2
+    (λ c. search needs)
+    (λ c κs. search needs)
+    (λ c κs. search needs)
     returns-3)

@@ -1,85 +1,86 @@
--- The rules are tried in their order.
+-- The rules are tried in their order, so the first that is broken is told.
 use mathlib.Core.Path.{sym, _∙_}
 use borrow.Author.Tests.{not-true, not-false}
 use borrow.Author.Needs.{needs}
-use Rattle.crl.specs.Rules.{rules2to8}
-use Rattle.crl.proofs.Chains.{broken-here, broken-later, broken-none}
+use Rattle.refusal.proofs.Order.{broken-here, broken-later, none-broken}
+use Rattle.crl.specs.Rules.{rule2, rule3, rules2to8}
 use Rattle.crl.proofs.rules.rules_2_to_8.Statement.{statement}
 use Rattle.crl.proofs.rules.rules_2_to_8.Tie as tie
 
-version-good-requires : tie.Need-version-good-requires
-version-good-requires c κs = search needs
-
 returns : tie.Need-returns
-unfolding rules2to8
-returns c = broken-here _ _ (sym (c .before .version-good .ensures) ∙ not-true _ (c .if1 .taken))
-
-algorithms-same-requires : tie.Need-algorithms-same-requires
-algorithms-same-requires c κs = search needs
+unfolding rules2to8 rule2 rule3
+returns c = sym (broken-here _ _ (sym (c .before .holds .ensures) ∙ not-true _ (c .if1 .taken)))
 
 returns-2 : tie.Need-returns-2
-unfolding rules2to8
-returns-2 c = broken-later _ _ (sym (c .before .before .before .version-good .ensures) ∙ not-false _ (c .before .before .if1 .left)) (broken-here _ _ (sym (c .before .algorithms-same .ensures) ∙ not-true _ (c .if2 .taken)))
-
-country-good-requires : tie.Need-country-good-requires
-country-good-requires c κs = search needs
+unfolding rules2to8 rule2 rule3
+returns-2 c =
+    let back4 = c .before .before .before .before in
+    sym (broken-later _ _ (sym (back4 .before .holds .ensures) ∙ not-false _ (c .before .before .before .before .if1 .left)) ∙ broken-here _ _ (sym (c .before .twins .ensures) ∙ not-true _ (c .if2 .taken)))
 
 returns-3 : tie.Need-returns-3
-unfolding rules2to8
-returns-3 c = broken-later _ _ (sym (c .before .before .before .before .before .version-good .ensures) ∙ not-false _ (c .before .before .before .before .if1 .left)) (broken-later _ _ (sym (c .before .before .before .algorithms-same .ensures) ∙ not-false _ (c .before .before .if2 .left)) (broken-here _ _ (sym (c .before .country-good .ensures) ∙ not-true _ (c .if3 .taken))))
-
-times-good-requires : tie.Need-times-good-requires
-times-good-requires c κs = search needs
+unfolding rules2to8 rule2 rule3
+returns-3 c =
+    let back4 = c .before .before .before .before in
+    sym (broken-later _ _ (sym (back4 .before .before .before .holds .ensures) ∙ not-false _ (back4 .before .before .if1 .left)) ∙ broken-later _ _ (sym (c .before .before .before .twins .ensures) ∙ not-false _ (c .before .before .if2 .left)) ∙ broken-here _ _ (sym (c .before .country-good .ensures) ∙ not-true _ (c .if3 .taken)))
 
 returns-4 : tie.Need-returns-4
-unfolding rules2to8
-returns-4 c = broken-later _ _ (sym (c .before .before .before .before .before .before .before .version-good .ensures) ∙ not-false _ (c .before .before .before .before .before .before .if1 .left)) (broken-later _ _ (sym (c .before .before .before .before .before .algorithms-same .ensures) ∙ not-false _ (c .before .before .before .before .if2 .left)) (broken-later _ _ (sym (c .before .before .before .country-good .ensures) ∙ not-false _ (c .before .before .if3 .left)) (broken-here _ _ (sym (c .before .times-good .ensures) ∙ not-true _ (c .if4 .taken)))))
-
-list-filled-requires : tie.Need-list-filled-requires
-list-filled-requires c κs = search needs
+unfolding rules2to8 rule2 rule3
+returns-4 c =
+    let back4 = c .before .before .before .before in
+    let back8 = back4 .before .before .before .before in
+    sym (broken-later _ _ (sym (back8 .before .holds .ensures) ∙ not-false _ (back8 .if1 .left)) ∙ broken-later _ _ (sym (back4 .before .twins .ensures) ∙ not-false _ (c .before .before .before .before .if2 .left)) ∙ broken-later _ _ (sym (c .before .before .before .country-good .ensures) ∙ not-false _ (c .before .before .if3 .left)) ∙ broken-here _ _ (sym (c .before .times-good .ensures) ∙ not-true _ (c .if4 .taken)))
 
 returns-5 : tie.Need-returns-5
-unfolding rules2to8
-returns-5 c = broken-later _ _ (sym (c .before .before .before .before .before .before .before .before .before .version-good .ensures) ∙ not-false _ (c .before .before .before .before .before .before .before .before .if1 .left)) (broken-later _ _ (sym (c .before .before .before .before .before .before .before .algorithms-same .ensures) ∙ not-false _ (c .before .before .before .before .before .before .if2 .left)) (broken-later _ _ (sym (c .before .before .before .before .before .country-good .ensures) ∙ not-false _ (c .before .before .before .before .if3 .left)) (broken-later _ _ (sym (c .before .before .before .times-good .ensures) ∙ not-false _ (c .before .before .if4 .left)) (broken-here _ _ (sym (c .before .list-filled .ensures) ∙ not-true _ (c .if5 .taken))))))
-
-one-pass-requires : tie.Need-one-pass-requires
-one-pass-requires c κs = search needs
-
-extensions-good-requires : tie.Need-extensions-good-requires
-extensions-good-requires c κs = search needs
+unfolding rules2to8 rule2 rule3
+returns-5 c =
+    let back4 = c .before .before .before .before in
+    let back8 = back4 .before .before .before .before in
+    sym (broken-later _ _ (sym (back8 .before .before .before .holds .ensures) ∙ not-false _ (back8 .before .before .if1 .left)) ∙ broken-later _ _ (sym (back4 .before .before .before .twins .ensures) ∙ not-false _ (back4 .before .before .if2 .left)) ∙ broken-later _ _ (sym (back4 .before .country-good .ensures) ∙ not-false _ (c .before .before .before .before .if3 .left)) ∙ broken-later _ _ (sym (c .before .before .before .times-good .ensures) ∙ not-false _ (c .before .before .if4 .left)) ∙ broken-here _ _ (sym (c .before .list-filled .ensures) ∙ not-true _ (c .if5 .taken)))
 
 returns-6 : tie.Need-returns-6
-unfolding rules2to8
-returns-6 c = broken-later _ _ (sym (c .before .before .before .before .before .before .before .before .before .before .before .before .before .version-good .ensures) ∙ not-false _ (c .before .before .before .before .before .before .before .before .before .before .before .before .if1 .left)) (broken-later _ _ (sym (c .before .before .before .before .before .before .before .before .before .before .before .algorithms-same .ensures) ∙ not-false _ (c .before .before .before .before .before .before .before .before .before .before .if2 .left)) (broken-later _ _ (sym (c .before .before .before .before .before .before .before .before .before .country-good .ensures) ∙ not-false _ (c .before .before .before .before .before .before .before .before .if3 .left)) (broken-later _ _ (sym (c .before .before .before .before .before .before .before .times-good .ensures) ∙ not-false _ (c .before .before .before .before .before .before .if4 .left)) (broken-later _ _ (sym (c .before .before .before .before .before .list-filled .ensures) ∙ not-false _ (c .before .before .before .before .if5 .left)) (broken-here _ _ (sym (c .before .extensions-good .ensures) ∙ not-true _ (c .if6 .taken)))))))
-
-nothing-critical-requires : tie.Need-nothing-critical-requires
-nothing-critical-requires c κs = search needs
+unfolding rules2to8 rule2 rule3
+returns-6 c =
+    let back4 = c .before .before .before .before in
+    let back8 = back4 .before .before .before .before in
+    let back12 = back8 .before .before .before .before in
+    sym (broken-later _ _ (sym (back12 .before .before .before .holds .ensures) ∙ not-false _ (back12 .before .before .if1 .left)) ∙ broken-later _ _ (sym (back8 .before .before .before .twins .ensures) ∙ not-false _ (back8 .before .before .if2 .left)) ∙ broken-later _ _ (sym (back8 .before .country-good .ensures) ∙ not-false _ (back8 .if3 .left)) ∙ broken-later _ _ (sym (back4 .before .before .before .times-good .ensures) ∙ not-false _ (back4 .before .before .if4 .left)) ∙ broken-later _ _ (sym (back4 .before .list-filled .ensures) ∙ not-false _ (c .before .before .before .before .if5 .left)) ∙ broken-here _ _ (sym (c .before .extensions-good .ensures) ∙ not-true _ (c .if6 .taken)))
 
 returns-7 : tie.Need-returns-7
-unfolding rules2to8
-returns-7 c = broken-later _ _ (sym (c .before .before .before .before .before .before .before .before .before .before .before .before .before .before .before .version-good .ensures) ∙ not-false _ (c .before .before .before .before .before .before .before .before .before .before .before .before .before .before .if1 .left)) (broken-later _ _ (sym (c .before .before .before .before .before .before .before .before .before .before .before .before .before .algorithms-same .ensures) ∙ not-false _ (c .before .before .before .before .before .before .before .before .before .before .before .before .if2 .left)) (broken-later _ _ (sym (c .before .before .before .before .before .before .before .before .before .before .before .country-good .ensures) ∙ not-false _ (c .before .before .before .before .before .before .before .before .before .before .if3 .left)) (broken-later _ _ (sym (c .before .before .before .before .before .before .before .before .before .times-good .ensures) ∙ not-false _ (c .before .before .before .before .before .before .before .before .if4 .left)) (broken-later _ _ (sym (c .before .before .before .before .before .before .before .list-filled .ensures) ∙ not-false _ (c .before .before .before .before .before .before .if5 .left)) (broken-later _ _ (sym (c .before .before .before .extensions-good .ensures) ∙ not-false _ (c .before .before .if6 .left)) (broken-here _ _ (sym (c .before .nothing-critical .ensures _ (c .before .before .before .before .one-pass .ensures .marked)) ∙ not-true _ (c .if7 .taken))))))))
+unfolding rules2to8 rule2 rule3
+returns-7 c =
+    let back4 = c .before .before .before .before in
+    let back8 = back4 .before .before .before .before in
+    let back12 = back8 .before .before .before .before in
+    let back16 = back12 .before .before .before .before in
+    sym (broken-later _ _ (sym (back16 .before .holds .ensures) ∙ not-false _ (back16 .if1 .left)) ∙ broken-later _ _ (sym (back12 .before .twins .ensures) ∙ not-false _ (back12 .if2 .left)) ∙ broken-later _ _ (sym (back8 .before .before .before .country-good .ensures) ∙ not-false _ (back8 .before .before .if3 .left)) ∙ broken-later _ _ (sym (back8 .before .times-good .ensures) ∙ not-false _ (back8 .if4 .left)) ∙ broken-later _ _ (sym (back4 .before .before .before .list-filled .ensures) ∙ not-false _ (back4 .before .before .if5 .left)) ∙ broken-later _ _ (sym (c .before .before .before .extensions-good .ensures) ∙ not-false _ (c .before .before .if6 .left)) ∙ broken-here _ _ (sym (c .before .nothing-critical .ensures _ (c .before .before .before .before .one-pass .ensures .marked)) ∙ not-true _ (c .if7 .taken)))
 
 returns-8 : tie.Need-returns-8
-unfolding rules2to8
-returns-8 c = broken-later _ _ (sym (c .before .before .before .before .before .before .before .before .before .before .before .before .before .before .before .version-good .ensures) ∙ not-false _ (c .before .before .before .before .before .before .before .before .before .before .before .before .before .before .if1 .left)) (broken-later _ _ (sym (c .before .before .before .before .before .before .before .before .before .before .before .before .before .algorithms-same .ensures) ∙ not-false _ (c .before .before .before .before .before .before .before .before .before .before .before .before .if2 .left)) (broken-later _ _ (sym (c .before .before .before .before .before .before .before .before .before .before .before .country-good .ensures) ∙ not-false _ (c .before .before .before .before .before .before .before .before .before .before .if3 .left)) (broken-later _ _ (sym (c .before .before .before .before .before .before .before .before .before .times-good .ensures) ∙ not-false _ (c .before .before .before .before .before .before .before .before .if4 .left)) (broken-later _ _ (sym (c .before .before .before .before .before .before .before .list-filled .ensures) ∙ not-false _ (c .before .before .before .before .before .before .if5 .left)) (broken-later _ _ (sym (c .before .before .before .extensions-good .ensures) ∙ not-false _ (c .before .before .if6 .left)) (broken-later _ _ (sym (c .before .nothing-critical .ensures _ (c .before .before .before .before .one-pass .ensures .marked)) ∙ not-false _ (c .if7 .left)) (broken-none _)))))))
+unfolding rules2to8 rule2 rule3
+returns-8 c =
+    let back4 = c .before .before .before .before in
+    let back8 = back4 .before .before .before .before in
+    let back12 = back8 .before .before .before .before in
+    let back16 = back12 .before .before .before .before in
+    sym (broken-later _ _ (sym (back16 .before .holds .ensures) ∙ not-false _ (back16 .if1 .left)) ∙ broken-later _ _ (sym (back12 .before .twins .ensures) ∙ not-false _ (back12 .if2 .left)) ∙ broken-later _ _ (sym (back8 .before .before .before .country-good .ensures) ∙ not-false _ (back8 .before .before .if3 .left)) ∙ broken-later _ _ (sym (back8 .before .times-good .ensures) ∙ not-false _ (back8 .if4 .left)) ∙ broken-later _ _ (sym (back4 .before .before .before .list-filled .ensures) ∙ not-false _ (back4 .before .before .if5 .left)) ∙ broken-later _ _ (sym (c .before .before .before .extensions-good .ensures) ∙ not-false _ (c .before .before .if6 .left)) ∙ broken-later _ _ (sym (c .before .nothing-critical .ensures _ (c .before .before .before .before .one-pass .ensures .marked)) ∙ not-false _ (c .if7 .left)) ∙ none-broken _)
 
 pub rules-2-to-8-spec : {M : Type 1} → statement M
 rules-2-to-8-spec =
     tie.close
     (tie.spec
-    version-good-requires
+    (λ c. search needs)
+    (λ c κs. search needs)
     returns
-    algorithms-same-requires
+    (λ c κs. search needs)
     returns-2
-    country-good-requires
+    (λ c κs. search needs)
     returns-3
-    times-good-requires
+    (λ c κs. search needs)
     returns-4
-    list-filled-requires
+    (λ c κs. search needs)
     returns-5
-    one-pass-requires
-    extensions-good-requires
+    (λ c κs. search needs)
+    (λ c κs. search needs)
     returns-6
-    nothing-critical-requires
+    (λ c κs. search needs)
     returns-7
     returns-8)

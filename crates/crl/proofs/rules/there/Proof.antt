@@ -4,12 +4,6 @@ use Rattle.extensions.specs.Extensions.{present}
 use Rattle.crl.proofs.rules.there.Statement.{statement}
 use Rattle.crl.proofs.rules.there.Tie as tie
 
-enum-told : tie.Need-enum-told
-enum-told c = search needs
-
-enum-told-2 : tie.Need-enum-told-2
-enum-told-2 c = search needs
-
 returns : tie.Need-returns
 unfolding present
 returns c = rw (c .enum-told .given .1)
@@ -19,4 +13,4 @@ unfolding present
 returns-2 c = rw (c .enum-told2 .given .1)
 
 pub there-spec : {M : Type 1} → statement M
-there-spec = tie.close (tie.spec enum-told enum-told-2 returns returns-2)
+there-spec = tie.close (tie.spec (λ c. search needs) (λ c. search needs) returns returns-2)

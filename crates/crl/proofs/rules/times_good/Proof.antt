@@ -6,9 +6,6 @@ use Rattle.crl.specs.Rules.{rule5}
 use Rattle.crl.proofs.rules.times_good.Statement.{statement}
 use Rattle.crl.proofs.rules.times_good.Tie as tie
 
-in-order-requires : tie.Need-in-order-requires
-in-order-requires c κs = search needs
-
 returns : tie.Need-returns
 unfolding rule5
 returns c = rw (sym (c .before .in-order .ensures) ∙ not-true _ (c .if1 .taken))
@@ -18,4 +15,4 @@ unfolding rule5
 returns-2 c = rw (sym (c .before .in-order .ensures) ∙ not-false _ (c .if1 .left))
 
 pub times-good-spec : {M : Type 1} → statement M
-times-good-spec = tie.close (tie.spec in-order-requires returns returns-2)
+times-good-spec = tie.close (tie.spec (λ c κs. search needs) returns returns-2)

@@ -6,97 +6,71 @@ use Rattle.crl.specs.Shape.{frontOf}
 use Rattle.crl.proofs.shapes.front_of.Statement.{statement}
 use Rattle.crl.proofs.shapes.front_of.Tie as tie
 
-element-tagged-requires : tie.Need-element-tagged-requires
-element-tagged-requires c κs = search needs
-
-enum-known-version : tie.Need-enum-known-version
-enum-known-version c = search needs
-
-enum-told : tie.Need-enum-told
-enum-told c = search needs
-
 returns : tie.Need-returns
 unfolding frontOf
 returns c = on-missing _ (sym (c .before .before .element-tagged .ensures) ∙ c .enum-told .given .1)
 
-element-tagged-requires-2 : tie.Need-element-tagged-requires-2
-element-tagged-requires-2 c κs = search needs
-
-enum-known-inner : tie.Need-enum-known-inner
-enum-known-inner c = search needs
-
-enum-told-2 : tie.Need-enum-told-2
-enum-told-2 c = search needs
-
 returns-2 : tie.Need-returns-2
 unfolding frontOf
-returns-2 c = on-found _ _ (sym (c .before .before .before .before .before .before .element-tagged .ensures) ∙ c .before .before .before .before .version .given .1) (on-missing _ (sym (c .before .before .element-tagged2 .ensures) ∙ c .enum-told2 .given .1))
-
-element-tagged-requires-3 : tie.Need-element-tagged-requires-3
-element-tagged-requires-3 c κs = search needs
-
-enum-known-issuer : tie.Need-enum-known-issuer
-enum-known-issuer c = search needs
-
-enum-told-3 : tie.Need-enum-told-3
-enum-told-3 c = search needs
+returns-2 c =
+    let back4 = c .before .before .before .before in
+    on-found _ _ (sym (back4 .before .before .element-tagged .ensures) ∙ c .before .before .before .before .version .given .1) (on-missing _ (sym (c .before .before .element-tagged2 .ensures) ∙ c .enum-told2 .given .1))
 
 returns-3 : tie.Need-returns-3
 unfolding frontOf
-returns-3 c = on-found _ _ (sym (c .before .before .before .before .before .before .before .before .before .before .element-tagged .ensures) ∙ c .before .before .before .before .before .before .before .before .version .given .1) (on-found _ _ (sym (c .before .before .before .before .before .before .element-tagged2 .ensures) ∙ c .before .before .before .before .inner .given .1) (on-missing _ (sym (c .before .before .element-tagged3 .ensures) ∙ c .enum-told3 .given .1)))
-
-time-at-requires : tie.Need-time-at-requires
-time-at-requires c κs = search needs
-
-enum-known-current : tie.Need-enum-known-current
-enum-known-current c = search needs
-
-enum-told-4 : tie.Need-enum-told-4
-enum-told-4 c = search needs
+returns-3 c =
+    let back4 = c .before .before .before .before in
+    let back8 = back4 .before .before .before .before in
+    on-found _ _ (sym (back8 .before .before .element-tagged .ensures) ∙ back8 .version .given .1) (on-found _ _ (sym (back4 .before .before .element-tagged2 .ensures) ∙ c .before .before .before .before .inner .given .1) (on-missing _ (sym (c .before .before .element-tagged3 .ensures) ∙ c .enum-told3 .given .1)))
 
 returns-4 : tie.Need-returns-4
 unfolding frontOf
-returns-4 c = on-found _ _ (sym (c .before .before .before .before .before .before .before .before .before .before .before .before .before .before .element-tagged .ensures) ∙ c .before .before .before .before .before .before .before .before .before .before .before .before .version .given .1) (on-found _ _ (sym (c .before .before .before .before .before .before .before .before .before .before .element-tagged2 .ensures) ∙ c .before .before .before .before .before .before .before .before .inner .given .1) (on-found _ _ (sym (c .before .before .before .before .before .before .element-tagged3 .ensures) ∙ c .before .before .before .before .issuer .given .1) (on-missing _ (sym (c .before .before .time-at .ensures) ∙ c .enum-told4 .given .1))))
-
-time-at-requires-2 : tie.Need-time-at-requires-2
-time-at-requires-2 c κs = search needs
-
-enum-known-coming : tie.Need-enum-known-coming
-enum-known-coming c = search needs
-
-enum-told-5 : tie.Need-enum-told-5
-enum-told-5 c = search needs
+returns-4 c =
+    let back4 = c .before .before .before .before in
+    let back8 = back4 .before .before .before .before in
+    let back12 = back8 .before .before .before .before in
+    on-found _ _ (sym (back12 .before .before .element-tagged .ensures) ∙ back12 .version .given .1) (on-found _ _ (sym (back8 .before .before .element-tagged2 .ensures) ∙ back8 .inner .given .1) (on-found _ _ (sym (back4 .before .before .element-tagged3 .ensures) ∙ c .before .before .before .before .issuer .given .1) (on-missing _ (sym (c .before .before .time-at .ensures) ∙ c .enum-told4 .given .1))))
 
 returns-5 : tie.Need-returns-5
 unfolding frontOf
-returns-5 c = on-found _ _ (sym (c .before .before .before .before .before .before .before .before .before .before .before .before .before .before .before .before .before .before .element-tagged .ensures) ∙ c .before .before .before .before .before .before .before .before .before .before .before .before .before .before .before .before .version .given .1) (on-found _ _ (sym (c .before .before .before .before .before .before .before .before .before .before .before .before .before .before .element-tagged2 .ensures) ∙ c .before .before .before .before .before .before .before .before .before .before .before .before .inner .given .1) (on-found _ _ (sym (c .before .before .before .before .before .before .before .before .before .before .element-tagged3 .ensures) ∙ c .before .before .before .before .before .before .before .before .issuer .given .1) (on-found _ _ (sym (c .before .before .before .before .before .before .time-at .ensures) ∙ c .before .before .before .before .current .given .1) (on-missing _ (sym (c .before .before .time-at2 .ensures) ∙ c .enum-told5 .given .1)))))
+returns-5 c =
+    let back4 = c .before .before .before .before in
+    let back8 = back4 .before .before .before .before in
+    let back12 = back8 .before .before .before .before in
+    let back16 = back12 .before .before .before .before in
+    on-found _ _ (sym (back16 .before .before .element-tagged .ensures) ∙ back16 .version .given .1) (on-found _ _ (sym (back12 .before .before .element-tagged2 .ensures) ∙ back12 .inner .given .1) (on-found _ _ (sym (back8 .before .before .element-tagged3 .ensures) ∙ back8 .issuer .given .1) (on-found _ _ (sym (back4 .before .before .time-at .ensures) ∙ c .before .before .before .before .current .given .1) (on-missing _ (sym (c .before .before .time-at2 .ensures) ∙ c .enum-told5 .given .1)))))
 
 returns-6 : tie.Need-returns-6
 unfolding frontOf
-returns-6 c = on-found _ _ (sym (c .before .before .before .before .before .before .before .before .before .before .before .before .before .before .before .before .before .before .before .element-tagged .ensures) ∙ c .before .before .before .before .before .before .before .before .before .before .before .before .before .before .before .before .before .version .given .1) (on-found _ _ (sym (c .before .before .before .before .before .before .before .before .before .before .before .before .before .before .before .element-tagged2 .ensures) ∙ c .before .before .before .before .before .before .before .before .before .before .before .before .before .inner .given .1) (on-found _ _ (sym (c .before .before .before .before .before .before .before .before .before .before .before .element-tagged3 .ensures) ∙ c .before .before .before .before .before .before .before .before .before .issuer .given .1) (on-found _ _ (sym (c .before .before .before .before .before .before .before .time-at .ensures) ∙ c .before .before .before .before .before .current .given .1) (on-found _ _ (sym (c .before .before .before .time-at2 .ensures) ∙ c .before .coming .given .1) (refl)))))
+returns-6 c =
+    let back4 = c .before .before .before .before in
+    let back8 = back4 .before .before .before .before in
+    let back12 = back8 .before .before .before .before in
+    let back16 = back12 .before .before .before .before in
+    on-found _ _ (sym (back16 .before .before .before .element-tagged .ensures) ∙ back16 .before .version .given .1) (on-found _ _ (sym (back12 .before .before .before .element-tagged2 .ensures) ∙ back12 .before .inner .given .1) (on-found _ _ (sym (back8 .before .before .before .element-tagged3 .ensures) ∙ back8 .before .issuer .given .1) (on-found _ _ (sym (back4 .before .before .before .time-at .ensures) ∙ back4 .before .current .given .1) (on-found _ _ (sym (c .before .before .before .time-at2 .ensures) ∙ c .before .coming .given .1) (refl)))))
 
 pub front-of-spec : {M : Type 1} → statement M
 front-of-spec =
     tie.close
     (tie.spec
-    element-tagged-requires
-    enum-known-version
-    enum-told
+    (λ c κs. search needs)
+    (λ c. search needs)
+    (λ c. search needs)
     returns
-    element-tagged-requires-2
-    enum-known-inner
-    enum-told-2
+    (λ c κs. search needs)
+    (λ c. search needs)
+    (λ c. search needs)
     returns-2
-    element-tagged-requires-3
-    enum-known-issuer
-    enum-told-3
+    (λ c κs. search needs)
+    (λ c. search needs)
+    (λ c. search needs)
     returns-3
-    time-at-requires
-    enum-known-current
-    enum-told-4
+    (λ c κs. search needs)
+    (λ c. search needs)
+    (λ c. search needs)
     returns-4
-    time-at-requires-2
-    enum-known-coming
-    enum-told-5
+    (λ c κs. search needs)
+    (λ c. search needs)
+    (λ c. search needs)
     returns-5
     returns-6)

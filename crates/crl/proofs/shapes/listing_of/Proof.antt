@@ -4,12 +4,6 @@ use Rattle.crl.specs.Shape.{listingOf}
 use Rattle.crl.proofs.shapes.listing_of.Statement.{statement}
 use Rattle.crl.proofs.shapes.listing_of.Tie as tie
 
-enum-told : tie.Need-enum-told
-enum-told c = search needs
-
-enum-known-found : tie.Need-enum-known-found
-enum-known-found c = search needs
-
 returns : tie.Need-returns
 unfolding listingOf
 returns c = rw (c .enum-told .given .1)
@@ -19,4 +13,4 @@ unfolding listingOf
 returns-2 c = rw (c .before .found .given .1)
 
 pub listing-of-spec : {M : Type 1} → statement M
-listing-of-spec = tie.close (tie.spec enum-told enum-known-found returns returns-2)
+listing-of-spec = tie.close (tie.spec (λ c. search needs) (λ c. search needs) returns returns-2)

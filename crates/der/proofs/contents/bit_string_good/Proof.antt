@@ -17,9 +17,6 @@ returns : tie.Need-returns
 unfolding bitStringGood
 returns c = simp (eq-eqb _ _ (c .if1 .taken))
 
-shared-slice-read-unused : tie.Need-shared-slice-read-unused
-shared-slice-read-unused c = search needs
-
 returns-2 : tie.Need-returns-2
 unfolding bitStringGood
 returns-2 c = simp (ne-eqb _ _ (c .before .before .if1 .left), lt-ltb _ _ (c .if2 .taken))
@@ -32,15 +29,6 @@ returns-3 c =
       le-ltb _ _ (c .before .if2 .left),
       eq-eqb _ _ (c .if3 .taken),
     )
-
-sub-result : tie.Need-sub-result
-sub-result c = search needs
-
-shared-slice-read-result : tie.Need-shared-slice-read-result
-shared-slice-read-result c = search needs
-
-shl-result : tie.Need-shl-result
-shl-result c = search needs
 
 rem-result : tie.Need-rem-result
 rem-result c = rw (shifted _ (c .before .before .if2 .left)) (pow-pos _)
@@ -60,11 +48,11 @@ bit-string-good-spec =
     tie.close
     (tie.spec
     returns
-    shared-slice-read-unused
+    (λ c. search needs)
     returns-2
     returns-3
-    sub-result
-    shared-slice-read-result
-    shl-result
+    (λ c. search needs)
+    (λ c. search needs)
+    (λ c. search needs)
     rem-result
     returns-4)

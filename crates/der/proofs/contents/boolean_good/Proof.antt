@@ -9,15 +9,9 @@ returns : tie.Need-returns
 unfolding booleanGood
 returns c = simp (ne-eqb _ _ (c .if1 .taken))
 
-shared-slice-read-if2 : tie.Need-shared-slice-read-if2
-shared-slice-read-if2 c = search needs
-
 returns-2 : tie.Need-returns-2
 unfolding booleanGood
 returns-2 c = simp (eq-eqb _ _ (c .before .before .if1 .left), eq-eqb _ _ (c .if2 .taken))
-
-shared-slice-read-result : tie.Need-shared-slice-read-result
-shared-slice-read-result c = search needs
 
 returns-3 : tie.Need-returns-3
 unfolding booleanGood
@@ -25,4 +19,4 @@ returns-3 c = simp (eq-eqb _ _ (c .before .before .before .if1 .left), ne-eqb _ 
 
 pub boolean-good-spec : {M : Type 1} → statement M
 boolean-good-spec =
-    tie.close (tie.spec returns shared-slice-read-if2 returns-2 shared-slice-read-result returns-3)
+    tie.close (tie.spec returns (λ c. search needs) returns-2 (λ c. search needs) returns-3)

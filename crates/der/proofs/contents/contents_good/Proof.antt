@@ -5,18 +5,6 @@ use Rattle.der.specs.Contents.{contentsGood}
 use Rattle.der.proofs.contents.contents_good.Statement.{statement}
 use Rattle.der.proofs.contents.contents_good.Tie as tie
 
-boolean-good-requires : tie.Need-boolean-good-requires
-boolean-good-requires c κs = search needs
-
-integer-good-requires : tie.Need-integer-good-requires
-integer-good-requires c κs = search needs
-
-bit-string-good-requires : tie.Need-bit-string-good-requires
-bit-string-good-requires c κs = search needs
-
-oid-good-requires : tie.Need-oid-good-requires
-oid-good-requires c κs = search needs
-
 returns : tie.Need-returns
 unfolding contentsGood
 returns c = rw (c .before .match .keys1) (c .boolean-good .ensures)
@@ -53,10 +41,10 @@ pub contents-good-spec : {M : Type 1} → statement M
 contents-good-spec =
     tie.close
     (tie.spec
-    boolean-good-requires
-    integer-good-requires
-    bit-string-good-requires
-    oid-good-requires
+    (λ c κs. search needs)
+    (λ c κs. search needs)
+    (λ c κs. search needs)
+    (λ c κs. search needs)
     returns
     returns-2
     returns-3

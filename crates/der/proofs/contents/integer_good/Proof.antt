@@ -47,26 +47,19 @@ module _ (c : List ℕ) (two : 2 ≤ length c) where
 returns : tie.Need-returns
 returns c = short (c .before .args .c .now) (c .if1 .taken)
 
-shared-slice-read-first : tie.Need-shared-slice-read-first
-shared-slice-read-first c = search needs
-
 returns-2 : tie.Need-returns-2
 returns-2 c = middle (c .before .before .before .before .args .c .now) (c .before .before .before .if1 .left) (c .before .if2 .taken) (c .if3 .taken)
 
-shared-slice-read-result : tie.Need-shared-slice-read-result
-shared-slice-read-result c = search needs
-
 returns-3 : tie.Need-returns-3
 returns-3 c =
-    zeros (c .before .before .before .before .before .args .c .now) (c .before .before .before .before .if1 .left)
+    let back4 = c .before .before .before .before in
+    zeros (back4 .before .args .c .now) (c .before .before .before .before .if1 .left)
     (⊎-elim (λ w. absurd (omega (arith, w .1 .left, c .before .if4 .taken))) (λ w. omega (arith, w .left)) (c .before .before .if2 .came))
-
-shared-slice-read-result-2 : tie.Need-shared-slice-read-result-2
-shared-slice-read-result-2 c = search needs
 
 returns-4 : tie.Need-returns-4
 returns-4 c =
-    ones (c .before .before .before .before .before .args .c .now) (c .before .before .before .before .if1 .left)
+    let back4 = c .before .before .before .before in
+    ones (back4 .before .args .c .now) (c .before .before .before .before .if1 .left)
     (⊎-elim (λ w. omega (arith, w .1 .left, c .before .before .before .shared-slice-known .given 0)) (λ w. absurd (omega (arith, w .left, c .before .if4 .left))) (c .before .before .if2 .came))
 
 pub integer-good-spec : {M : Type 1} → statement M
@@ -74,9 +67,9 @@ integer-good-spec =
     tie.close
     (tie.spec
     returns
-    shared-slice-read-first
+    (λ c. search needs)
     returns-2
-    shared-slice-read-result
+    (λ c. search needs)
     returns-3
-    shared-slice-read-result-2
+    (λ c. search needs)
     returns-4)

@@ -36,9 +36,6 @@ returns : tie.Need-returns Inv-loop μ-loop
 unfolding oidGood
 returns c = simp (eq-eqb _ _ (c .if1 .taken))
 
-three-low-requires : tie.Need-three-low-requires Inv-loop μ-loop
-three-low-requires c κs = search needs
-
 returns-2 : tie.Need-returns-2 Inv-loop μ-loop
 returns-2 c = sym (c .before .three-low .ensures (c .if2 .taken))
 
@@ -48,11 +45,13 @@ shared-slice-read-if3 c = omega arith
 returns-3 : tie.Need-returns-3 Inv-loop μ-loop
 unfolding oidGood
 returns-3 c =
-    simp (ne-eqb _ _ (c .before .before .before .before .if1 .left)) (sym (stopped (c .before .before .before .before .before .before .args .c .now) 0 true (omega arith) (eq-eqb _ _ (c .if3 .taken))))
+    let back4 = c .before .before .before .before in
+    simp (ne-eqb _ _ (c .before .before .before .before .if1 .left)) (sym (stopped (back4 .before .before .args .c .now) 0 true (omega arith) (eq-eqb _ _ (c .if3 .taken))))
 
 loop-holds : tie.Need-loop-holds Inv-loop μ-loop
 loop-holds c =
-    (omega arith, omega arith, further (c .before .before .before .before .before .before .args .c .now) 0 true (omega arith) (ne-eqb _ _ (c .if3 .left)))
+    let back4 = c .before .before .before .before in
+    (omega arith, omega arith, further (back4 .before .before .args .c .now) 0 true (omega arith) (ne-eqb _ _ (c .if3 .left)))
 
 shared-slice-read-if4 : tie.Need-shared-slice-read-if4 Inv-loop μ-loop
 shared-slice-read-if4 c = omega arith
@@ -66,11 +65,14 @@ shared-slice-read-if5 c = omega arith
 returns-4 : tie.Need-returns-4 Inv-loop μ-loop
 unfolding oidGood
 returns-4 c =
-    let l = c .before .before .before .before .before .before .before .before .before .before .before .before .args .c .now in
-    let i = c .before .before .before .before .before .loop .i in
+    let back4 = c .before .before .before .before in
+    let back8 = back4 .before .before .before .before in
+    let back12 = back8 .before .before .before .before in
+    let l = back12 .args .c .now in
+    let i = back4 .before .loop .i in
     let both : (ltb (getD l (i - 1) 0) 128 && eqb (getD l i 0) 128) ≡ true =
     simp (lt-ltb _ _ (c .if5 .taken), eq-eqb _ _ (c .before .before .if4 .taken)) in
-    simp (ne-eqb _ _ (c .before .before .before .before .before .before .before .before .before .before .if1 .left)) (sym (stopped l i (ltb (getD l (i - 1) 0) 128) (c .before .before .before .before .loop-test .taken) both) ∙ c .before .before .before .before .before .loop .inv .2)
+    simp (ne-eqb _ _ (back8 .before .before .if1 .left)) (sym (stopped l i (ltb (getD l (i - 1) 0) 128) (c .before .before .before .before .loop-test .taken) both) ∙ back4 .before .loop .inv .2)
 
 add-i : tie.Need-add-i Inv-loop μ-loop
 add-i c = omega arith
@@ -84,7 +86,9 @@ either false b e = refl
 
 loop-again : tie.Need-loop-again Inv-loop μ-loop
 loop-again c =
-    let l = c .before .before .before .before .before .before .before .before .before .before .args .c .now in
+    let back4 = c .before .before .before .before in
+    let back8 = back4 .before .before .before .before in
+    let l = back8 .before .before .args .c .now in
     let i = c .before .before .before .loop .i in
     let plain : (ltb (getD l (i - 1) 0) 128 && eqb (getD l i 0) 128) ≡ false =
     ⊎-elim (λ w. simp (le-ltb _ _ (w .2 .left))) (λ w. either (ltb (getD l (i - 1) 0) 128) (eqb (getD l i 0) 128) (ne-eqb _ _ (w .left))) (c .if4 .came) in
@@ -100,10 +104,12 @@ shared-slice-read-result c = omega arith
 returns-5 : tie.Need-returns-5 Inv-loop μ-loop
 unfolding oidGood subIdentifiers
 returns-5 c =
-    let l = c .before .before .before .before .before .before .before .before .before .args .c .now in
+    let back4 = c .before .before .before .before in
+    let back8 = back4 .before .before .before .before in
+    let l = back8 .before .args .c .now in
     let last : length l ≡ c .before .before .loop .i = omega arith in
     let ended : drop (c .before .before .loop .i) l ≡ [] = drop-of-length-le l (c .before .loop-test .left) in
-    simp (ne-eqb _ _ (c .before .before .before .before .before .before .before .if1 .left)) (rw last (rw ended at (c .before .before .loop .inv .2)))
+    simp (ne-eqb _ _ (back4 .before .before .before .if1 .left)) (rw last (rw ended at (c .before .before .loop .inv .2)))
 
 pub oid-good-spec : {M : Type 1} → statement M
 oid-good-spec =
@@ -112,7 +118,7 @@ oid-good-spec =
     Inv-loop
     μ-loop
     returns
-    three-low-requires
+    (λ c κs. search needs)
     returns-2
     shared-slice-read-if3
     returns-3

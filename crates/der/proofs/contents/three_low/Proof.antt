@@ -34,32 +34,25 @@ no e = let w : _≡_ {A = ℕ} 0 1 = cc in absurd (omega arith)
 returns : tie.Need-returns
 returns c = λ e. no e
 
-shared-slice-read-if2 : tie.Need-shared-slice-read-if2
-shared-slice-read-if2 c = search needs
-
 returns-2 : tie.Need-returns-2
 returns-2 c = λ e. no e
-
-shared-slice-read-if3 : tie.Need-shared-slice-read-if3
-shared-slice-read-if3 c = search needs
 
 returns-3 : tie.Need-returns-3
 returns-3 c = λ e. no e
 
-shared-slice-read-result : tie.Need-shared-slice-read-result
-shared-slice-read-result c = search needs
-
 returns-4 : tie.Need-returns-4
-returns-4 c = λ e. low _ (c .before .before .before .before .before .if1 .left) (c .before .before .before .if2 .left) (c .before .if3 .left) (ltb-true _ _ e)
+returns-4 c =
+    let back4 = c .before .before .before .before in
+    λ e. low _ (back4 .before .if1 .left) (c .before .before .before .if2 .left) (c .before .if3 .left) (ltb-true _ _ e)
 
 pub three-low-spec : {M : Type 1} → statement M
 three-low-spec =
     tie.close
     (tie.spec
     returns
-    shared-slice-read-if2
+    (λ c. search needs)
     returns-2
-    shared-slice-read-if3
+    (λ c. search needs)
     returns-3
-    shared-slice-read-result
+    (λ c. search needs)
     returns-4)

@@ -8,9 +8,6 @@ use Rattle.der.specs.Heading.{within}
 use Rattle.der.proofs.heading.ending.Statement.{statement}
 use Rattle.der.proofs.heading.ending.Tie as tie
 
-sub-if1 : tie.Need-sub-if1
-sub-if1 c = search needs
-
 returns : tie.Need-returns
 unfolding within
 returns c =
@@ -26,4 +23,4 @@ returns-2 c =
     simp (lt-leb _ _ beyond)
 
 pub ending-spec : {M : Type 1} → statement M
-ending-spec = tie.close (tie.spec sub-if1 returns returns-2)
+ending-spec = tie.close (tie.spec (λ c. search needs) returns returns-2)

@@ -9,7 +9,7 @@ use lib.Dec.{ltb}
 use lib.ListN.{getD}
 use Rattle.der.specs.Forms.{paper}
 use Rattle.der.specs.Heading.{within, long, headingOf}
-use Rattle.der.proofs.Weights.{long-bad}
+use Rattle.der.proofs.LengthOctets.{long-bad}
 use Rattle.der.proofs.heading.header.Statement.{statement}
 use Rattle.der.proofs.heading.header.Tie as tie
 
@@ -17,25 +17,13 @@ returns : tie.Need-returns
 unfolding headingOf
 returns c = simp (lt-ltb _ _ (c .if1 .taken))
 
-shared-slice-read-tag : tie.Need-shared-slice-read-tag
-shared-slice-read-tag c = search needs
-
-identifier-requires : tie.Need-identifier-requires
-identifier-requires c κs = search needs
-
 returns-2 : tie.Need-returns-2
 unfolding headingOf
 returns-2 c =
     simp (le-ltb _ _ (c .before .before .before .if1 .left), sym (c .before .identifier .ensures) ∙ not-true _ (c .if2 .taken))
 
-shared-slice-read-first : tie.Need-shared-slice-read-first
-shared-slice-read-first c = search needs
-
 cast-first : tie.Need-cast-first
 cast-first c = omega (arith, c .shared-slice-known3 .given 1)
-
-ending-requires : tie.Need-ending-requires
-ending-requires c κs = search needs
 
 -- with a good identifier the length octets decide
 identified : (c : tie.Else2) →
@@ -49,21 +37,19 @@ identified c =
 returns-3 : tie.Need-returns-3
 returns-3 c = simp (identified (c .before .before .before), lt-ltb _ _ (c .before .if3 .taken)) (c .ending .ensures)
 
-one-octet-requires : tie.Need-one-octet-requires
-one-octet-requires c κs = search needs
-
 returns-4 : tie.Need-returns-4
 returns-4 c = simp (identified (c .before .before .before .before), c .before .if4 .taken) (c .one-octet .ensures)
 
-two-octets-requires : tie.Need-two-octets-requires
-two-octets-requires c κs = search needs
-
 returns-5 : tie.Need-returns-5
-returns-5 c = simp (identified (c .before .before .before .before .before), c .before .if5 .taken) (c .two-octets .ensures)
+returns-5 c =
+    let back4 = c .before .before .before .before in
+    simp (identified (back4 .before), c .before .if5 .taken) (c .two-octets .ensures)
 
 returns-6 : tie.Need-returns-6
 returns-6 c =
-    let s = c .before .before .before .before .before .before .before .before .before .args .s .now in
+    let back4 = c .before .before .before .before in
+    let back8 = back4 .before .before .before .before in
+    let s = back8 .before .args .s .now in
     let first = getD s 1 0 in
     let not-one : first - 128 ≡ 1 → ⊥ = omega arith in
     let not-two : first - 128 ≡ 2 → ⊥ = omega arith in
@@ -78,15 +64,15 @@ header-spec =
     tie.close
     (tie.spec
     returns
-    shared-slice-read-tag
-    identifier-requires
+    (λ c. search needs)
+    (λ c κs. search needs)
     returns-2
-    shared-slice-read-first
+    (λ c. search needs)
     cast-first
-    ending-requires
+    (λ c κs. search needs)
     returns-3
-    one-octet-requires
+    (λ c κs. search needs)
     returns-4
-    two-octets-requires
+    (λ c κs. search needs)
     returns-5
     returns-6)

@@ -40,9 +40,6 @@ all : agree 64 ≡ true
 unfolding identifierGood
 all = refl
 
-shr-result : tie.Need-shr-result
-shr-result c = search needs
-
 returns : tie.Need-returns
 returns c = below 64 all (c .before .args .tag) (c .if1 .taken)
 
@@ -55,4 +52,4 @@ unfolding identifierGood
 returns-2 c = simp (le-leb _ _ (c .if1 .left)) (turned (eqb (c .before .args .tag % 32) 31))
 
 pub identifier-spec : {M : Type 1} → statement M
-identifier-spec = tie.close (tie.spec shr-result returns returns-2)
+identifier-spec = tie.close (tie.spec (λ c. search needs) returns returns-2)

@@ -3,7 +3,7 @@ use borrow.Author.Needs.{needs}
 use borrow.Author.Tests.{le-leb, lt-leb}
 use native.Mathlib.Omega.{arith}
 use Rattle.der.specs.Heading.{long, smallest}
-use Rattle.der.proofs.Weights.{two-octets}
+use Rattle.der.proofs.LengthOctets.{two-octets}
 use Rattle.der.proofs.heading.two_octets.Statement.{statement}
 use Rattle.der.proofs.heading.two_octets.Tie as tie
 
@@ -11,17 +11,11 @@ returns : tie.Need-returns
 unfolding long
 returns c = simp (lt-leb _ _ (c .if1 .taken))
 
-shared-slice-read-size : tie.Need-shared-slice-read-size
-shared-slice-read-size c = search needs
-
 cast-size : tie.Need-cast-size
 cast-size c = omega (arith, c .shared-slice-known2 .given 2)
 
 mul-size : tie.Need-mul-size
 mul-size c = omega (arith, c .shared-slice-known2 .given 2)
-
-shared-slice-read-size-2 : tie.Need-shared-slice-read-size-2
-shared-slice-read-size-2 c = search needs
 
 cast-size-2 : tie.Need-cast-size-2
 cast-size-2 c = omega (arith, c .shared-slice-known3 .given 3)
@@ -32,21 +26,20 @@ add-size c = omega (arith, c .shared-slice-known3 .given 2, c .shared-slice-know
 returns-2 : tie.Need-returns-2
 unfolding long smallest
 returns-2 c =
+    let back4 = c .before .before .before .before in
     simp (
       le-leb _ _ (c .before .before .before .if1 .left),
-      two-octets (c .before .before .before .before .before .args .s .now) (c .before .before .before .if1 .left),
+      two-octets (back4 .before .args .s .now) (c .before .before .before .if1 .left),
       lt-leb _ _ (c .if2 .taken),
     )
-
-ending-requires : tie.Need-ending-requires
-ending-requires c κs = search needs
 
 returns-3 : tie.Need-returns-3
 unfolding long smallest
 returns-3 c =
+    let back4 = c .before .before .before .before in
     simp (
       le-leb _ _ (c .before .before .before .before .if1 .left),
-      two-octets (c .before .before .before .before .before .before .args .s .now) (c .before .before .before .before .if1 .left),
+      two-octets (back4 .before .before .args .s .now) (c .before .before .before .before .if1 .left),
       le-leb _ _ (c .before .if2 .left),
     ) (c .ending .ensures)
 
@@ -55,12 +48,12 @@ two-octets-spec =
     tie.close
     (tie.spec
     returns
-    shared-slice-read-size
+    (λ c. search needs)
     cast-size
     mul-size
-    shared-slice-read-size-2
+    (λ c. search needs)
     cast-size-2
     add-size
     returns-2
-    ending-requires
+    (λ c κs. search needs)
     returns-3)

@@ -16,33 +16,16 @@ use Rattle.der.proofs.Bounds.{heading-within}
 use Rattle.der.proofs.numbers.integer.Statement.{statement}
 use Rattle.der.proofs.numbers.integer.Tie as tie
 
-walk-requires : tie.Need-walk-requires
-walk-requires c κs = search needs
-
-enum-known-refusal : tie.Need-enum-known-refusal
-enum-known-refusal c = search needs
-
 returns : tie.Need-returns
 unfolding integerOf asked
 returns c = simp (sym (c .before .before .before .walk .ensures .0) ∙ c .before .refusal .given .1)
 
-enum-told : tie.Need-enum-told
-enum-told c = search needs
-
-header-requires : tie.Need-header-requires
-header-requires c κs = search needs
-
-enum-known-tag : tie.Need-enum-known-tag
-enum-known-tag c = search needs
-
-enum-told-2 : tie.Need-enum-told-2
-enum-told-2 c = search needs
-
 returns-2 : tie.Need-returns-2
 unfolding integerOf asked held
 returns-2 c =
+    let back4 = c .before .before .before .before in
     simp (
-      sym (c .before .before .before .before .before .walk .ensures .0) ∙ c .before .before .before .enum-told .given .1,
+      sym (back4 .before .walk .ensures .0) ∙ c .before .before .before .enum-told .given .1,
       sym (c .before .before .header .ensures) ∙ c .enum-told2 .given .1,
     )
 
@@ -59,8 +42,9 @@ told : (c : tie.After-known-told2) →
     integerOf paper item ≡ held item (Header (h .0) (h .1 .0) (h .1 .1 .0))
 unfolding integerOf asked
 told c =
+    let back4 = c .before .before .before .before in
     simp (
-      sym (c .before .before .before .before .before .before .walk .ensures .0) ∙ c .before .before .before .before .enum-told .given .1,
+      sym (back4 .before .before .walk .ensures .0) ∙ c .before .before .before .before .enum-told .given .1,
       headed c,
     )
 
@@ -80,17 +64,8 @@ returns-4 c = simp (told (c .before .before), eq-eqb _ _ (c .before .if1 .left),
 add-end : tie.Need-add-end
 add-end c = omega (arith, inside (c .before .before))
 
-sub-signed : tie.Need-sub-signed
-sub-signed c = search needs
-
-part-signed-start : tie.Need-part-signed-start
-part-signed-start c = search needs
-
 part-signed-end : tie.Need-part-signed-end
 part-signed-end c = inside (c .before .before)
-
-signed-requires : tie.Need-signed-requires
-signed-requires c κs = search needs
 
 returns-5 : tie.Need-returns-5
 unfolding held
@@ -108,19 +83,19 @@ pub integer-spec : {M : Type 1} → statement M
 integer-spec =
     tie.close
     (tie.spec
-    walk-requires
-    enum-known-refusal
+    (λ c κs. search needs)
+    (λ c. search needs)
     returns
-    enum-told
-    header-requires
-    enum-known-tag
-    enum-told-2
+    (λ c. search needs)
+    (λ c κs. search needs)
+    (λ c. search needs)
+    (λ c. search needs)
     returns-2
     returns-3
     returns-4
     add-end
-    sub-signed
-    part-signed-start
+    (λ c. search needs)
+    (λ c. search needs)
     part-signed-end
-    signed-requires
+    (λ c κs. search needs)
     returns-5)

@@ -13,8 +13,8 @@ use lib.Seq.{take-all}
 use mir.Syntax.{w64}
 use mir.Val.{toZ}
 use mir.ValLaws.{toZ-pos, toZ-ofZ}
-use Rattle.der.specs.Octets.{number, twos}
-use Rattle.der.proofs.Weights.{number-next, lower-half, upper-half}
+use Rattle.octets.specs.Octets.{number, twos}
+use Rattle.octets.proofs.Weights.{number-next, lower-half, upper-half}
 use Rattle.der.proofs.numbers.signed.Statement.{statement}
 use Rattle.der.proofs.numbers.signed.Tie as tie
 
@@ -82,7 +82,8 @@ loop-less c = omega arith
 
 loop-again : tie.Need-loop-again Inv-loop μ-loop
 loop-again c =
-    let l = c .before .before .before .before .before .args .c .now in
+    let back4 = c .before .before .before .before in
+    let l = back4 .before .args .c .now in
     let i = c .before .before .loop .i in
     let next : number (take (i + 1) l) ≡ number (take i l) * 256 + getD l i 0 =
     rw add-one (number-next l i (c .before .loop-test .taken)) in
@@ -106,7 +107,8 @@ whole c =
 -- the first octet is below 128
 low : (c : tie.Then2 Inv-loop μ-loop) → c .before .before .loop .value < 2 ^ 63
 low c =
-    let l = c .before .before .before .before .before .args .c .now in
+    let back4 = c .before .before .before .before in
+    let l = back4 .before .args .c .now in
     let w = whole (c .before) in
     omega (arith, lower-half l (λ k. c .before .before .before .shared-slice-known .given k .fits) (c .if2 .taken))
 
@@ -125,7 +127,8 @@ high : (c : tie.Else2 Inv-loop μ-loop) →
     let now = c .before .before .loop in
     now .most - now .value < 2 ^ 63
 high c =
-    let l = c .before .before .before .before .before .args .c .now in
+    let back4 = c .before .before .before .before in
+    let l = back4 .before .args .c .now in
     let w = whole (c .before) in
     omega (arith, upper-half l (c .if2 .left))
 
@@ -143,7 +146,8 @@ sub-result-2 c = rw (negative c) (record { sfits = high c })
 returns-3 : tie.Need-returns-3 Inv-loop μ-loop
 unfolding twos
 returns-3 c =
-    let l = c .before .before .before .before .before .args .c .now in
+    let back4 = c .before .before .before .before in
+    let l = back4 .before .args .c .now in
     let now = c .before .before .loop in
     let w = whole (c .before) in
     let below : pos (number l) -ℤ pos (256 ^ length l) ≡ negsuc (now .most - now .value) =

@@ -20,25 +20,15 @@ returns-2 : tie.Need-returns-2
 unfolding memberOf
 returns-2 c = simp (le-leb _ _ (c .before .if1 .left), lt-leb _ _ (c .if2 .taken))
 
-part-header-start : tie.Need-part-header-start
-part-header-start c = search needs
-
-part-header-end : tie.Need-part-header-end
-part-header-end c = search needs
-
-header-requires : tie.Need-header-requires
-header-requires c κs = search needs
-
-enum-known-tag : tie.Need-enum-known-tag
-enum-known-tag c = search needs
-
 -- the element ends within the part
 ended : (c : tie.After-known-told) →
     let a = c .before .before .before .before .before .before .before .before .args in
     let h = c .before .tag .given .0 in
     h .1 .0 + h .1 .1 .0 ≤ a .end - a .from
 ended c =
-    let a = c .before .before .before .before .before .before .before .before .args in
+    let back4 = c .before .before .before .before in
+    let back8 = back4 .before .before .before .before in
+    let a = back8 .args in
     let rest : a .end - a .from ≤ length (drop (a .from) (a .item .now)) = rw length-drop (omega arith) in
     let part : length (take (a .end - a .from) (drop (a .from) (a .item .now))) ≡ a .end - a .from = length-take-le _ _ rest in
     rw part at (heading-within paper _ _ _ _ (sym (c .before .before .before .header .ensures) ∙ c .before .tag .given .1) .1)
@@ -49,23 +39,22 @@ add-contents c = omega (arith, ended c)
 add-after : tie.Need-add-after
 add-after c = omega (arith, ended c)
 
-enum-told : tie.Need-enum-told
-enum-told c = search needs
-
 returns-3 : tie.Need-returns-3
 unfolding memberOf placed
 returns-3 c =
+    let back4 = c .before .before .before .before in
     simp (
-      le-leb _ _ (c .before .before .before .before .before .before .if1 .left),
-      le-leb _ _ (c .before .before .before .before .before .if2 .left),
+      le-leb _ _ (back4 .before .before .if1 .left),
+      le-leb _ _ (back4 .before .if2 .left),
       sym (c .before .before .before .header .ensures) ∙ c .before .tag .given .1,
     )
 
 returns-4 : tie.Need-returns-4
 unfolding memberOf placed
 returns-4 c =
+    let back4 = c .before .before .before .before in
     simp (
-      le-leb _ _ (c .before .before .before .before .before .if1 .left),
+      le-leb _ _ (back4 .before .if1 .left),
       le-leb _ _ (c .before .before .before .before .if2 .left),
       sym (c .before .before .header .ensures) ∙ c .enum-told .given .1,
     )
@@ -76,12 +65,12 @@ member-spec =
     (tie.spec
     returns
     returns-2
-    part-header-start
-    part-header-end
-    header-requires
-    enum-known-tag
+    (λ c. search needs)
+    (λ c. search needs)
+    (λ c κs. search needs)
+    (λ c. search needs)
     add-contents
     add-after
-    enum-told
+    (λ c. search needs)
     returns-3
     returns-4)

@@ -1,16 +1,24 @@
 -- An element is read as its definition says, by the law for each way through its tests; a list by reading its elements one
--- by one. The octets at hand fall at each call: twice their number, and one more for a list.
-use mathlib.Core.Path.{_≡_, refl, sym, _∙_}
-use Prim.Native.Nat.{ℕ, _<_, _≤_, _+_, _*_, _-_, _/_, _%_}
+-- by one, some by the fast path. The octets at hand fall at each call, twice their number, and one more for a list; so do the levels
+-- of depth that are left.
+use mathlib.Core.Path.{_≡_, refl, sym, subst, _∙_}
+use mathlib.Core.Bool.{true, false}
+use mathlib.Core.List.{List}
+use Prim.Native.Nat.{ℕ, _<_, _≤_, _+_, _*_, _-_}
 use native.Mathlib.Omega.{arith}
 use borrow.Author.Needs.{needs}
 use borrow.Author.Tests.{eq-eqb, ne-eqb}
-use lib.ListN.{length, take, drop, length-take, length-drop}
+use lib.ListN.{length, getD, take, drop, length-take, length-drop}
+use Rattle.refusal.specs.declared.Refusal.the-variants.{Der, Limit}
+use Rattle.der.specs.declared.heading.Heading.the-variants.{Header}
+use Rattle.der.specs.declared.walking.Read.the-variants.{Past, Fault}
+use Rattle.der.specs.declared.walking.Walked.{Walked}
 use Rattle.der.specs.Forms.{paper}
 use Rattle.der.specs.Heading.{headingOf, constructed}
-use Rattle.der.specs.Walk.{filled, elementAt, listAt}
-use Rattle.der.proofs.Bounds.{heading-within, element-within, list-within}
-use Rattle.der.proofs.Enough.{bad-is, deep-is, many-is, leaf-is, spoilt-is, node-is, ListLeft, left-first, left-none, left-fault, read-within, left-next}
+use Rattle.der.specs.Contents.{contentsGood}
+use Rattle.der.specs.Walk.{filled}
+use Rattle.der.proofs.Bounds.{heading-within}
+use Rattle.der.proofs.Enough.{ElementIs, ListIs, bad-is, deep-is, many-is, leaf-is, spoilt-is, node-is, ListLeft, left-first, left-none, left-fault, read-within, left-next}
 use borrow.Fn.Kinds.{In}
 use borrow.Fn.PlainCycle.{Measures, is, falls, and}
 use Rattle.der.proofs.walking.element.Reads as element
@@ -20,9 +28,42 @@ use Rattle.der.proofs.walking.list.Reads as list
 use Rattle.der.proofs.walking.list.Kinds as list-kinds
 use Rattle.der.proofs.walking.+element+list.Lts-list as list-lts
 use Rattle.der.proofs.contents.contents_good.Reads as contents-good-reads
+use Rattle.der.proofs.fast.fast_path.Reads as fast-path-reads
 use Rattle.der.proofs.heading.header.Reads as header-reads
 use Rattle.der.proofs.walking.+element+list.{statement}
 use Rattle.der.proofs.walking.+element+list.Tie.{close}
+
+-- the laws of an element, at the depth that the levels left tell
+module _ (s : List ℕ) (base left count : ℕ) {tag skip size : ℕ} (e : headingOf paper s ≡ Header tag skip size) where
+  deep : left ≡ 0 → ElementIs paper s base (17 - left) count (Fault (Limit base))
+  deep none = deep-is paper s base (17 - left) count e (let d : 16 < 17 - left = omega arith in d)
+
+  module _ (some : left ≡ 0 → ⊥) where
+    shallow : 17 - left ≤ 16
+    shallow = omega arith
+
+    many : 4096 ≤ count → ElementIs paper s base (17 - left) count (Fault (Limit base))
+    many h = many-is paper s base (17 - left) count e shallow h
+
+    module _ (few : count < 4096) where
+      leaf : constructed tag ≡ false → contentsGood tag (take (skip + size - skip) (drop skip s)) ≡ true → ElementIs paper s base (17 - left) count (Past (skip + size) (count + 1))
+      leaf h g = leaf-is paper s base (17 - left) count e shallow few h g
+
+      spoilt : constructed tag ≡ false → contentsGood tag (take (skip + size - skip) (drop skip s)) ≡ false → ElementIs paper s base (17 - left) count (Fault (Der base))
+      spoilt h g = spoilt-is paper s base (17 - left) count e shallow few h g
+
+      node : {w : Walked} → left ≤ 16 → constructed tag ≡ true → ListIs paper (take (skip + size - skip) (drop skip s)) (base + skip) (17 - (left - 1)) (count + 1) w → ElementIs paper s base (17 - left) count (filled (skip + size) w)
+      node {w} most h f =
+          let deeper : 17 - (left - 1) ≡ 17 - left + 1 = omega arith in
+          node-is paper s base (17 - left) count e shallow few h (subst (λ d. ListIs paper (take (skip + size - skip) (drop skip s)) (base + skip) d (count + 1) w) deeper f)
+
+-- one element more of a list
+past : (s : List ℕ) (base depth count at read used n next : ℕ) → at < length s → ListLeft paper s base depth count at read
+    → ElementIs paper (take (length s - at) (drop at s)) (base + at) depth read (Past used n) → next ≡ at + used
+    → (at < next) × (next ≤ length s) × (n ≤ 4096) × ListLeft paper s base depth count next n
+past s base depth count at read used n next more f g e =
+    let w : (2 ≤ used) × (at + used ≤ length s) × (n ≤ 4096) = read-within paper s base depth count at read more f g in
+    (omega arith, omega arith, w .2, subst (λ k. ListLeft paper s base depth count k n) (sym e) (left-next paper s base depth count at read more f g))
 
 abbrev μ-element : Measures 1 element-kinds.ps ℕ
 μ-element κs a = 2 * length (a .0 .now)
@@ -42,167 +83,175 @@ list-at t = and 1 list-kinds.ps (is 1 list-kinds.ps μ-list t) list.Pre
 abbrev list-below : ℕ → In 1 list-kinds.ps
 list-below t = and 1 list-kinds.ps (falls 1 list-kinds.ps _<_ μ-list t) list.Pre
 
--- src/walking.rt:47:47
-element-header-requires : (t : ℕ) → element-lts.Need-header-requires (header-reads.Asked, header-reads.Learnt, list-below t, list.Post, contents-good-reads.Asked, contents-good-reads.Learnt) (element-at t) element.Post
-element-header-requires t c κs = search needs
-
--- src/walking.rt:47:27
-element-enum-known-tag : (t : ℕ) → element-lts.Need-enum-known-tag (header-reads.Asked, header-reads.Learnt, list-below t, list.Post, contents-good-reads.Asked, contents-good-reads.Learnt) (element-at t) element.Post
-element-enum-known-tag t c = search needs
-
--- src/walking.rt:48:28
-element-enum-told : (t : ℕ) → element-lts.Need-enum-told (header-reads.Asked, header-reads.Learnt, list-below t, list.Post, contents-good-reads.Asked, contents-good-reads.Learnt) (element-at t) element.Post
-element-enum-told t c = search needs
-
--- src/walking.rt:48:9
 element-returns : (t : ℕ) → element-lts.Need-returns (header-reads.Asked, header-reads.Learnt, list-below t, list.Post, contents-good-reads.Asked, contents-good-reads.Learnt) (element-at t) element.Post
-element-returns t c = bad-is paper (c .before .before .before .before .args .s .now) (c .before .before .before .before .args .base) (c .before .before .before .before .args .depth) (c .before .before .before .before .args .count) (sym (c .before .before .header .ensures) ∙ c .enum-told .given .1)
+element-returns t c =
+    let start = c .before .before .before .before in
+    bad-is paper (start .args .s .now) (start .args .base) (17 - start .args .left) (start .args .count) (sym (c .before .before .header .ensures) ∙ c .enum-told .given .1)
 
--- src/walking.rt:51:9
 element-returns-2 : (t : ℕ) → element-lts.Need-returns-2 (header-reads.Asked, header-reads.Learnt, list-below t, list.Post, contents-good-reads.Asked, contents-good-reads.Learnt) (element-at t) element.Post
-element-returns-2 t c = deep-is paper (c .before .before .before .before .before .before .args .s .now) (c .before .before .before .before .before .before .args .base) (c .before .before .before .before .before .before .args .depth) (c .before .before .before .before .before .before .args .count) (sym (c .before .before .before .before .header .ensures) ∙ c .before .before .tag .given .1) (c .if1 .taken)
+element-returns-2 t c =
+    let named = c .before .before in
+    let start = named .before .before .before .before in
+    deep (start .args .s .now) (start .args .base) (start .args .left) (start .args .count) (sym (named .before .before .header .ensures) ∙ named .tag .given .1) (c .if1 .taken)
 
--- src/walking.rt:54:9
 element-returns-3 : (t : ℕ) → element-lts.Need-returns-3 (header-reads.Asked, header-reads.Learnt, list-below t, list.Post, contents-good-reads.Asked, contents-good-reads.Learnt) (element-at t) element.Post
-element-returns-3 t c = many-is paper (c .before .before .before .before .before .before .before .args .s .now) (c .before .before .before .before .before .before .before .args .base) (c .before .before .before .before .before .before .before .args .depth) (c .before .before .before .before .before .before .before .args .count) (sym (c .before .before .before .before .before .header .ensures) ∙ c .before .before .before .tag .given .1) (c .before .if1 .left) (c .if2 .taken)
+element-returns-3 t c =
+    let named = c .before .before .before in
+    let start = named .before .before .before .before in
+    many (start .args .s .now) (start .args .base) (start .args .left) (start .args .count) (sym (named .before .before .header .ensures) ∙ named .tag .given .1) (c .before .if1 .left) (c .if2 .taken)
 
--- src/walking.rt:56:15
 element-add-end : (t : ℕ) → element-lts.Need-add-end (header-reads.Asked, header-reads.Learnt, list-below t, list.Post, contents-good-reads.Asked, contents-good-reads.Learnt) (element-at t) element.Post
-element-add-end t c = omega (arith, heading-within paper (c .before .before .before .before .before .before .before .args .s .now) _ _ _ (sym (c .before .before .before .before .before .header .ensures) ∙ c .before .before .before .tag .given .1))
+element-add-end t c =
+    let few = c in
+    let named = few .before .before .before in
+    let start = named .before .before .before .before in
+    omega (arith, heading-within paper (start .args .s .now) _ _ _ (sym (named .before .before .header .ensures) ∙ named .tag .given .1))
 
--- src/walking.rt:58:27
-element-sub-list : (t : ℕ) → element-lts.Need-sub-list (header-reads.Asked, header-reads.Learnt, list-below t, list.Post, contents-good-reads.Asked, contents-good-reads.Learnt) (element-at t) element.Post
-element-sub-list t c = search needs
-
--- src/walking.rt:58:27
-element-part-list-start : (t : ℕ) → element-lts.Need-part-list-start (header-reads.Asked, header-reads.Learnt, list-below t, list.Post, contents-good-reads.Asked, contents-good-reads.Learnt) (element-at t) element.Post
-element-part-list-start t c = search needs
-
--- src/walking.rt:58:27
 element-part-list-end : (t : ℕ) → element-lts.Need-part-list-end (header-reads.Asked, header-reads.Learnt, list-below t, list.Post, contents-good-reads.Asked, contents-good-reads.Learnt) (element-at t) element.Post
-element-part-list-end t c = omega (arith, heading-within paper (c .before .before .before .before .before .before .before .before .args .s .now) _ _ _ (sym (c .before .before .before .before .before .before .header .ensures) ∙ c .before .before .before .before .tag .given .1))
+element-part-list-end t c =
+    let few = c .before in
+    let named = few .before .before .before in
+    let start = named .before .before .before .before in
+    omega (arith, heading-within paper (start .args .s .now) _ _ _ (sym (named .before .before .header .ensures) ∙ named .tag .given .1))
 
--- src/walking.rt:58:42
 element-add-list : (t : ℕ) → element-lts.Need-add-list (header-reads.Asked, header-reads.Learnt, list-below t, list.Post, contents-good-reads.Asked, contents-good-reads.Learnt) (element-at t) element.Post
-element-add-list t c = omega (arith, heading-within paper (c .before .before .before .before .before .before .before .before .before .args .s .now) _ _ _ (sym (c .before .before .before .before .before .before .before .header .ensures) ∙ c .before .before .before .before .before .tag .given .1))
+element-add-list t c =
+    let few = c .before .before in
+    let named = few .before .before .before in
+    let start = named .before .before .before .before in
+    omega (arith, heading-within paper (start .args .s .now) _ _ _ (sym (named .before .before .header .ensures) ∙ named .tag .given .1))
 
--- src/walking.rt:58:55
-element-add-list-2 : (t : ℕ) → element-lts.Need-add-list-2 (header-reads.Asked, header-reads.Learnt, list-below t, list.Post, contents-good-reads.Asked, contents-good-reads.Learnt) (element-at t) element.Post
-element-add-list-2 t c = search needs
-
--- src/walking.rt:58:66
-element-add-list-3 : (t : ℕ) → element-lts.Need-add-list-3 (header-reads.Asked, header-reads.Learnt, list-below t, list.Post, contents-good-reads.Asked, contents-good-reads.Learnt) (element-at t) element.Post
-element-add-list-3 t c = search needs
-
--- src/walking.rt:58:22
 element-list-requires : (t : ℕ) → element-lts.Need-list-requires (header-reads.Asked, header-reads.Learnt, list-below t, list.Post, contents-good-reads.Asked, contents-good-reads.Learnt) (element-at t) element.Post
-element-list-requires t c κs = let mu : 2 * length (c .before .before .before .before .before .before .before .before .before .args .s .now) ≡ t = c .before .before .before .before .before .before .before .before .before .pre .0 in omega (arith, heading-within paper (c .before .before .before .before .before .before .before .before .before .args .s .now) _ _ _ (sym (c .before .before .before .before .before .before .before .header .ensures) ∙ c .before .before .before .before .before .tag .given .1), length-take (c .before .before .before .before .before .tag .given .0 .1 .0 + c .before .before .before .before .before .tag .given .0 .1 .1 .0 - c .before .before .before .before .before .tag .given .0 .1 .0) (drop (c .before .before .before .before .before .tag .given .0 .1 .0) (c .before .before .before .before .before .before .before .before .before .args .s .now)), length-drop (c .before .before .before .before .before .tag .given .0 .1 .0) (c .before .before .before .before .before .before .before .before .before .args .s .now))
+element-list-requires t c κs =
+    let few = c .before .before in
+    let named = few .before .before .before in
+    let start = named .before .before .before .before in
+    let skip = named .tag .given .0 .1 .0 in
+    let size = named .tag .given .0 .1 .1 .0 in
+    let mu : 2 * length (start .args .s .now) ≡ t = start .pre .0 in
+    omega (arith, heading-within paper (start .args .s .now) _ _ _ (sym (named .before .before .header .ensures) ∙ named .tag .given .1), length-take (skip + size - skip) (drop skip (start .args .s .now)), length-drop skip (start .args .s .now))
 
--- src/walking.rt:59:29
-element-enum-known-refusal : (t : ℕ) → element-lts.Need-enum-known-refusal (header-reads.Asked, header-reads.Learnt, list-below t, list.Post, contents-good-reads.Asked, contents-good-reads.Learnt) (element-at t) element.Post
-element-enum-known-refusal t c = search needs
-
--- src/walking.rt:60:30
-element-enum-known-count : (t : ℕ) → element-lts.Need-enum-known-count (header-reads.Asked, header-reads.Learnt, list-below t, list.Post, contents-good-reads.Asked, contents-good-reads.Learnt) (element-at t) element.Post
-element-enum-known-count t c = search needs
-
--- src/walking.rt:58:9
 element-returns-4 : (t : ℕ) → element-lts.Need-returns-4 (header-reads.Asked, header-reads.Learnt, list-below t, list.Post, contents-good-reads.Asked, contents-good-reads.Learnt) (element-at t) element.Post
 unfolding constructed filled
-element-returns-4 t c = node-is paper (c .before .before .before .before .before .before .before .before .before .before .before .before .before .args .s .now) (c .before .before .before .before .before .before .before .before .before .before .before .before .before .args .base) (c .before .before .before .before .before .before .before .before .before .before .before .before .before .args .depth) (c .before .before .before .before .before .before .before .before .before .before .before .before .before .args .count) (sym (c .before .before .before .before .before .before .before .before .before .before .before .header .ensures) ∙ c .before .before .before .before .before .before .before .before .before .tag .given .1) (c .before .before .before .before .before .before .before .if1 .left) (c .before .before .before .before .before .before .if2 .left) (eq-eqb _ _ (c .before .before .before .before .before .if3 .taken)) (λ fuel h. sym (c .before .refusal .given .1) ∙ c .before .before .before .list .ensures fuel h)
+element-returns-4 t c =
+    let few = c .before .before .before .before .before .before in
+    let named = few .before .before .before in
+    let start = named .before .before .before .before in
+    node (start .args .s .now) (start .args .base) (start .args .left) (start .args .count) (sym (named .before .before .header .ensures) ∙ named .tag .given .1) (few .before .if1 .left) (few .if2 .left) (start .pre .1 .1) (eq-eqb _ _ (c .before .before .before .before .before .if3 .taken)) (λ fuel h. sym (c .before .refusal .given .1) ∙ c .before .before .before .list .ensures fuel h)
 
--- src/walking.rt:58:9
 element-returns-5 : (t : ℕ) → element-lts.Need-returns-5 (header-reads.Asked, header-reads.Learnt, list-below t, list.Post, contents-good-reads.Asked, contents-good-reads.Learnt) (element-at t) element.Post
 unfolding constructed filled
-element-returns-5 t c = node-is paper (c .before .before .before .before .before .before .before .before .before .before .before .before .before .args .s .now) (c .before .before .before .before .before .before .before .before .before .before .before .before .before .args .base) (c .before .before .before .before .before .before .before .before .before .before .before .before .before .args .depth) (c .before .before .before .before .before .before .before .before .before .before .before .before .before .args .count) (sym (c .before .before .before .before .before .before .before .before .before .before .before .header .ensures) ∙ c .before .before .before .before .before .before .before .before .before .tag .given .1) (c .before .before .before .before .before .before .before .if1 .left) (c .before .before .before .before .before .before .if2 .left) (eq-eqb _ _ (c .before .before .before .before .before .if3 .taken)) (λ fuel h. sym (c .before .count .given .1) ∙ c .before .before .before .list .ensures fuel h)
+element-returns-5 t c =
+    let few = c .before .before .before .before .before .before in
+    let named = few .before .before .before in
+    let start = named .before .before .before .before in
+    node (start .args .s .now) (start .args .base) (start .args .left) (start .args .count) (sym (named .before .before .header .ensures) ∙ named .tag .given .1) (few .before .if1 .left) (few .if2 .left) (start .pre .1 .1) (eq-eqb _ _ (c .before .before .before .before .before .if3 .taken)) (λ fuel h. sym (c .before .count .given .1) ∙ c .before .before .before .list .ensures fuel h)
 
--- src/walking.rt:63:27
-element-sub-contents-good : (t : ℕ) → element-lts.Need-sub-contents-good (header-reads.Asked, header-reads.Learnt, list-below t, list.Post, contents-good-reads.Asked, contents-good-reads.Learnt) (element-at t) element.Post
-element-sub-contents-good t c = search needs
-
--- src/walking.rt:63:27
-element-part-contents-good-start : (t : ℕ) → element-lts.Need-part-contents-good-start (header-reads.Asked, header-reads.Learnt, list-below t, list.Post, contents-good-reads.Asked, contents-good-reads.Learnt) (element-at t) element.Post
-element-part-contents-good-start t c = search needs
-
--- src/walking.rt:63:27
 element-part-contents-good-end : (t : ℕ) → element-lts.Need-part-contents-good-end (header-reads.Asked, header-reads.Learnt, list-below t, list.Post, contents-good-reads.Asked, contents-good-reads.Learnt) (element-at t) element.Post
-element-part-contents-good-end t c = omega (arith, heading-within paper (c .before .before .before .before .before .before .before .before .args .s .now) _ _ _ (sym (c .before .before .before .before .before .before .header .ensures) ∙ c .before .before .before .before .tag .given .1))
+element-part-contents-good-end t c =
+    let few = c .before in
+    let named = few .before .before .before in
+    let start = named .before .before .before .before in
+    omega (arith, heading-within paper (start .args .s .now) _ _ _ (sym (named .before .before .header .ensures) ∙ named .tag .given .1))
 
--- src/walking.rt:63:8
-element-contents-good-requires : (t : ℕ) → element-lts.Need-contents-good-requires (header-reads.Asked, header-reads.Learnt, list-below t, list.Post, contents-good-reads.Asked, contents-good-reads.Learnt) (element-at t) element.Post
-element-contents-good-requires t c κs = search needs
-
--- src/walking.rt:64:47
-element-add-t32 : (t : ℕ) → element-lts.Need-add-t32 (header-reads.Asked, header-reads.Learnt, list-below t, list.Post, contents-good-reads.Asked, contents-good-reads.Learnt) (element-at t) element.Post
-element-add-t32 t c = search needs
-
--- src/walking.rt:64:9
 element-returns-6 : (t : ℕ) → element-lts.Need-returns-6 (header-reads.Asked, header-reads.Learnt, list-below t, list.Post, contents-good-reads.Asked, contents-good-reads.Learnt) (element-at t) element.Post
-unfolding constructed filled
-element-returns-6 t c = leaf-is paper (c .before .before .before .before .before .before .before .before .before .before .before .args .s .now) (c .before .before .before .before .before .before .before .before .before .before .before .args .base) (c .before .before .before .before .before .before .before .before .before .before .before .args .depth) (c .before .before .before .before .before .before .before .before .before .before .before .args .count) (sym (c .before .before .before .before .before .before .before .before .before .header .ensures) ∙ c .before .before .before .before .before .before .before .tag .given .1) (c .before .before .before .before .before .if1 .left) (c .before .before .before .before .if2 .left) (ne-eqb _ _ (c .before .before .before .if3 .left)) (sym (c .before .contents-good .ensures) ∙ c .if4 .taken)
+unfolding constructed
+element-returns-6 t c =
+    let few = c .before .before .before .before in
+    let named = few .before .before .before in
+    let start = named .before .before .before .before in
+    leaf (start .args .s .now) (start .args .base) (start .args .left) (start .args .count) (sym (named .before .before .header .ensures) ∙ named .tag .given .1) (few .before .if1 .left) (few .if2 .left) (ne-eqb _ _ (c .before .before .before .if3 .left)) (sym (c .before .contents-good .ensures) ∙ c .if4 .taken)
 
--- src/walking.rt:43:1
 element-returns-7 : (t : ℕ) → element-lts.Need-returns-7 (header-reads.Asked, header-reads.Learnt, list-below t, list.Post, contents-good-reads.Asked, contents-good-reads.Learnt) (element-at t) element.Post
-unfolding constructed filled
-element-returns-7 t c = spoilt-is paper (c .before .before .before .before .before .before .before .before .before .before .before .args .s .now) (c .before .before .before .before .before .before .before .before .before .before .before .args .base) (c .before .before .before .before .before .before .before .before .before .before .before .args .depth) (c .before .before .before .before .before .before .before .before .before .before .before .args .count) (sym (c .before .before .before .before .before .before .before .before .before .header .ensures) ∙ c .before .before .before .before .before .before .before .tag .given .1) (c .before .before .before .before .before .if1 .left) (c .before .before .before .before .if2 .left) (ne-eqb _ _ (c .before .before .before .if3 .left)) (sym (c .before .contents-good .ensures) ∙ c .if4 .left)
+unfolding constructed
+element-returns-7 t c =
+    let few = c .before .before .before .before in
+    let named = few .before .before .before in
+    let start = named .before .before .before .before in
+    spoilt (start .args .s .now) (start .args .base) (start .args .left) (start .args .count) (sym (named .before .before .header .ensures) ∙ named .tag .given .1) (few .before .if1 .left) (few .if2 .left) (ne-eqb _ _ (c .before .before .before .if3 .left)) (sym (c .before .contents-good .ensures) ∙ c .if4 .left)
 
 abbrev list-Inv-loop : list-lts.InvT-loop
-list-Inv-loop s base depth count at₀ read₀ at read = (at ≤ length s) × (read ≤ 4096) × ListLeft paper s base depth count at read
+list-Inv-loop s base left count at₀ read₀ at read = (at ≤ length s) × (read ≤ 4096) × ListLeft paper s base (17 - left) count at read
 
 abbrev list-μ-loop : list-lts.MeasureT-loop
-list-μ-loop s base depth count at₀ read₀ at read = length s - at
+list-μ-loop s base left count at₀ read₀ at read = length s - at
 
--- src/walking.rt:76:5
-list-loop-holds : (t : ℕ) → list-lts.Need-loop-holds (element-below t, element.Post) (list-at t) list.Post list-Inv-loop list-μ-loop
-list-loop-holds t c = (omega arith, omega arith, left-first paper (c .before .args .s .now) (c .before .args .base) (c .before .args .depth) (c .before .args .count))
+list-loop-holds : (t : ℕ) → list-lts.Need-loop-holds (fast-path-reads.Asked, fast-path-reads.Learnt, element-below t, element.Post) (list-at t) list.Post list-Inv-loop list-μ-loop
+list-loop-holds t c =
+    let start = c .before in
+    (omega arith, omega arith, left-first paper (start .args .s .now) (start .args .base) (17 - start .args .left) (start .args .count))
 
--- src/walking.rt:77:23
-list-sub-element : (t : ℕ) → list-lts.Need-sub-element (element-below t, element.Post) (list-at t) list.Post list-Inv-loop list-μ-loop
-list-sub-element t c = search needs
+list-add-at : (t : ℕ) → list-lts.Need-add-at (fast-path-reads.Asked, fast-path-reads.Learnt, element-below t, element.Post) (list-at t) list.Post list-Inv-loop list-μ-loop
+list-add-at t c = omega (arith, c .before .fast-path .ensures (c .if1 .taken) .0)
 
--- src/walking.rt:77:23
-list-part-element-start : (t : ℕ) → list-lts.Need-part-element-start (element-below t, element.Post) (list-at t) list.Post list-Inv-loop list-μ-loop
-list-part-element-start t c = search needs
+list-add-at-2 : (t : ℕ) → list-lts.Need-add-at-2 (fast-path-reads.Asked, fast-path-reads.Learnt, element-below t, element.Post) (list-at t) list.Post list-Inv-loop list-μ-loop
+list-add-at-2 t c = omega (arith, c .before .fast-path .ensures (c .if1 .taken) .0)
 
--- src/walking.rt:77:23
-list-part-element-end : (t : ℕ) → list-lts.Need-part-element-end (element-below t, element.Post) (list-at t) list.Post list-Inv-loop list-μ-loop
-list-part-element-end t c = search needs
+list-shared-slice-read-at : (t : ℕ) → list-lts.Need-shared-slice-read-at (fast-path-reads.Asked, fast-path-reads.Learnt, element-below t, element.Post) (list-at t) list.Post list-Inv-loop list-μ-loop
+list-shared-slice-read-at t c = omega (arith, c .before .before .fast-path .ensures (c .before .if1 .taken) .0)
 
--- src/walking.rt:77:33
-list-add-element : (t : ℕ) → list-lts.Need-add-element (element-below t, element.Post) (list-at t) list.Post list-Inv-loop list-μ-loop
-list-add-element t c = search needs
+list-cast-at : (t : ℕ) → list-lts.Need-cast-at (fast-path-reads.Asked, fast-path-reads.Learnt, element-below t, element.Post) (list-at t) list.Post list-Inv-loop list-μ-loop
+list-cast-at t c = omega (arith, c .shared-slice-known2 .given (c .before .before .before .before .loop .at + 1))
 
--- src/walking.rt:77:15
-list-element-requires : (t : ℕ) → list-lts.Need-element-requires (element-below t, element.Post) (list-at t) list.Post list-Inv-loop list-μ-loop
-list-element-requires t c κs = let mu : 2 * length (c .before .before .before .before .args .s .now) + 1 ≡ t = c .before .before .before .before .pre .0 in omega (arith, length-take (length (c .before .before .before .before .args .s .now) - c .before .before .loop .at) (drop (c .before .before .loop .at) (c .before .before .before .before .args .s .now)), length-drop (c .before .before .loop .at) (c .before .before .before .before .args .s .now))
+list-add-at-3 : (t : ℕ) → list-lts.Need-add-at-3 (fast-path-reads.Asked, fast-path-reads.Learnt, element-below t, element.Post) (list-at t) list.Post list-Inv-loop list-μ-loop
+list-add-at-3 t c = omega (arith, c .before .before .fast-path .ensures (c .before .if1 .taken) .0, c .shared-slice-known2 .given (c .before .before .before .before .loop .at + 1))
 
--- src/walking.rt:78:25
-list-enum-known-refusal : (t : ℕ) → list-lts.Need-enum-known-refusal (element-below t, element.Post) (list-at t) list.Post list-Inv-loop list-μ-loop
-list-enum-known-refusal t c = search needs
+list-loop-less : (t : ℕ) → list-lts.Need-loop-less (fast-path-reads.Asked, fast-path-reads.Learnt, element-below t, element.Post) (list-at t) list.Post list-Inv-loop list-μ-loop
+list-loop-less t c =
+    let turn = c .before .before .before in
+    let here = turn .before .loop in
+    let start = turn .before .before .before in
+    omega (arith, past (start .args .s .now) (start .args .base) (17 - start .args .left) (start .args .count) (here .at) (here .read) (2 + getD (start .args .s .now) (here .at + 1) 0) (c .before .before .fast-path .result) (here .at + 2 + getD (start .args .s .now) (here .at + 1) 0) (turn .loop-test .taken) (here .inv .2) (c .before .before .fast-path .ensures (c .before .if1 .taken) .1 (start .args .base + here .at)) (omega arith))
 
--- src/walking.rt:78:37
-list-returns : (t : ℕ) → list-lts.Need-returns (element-below t, element.Post) (list-at t) list.Post list-Inv-loop list-μ-loop
-list-returns t c = left-fault paper (c .before .before .before .before .before .before .before .before .args .s .now) (c .before .before .before .before .before .before .before .before .args .base) (c .before .before .before .before .before .before .before .before .args .depth) (c .before .before .before .before .before .before .before .before .args .count) (c .before .before .before .before .before .before .loop .at) (c .before .before .before .before .before .before .loop .read) (c .before .before .before .before .before .loop-test .taken) (c .before .before .before .before .before .before .loop .inv .2) (λ fuel h. sym (c .before .refusal .given .1) ∙ c .before .before .before .element .ensures fuel h)
+list-loop-again : (t : ℕ) → list-lts.Need-loop-again (fast-path-reads.Asked, fast-path-reads.Learnt, element-below t, element.Post) (list-at t) list.Post list-Inv-loop list-μ-loop
+list-loop-again t c =
+    let turn = c .before .before .before in
+    let here = turn .before .loop in
+    let start = turn .before .before .before in
+    let on = past (start .args .s .now) (start .args .base) (17 - start .args .left) (start .args .count) (here .at) (here .read) (2 + getD (start .args .s .now) (here .at + 1) 0) (c .before .before .fast-path .result) (here .at + 2 + getD (start .args .s .now) (here .at + 1) 0) (turn .loop-test .taken) (here .inv .2) (c .before .before .fast-path .ensures (c .before .if1 .taken) .1 (start .args .base + here .at)) (omega arith) in
+    (on .1, on .2, on .3)
 
--- src/walking.rt:79:26
-list-enum-known-used : (t : ℕ) → list-lts.Need-enum-known-used (element-below t, element.Post) (list-at t) list.Post list-Inv-loop list-μ-loop
-list-enum-known-used t c = search needs
+list-element-requires : (t : ℕ) → list-lts.Need-element-requires (fast-path-reads.Asked, fast-path-reads.Learnt, element-below t, element.Post) (list-at t) list.Post list-Inv-loop list-μ-loop
+list-element-requires t c κs =
+    let turn = c .before .before .before in
+    let here = turn .before .loop in
+    let start = turn .before .before .before in
+    let mu : 2 * length (start .args .s .now) + 1 ≡ t = start .pre .0 in
+    omega (arith, length-take (length (start .args .s .now) - here .at) (drop (here .at) (start .args .s .now)), length-drop (here .at) (start .args .s .now))
 
--- src/walking.rt:80:17
-list-add-at : (t : ℕ) → list-lts.Need-add-at (element-below t, element.Post) (list-at t) list.Post list-Inv-loop list-μ-loop
-list-add-at t c = omega (arith, read-within paper (c .before .before .before .before .before .before .before .before .args .s .now) (c .before .before .before .before .before .before .before .before .args .base) (c .before .before .before .before .before .before .before .before .args .depth) (c .before .before .before .before .before .before .before .before .args .count) (c .before .before .before .before .before .before .loop .at) (c .before .before .before .before .before .before .loop .read) (c .before .before .before .before .before .loop-test .taken) (c .before .before .before .before .before .before .loop .inv .2) (λ fuel h. sym (c .before .used .given .1) ∙ c .before .before .before .element .ensures fuel h))
+list-returns : (t : ℕ) → list-lts.Need-returns (fast-path-reads.Asked, fast-path-reads.Learnt, element-below t, element.Post) (list-at t) list.Post list-Inv-loop list-μ-loop
+list-returns t c =
+    let turn = c .before .before .before .before .before .before .before in
+    let here = turn .before .loop in
+    let start = turn .before .before .before in
+    left-fault paper (start .args .s .now) (start .args .base) (17 - start .args .left) (start .args .count) (here .at) (here .read) (turn .loop-test .taken) (here .inv .2) (λ fuel h. sym (c .before .refusal .given .1) ∙ c .before .before .before .element .ensures fuel h)
 
--- src/walking.rt:76:5
-list-loop-less : (t : ℕ) → list-lts.Need-loop-less (element-below t, element.Post) (list-at t) list.Post list-Inv-loop list-μ-loop
-list-loop-less t c = omega (arith, read-within paper (c .before .before .before .before .before .before .before .before .args .s .now) (c .before .before .before .before .before .before .before .before .args .base) (c .before .before .before .before .before .before .before .before .args .depth) (c .before .before .before .before .before .before .before .before .args .count) (c .before .before .before .before .before .before .loop .at) (c .before .before .before .before .before .before .loop .read) (c .before .before .before .before .before .loop-test .taken) (c .before .before .before .before .before .before .loop .inv .2) (λ fuel h. sym (c .before .used .given .1) ∙ c .before .before .before .element .ensures fuel h))
+list-add-at-4 : (t : ℕ) → list-lts.Need-add-at-4 (fast-path-reads.Asked, fast-path-reads.Learnt, element-below t, element.Post) (list-at t) list.Post list-Inv-loop list-μ-loop
+list-add-at-4 t c =
+    let turn = c .before .before .before .before .before .before .before in
+    let here = turn .before .loop in
+    let start = turn .before .before .before in
+    omega (arith, past (start .args .s .now) (start .args .base) (17 - start .args .left) (start .args .count) (here .at) (here .read) _ _ _ (turn .loop-test .taken) (here .inv .2) (λ fuel h. sym (c .before .used .given .1) ∙ c .before .before .before .element .ensures fuel h) refl)
 
--- src/walking.rt:76:5
-list-loop-again : (t : ℕ) → list-lts.Need-loop-again (element-below t, element.Post) (list-at t) list.Post list-Inv-loop list-μ-loop
-list-loop-again t c = (read-within paper (c .before .before .before .before .before .before .before .before .args .s .now) (c .before .before .before .before .before .before .before .before .args .base) (c .before .before .before .before .before .before .before .before .args .depth) (c .before .before .before .before .before .before .before .before .args .count) (c .before .before .before .before .before .before .loop .at) (c .before .before .before .before .before .before .loop .read) (c .before .before .before .before .before .loop-test .taken) (c .before .before .before .before .before .before .loop .inv .2) (λ fuel h. sym (c .before .used .given .1) ∙ c .before .before .before .element .ensures fuel h) .1, read-within paper (c .before .before .before .before .before .before .before .before .args .s .now) (c .before .before .before .before .before .before .before .before .args .base) (c .before .before .before .before .before .before .before .before .args .depth) (c .before .before .before .before .before .before .before .before .args .count) (c .before .before .before .before .before .before .loop .at) (c .before .before .before .before .before .before .loop .read) (c .before .before .before .before .before .loop-test .taken) (c .before .before .before .before .before .before .loop .inv .2) (λ fuel h. sym (c .before .used .given .1) ∙ c .before .before .before .element .ensures fuel h) .2, left-next paper (c .before .before .before .before .before .before .before .before .args .s .now) (c .before .before .before .before .before .before .before .before .args .base) (c .before .before .before .before .before .before .before .before .args .depth) (c .before .before .before .before .before .before .before .before .args .count) (c .before .before .before .before .before .before .loop .at) (c .before .before .before .before .before .before .loop .read) (c .before .before .before .before .before .loop-test .taken) (c .before .before .before .before .before .before .loop .inv .2) (λ fuel h. sym (c .before .used .given .1) ∙ c .before .before .before .element .ensures fuel h))
+list-loop-less-2 : (t : ℕ) → list-lts.Need-loop-less-2 (fast-path-reads.Asked, fast-path-reads.Learnt, element-below t, element.Post) (list-at t) list.Post list-Inv-loop list-μ-loop
+list-loop-less-2 t c =
+    let turn = c .before .before .before .before .before .before .before in
+    let here = turn .before .loop in
+    let start = turn .before .before .before in
+    omega (arith, past (start .args .s .now) (start .args .base) (17 - start .args .left) (start .args .count) (here .at) (here .read) _ _ _ (turn .loop-test .taken) (here .inv .2) (λ fuel h. sym (c .before .used .given .1) ∙ c .before .before .before .element .ensures fuel h) refl)
 
--- src/walking.rt:70:1
-list-returns-2 : (t : ℕ) → list-lts.Need-returns-2 (element-below t, element.Post) (list-at t) list.Post list-Inv-loop list-μ-loop
-list-returns-2 t c = left-none paper (c .before .before .before .args .s .now) (c .before .before .before .args .base) (c .before .before .before .args .depth) (c .before .before .before .args .count) (c .loop-test .left) (c .before .loop .inv .2)
+list-loop-again-2 : (t : ℕ) → list-lts.Need-loop-again-2 (fast-path-reads.Asked, fast-path-reads.Learnt, element-below t, element.Post) (list-at t) list.Post list-Inv-loop list-μ-loop
+list-loop-again-2 t c =
+    let turn = c .before .before .before .before .before .before .before in
+    let here = turn .before .loop in
+    let start = turn .before .before .before in
+    let on = past (start .args .s .now) (start .args .base) (17 - start .args .left) (start .args .count) (here .at) (here .read) _ _ _ (turn .loop-test .taken) (here .inv .2) (λ fuel h. sym (c .before .used .given .1) ∙ c .before .before .before .element .ensures fuel h) refl in
+    (on .1, on .2, on .3)
+
+list-returns-2 : (t : ℕ) → list-lts.Need-returns-2 (fast-path-reads.Asked, fast-path-reads.Learnt, element-below t, element.Post) (list-at t) list.Post list-Inv-loop list-μ-loop
+list-returns-2 t c =
+    let start = c .before .before .before in
+    left-none paper (start .args .s .now) (start .args .base) (17 - start .args .left) (start .args .count) (c .loop-test .left) (c .before .loop .inv .2)
 
 pub +element+list-spec : {M : Type 1} → statement M
 +element+list-spec = close μ-element μ-list (λ t. element-lts.spec (
@@ -215,47 +264,55 @@ pub +element+list-spec : {M : Type 1} → statement M
 )
     (element-at t)
     element.Post
-    (element-header-requires t)
-    (element-enum-known-tag t)
-    (element-enum-told t)
+    (λ c κs. search needs)
+    (λ c. search needs)
+    (λ c. search needs)
     (element-returns t)
     (element-returns-2 t)
     (element-returns-3 t)
     (element-add-end t)
-    (element-sub-list t)
-    (element-part-list-start t)
+    (λ c. search needs)
+    (λ c. search needs)
     (element-part-list-end t)
     (element-add-list t)
-    (element-add-list-2 t)
-    (element-add-list-3 t)
+    (λ c. search needs)
+    (λ c. search needs)
     (element-list-requires t)
-    (element-enum-known-refusal t)
-    (element-enum-known-count t)
+    (λ c. search needs)
+    (λ c. search needs)
     (element-returns-4 t)
     (element-returns-5 t)
-    (element-sub-contents-good t)
-    (element-part-contents-good-start t)
+    (λ c. search needs)
+    (λ c. search needs)
     (element-part-contents-good-end t)
-    (element-contents-good-requires t)
-    (element-add-t32 t)
+    (λ c κs. search needs)
+    (λ c. search needs)
     (element-returns-6 t)
     (element-returns-7 t))
     λ t. list-lts.spec
-    (element-below t, element.Post)
+    (fast-path-reads.Asked, fast-path-reads.Learnt, element-below t, element.Post)
     (list-at t)
     list.Post
     list-Inv-loop
     list-μ-loop
     (list-loop-holds t)
-    (list-sub-element t)
-    (list-part-element-start t)
-    (list-part-element-end t)
-    (list-add-element t)
-    (list-element-requires t)
-    (list-enum-known-refusal t)
-    (list-returns t)
-    (list-enum-known-used t)
+    (λ c κs. search needs)
     (list-add-at t)
+    (list-add-at-2 t)
+    (list-shared-slice-read-at t)
+    (list-cast-at t)
+    (list-add-at-3 t)
     (list-loop-less t)
     (list-loop-again t)
+    (λ c. search needs)
+    (λ c. search needs)
+    (λ c. search needs)
+    (λ c. search needs)
+    (list-element-requires t)
+    (λ c. search needs)
+    (list-returns t)
+    (λ c. search needs)
+    (list-add-at-4 t)
+    (list-loop-less-2 t)
+    (list-loop-again-2 t)
     (list-returns-2 t)

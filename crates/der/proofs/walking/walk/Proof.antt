@@ -1,5 +1,5 @@
 -- The walk is the outermost element's reading, held to the item's size and end; no count passes the limit.
-use mathlib.Core.Path.{_≡_, refl, sym, subst, _∙_}
+use mathlib.Core.Path.{_≡_, sym, subst, _∙_}
 use mathlib.Core.List.{List}
 use Prim.Native.Nat.{ℕ, _≤_, _+_, _*_}
 use native.Mathlib.Omega.{arith}
@@ -7,7 +7,7 @@ use borrow.Author.Needs.{needs}
 use lib.ListN.{length}
 use Rattle.der.specs.declared.walking.Walked.{Walked}
 use Rattle.der.specs.Forms.{paper}
-use Rattle.der.specs.Walk.{elementAt, walkOf, counted}
+use Rattle.der.specs.Walk.{walkOf, counted}
 use Rattle.der.proofs.Laws.{walk-long, walk-fault, walk-passed, walk-left}
 use Rattle.der.proofs.Bounds.{counted-within}
 use Rattle.der.proofs.walking.walk.Statement.{statement}
@@ -19,48 +19,32 @@ limited s e = (sym e, subst (λ w. counted w ≤ 4096) e (counted-within paper s
 returns : tie.Need-returns
 returns c = limited (c .before .before .args .item .now) (walk-long paper _ (c .if1 .taken))
 
--- src/walking.rt:37:9
-outermost-requires : tie.Need-outermost-requires
-outermost-requires c κs = search needs
-
--- src/walking.rt:39:9
 returns-2 : tie.Need-returns-2
-returns-2 c = limited (c .before .before .before .before .args .item .now) (walk-passed paper _ (c .before .before .if1 .left) (sym (c .before .outermost .ensures (c .if2 .taken) (2 * length (c .before .before .before .before .args .item .now) + 2) (omega arith))) refl)
+returns-2 c =
+    let asked = c .before .before .before in
+    let item = asked .before .before .before .args .item .now in
+    limited item (walk-fault paper item (asked .before .if1 .left) (sym (asked .element .ensures (2 * length item + 2) (omega arith)) ∙ c .before .refusal .given .1))
 
--- src/walking.rt:41:11
-element-requires : tie.Need-element-requires
-element-requires c κs = search needs
-
--- src/walking.rt:42:21
-enum-known-refusal : tie.Need-enum-known-refusal
-enum-known-refusal c = search needs
-
--- src/walking.rt:43:22
-enum-known-used : tie.Need-enum-known-used
-enum-known-used c = search needs
-
--- src/walking.rt:30:1
 returns-3 : tie.Need-returns-3
-returns-3 c = limited (c .before .before .before .before .before .before .before .before .args .item .now) (walk-fault paper _ (c .before .before .before .before .before .before .if1 .left) (sym (c .before .before .before .element .ensures (2 * length (c .before .before .before .before .before .before .before .before .args .item .now) + 2) (omega arith)) ∙ c .before .refusal .given .1))
+returns-3 c =
+    let asked = c .before .before .before .before in
+    let item = asked .before .before .before .args .item .now in
+    limited item (walk-passed paper item (asked .before .if1 .left) (sym (asked .element .ensures (2 * length item + 2) (omega arith)) ∙ c .before .before .used .given .1) (c .if2 .taken))
 
--- src/walking.rt:30:1
 returns-4 : tie.Need-returns-4
-returns-4 c = limited (c .before .before .before .before .before .before .before .before .before .args .item .now) (walk-passed paper _ (c .before .before .before .before .before .before .before .if1 .left) (sym (c .before .before .before .before .element .ensures (2 * length (c .before .before .before .before .before .before .before .before .before .args .item .now) + 2) (omega arith)) ∙ c .before .before .used .given .1) (c .if3 .taken))
-
--- src/walking.rt:30:1
-returns-5 : tie.Need-returns-5
-returns-5 c = limited (c .before .before .before .before .before .before .before .before .before .args .item .now) (walk-left paper _ (c .before .before .before .before .before .before .before .if1 .left) (sym (c .before .before .before .before .element .ensures (2 * length (c .before .before .before .before .before .before .before .before .before .args .item .now) + 2) (omega arith)) ∙ c .before .before .used .given .1) (c .if3 .left))
+returns-4 c =
+    let asked = c .before .before .before .before in
+    let item = asked .before .before .before .args .item .now in
+    limited item (walk-left paper item (asked .before .if1 .left) (sym (asked .element .ensures (2 * length item + 2) (omega arith)) ∙ c .before .before .used .given .1) (c .if2 .left))
 
 pub walk-spec : {M : Type 1} → statement M
 walk-spec =
     tie.close
     (tie.spec
     returns
-    outermost-requires
+    (λ c κs. search needs)
+    (λ c. search needs)
+    (λ c. search needs)
     returns-2
-    element-requires
-    enum-known-refusal
-    enum-known-used
     returns-3
-    returns-4
-    returns-5)
+    returns-4)

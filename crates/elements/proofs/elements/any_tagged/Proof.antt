@@ -7,21 +7,9 @@ use Rattle.elements.proofs.Tags.{found-other}
 use Rattle.elements.proofs.elements.any_tagged.Statement.{statement}
 use Rattle.elements.proofs.elements.any_tagged.Tie as tie
 
-shared-slice-read-if2 : tie.Need-shared-slice-read-if2
-shared-slice-read-if2 c = search needs
-
 returns : tie.Need-returns
 unfolding foundTagged
 returns c = sym (found-other _ _ _ _ (c .if2 .taken))
-
-element-at-requires : tie.Need-element-at-requires
-element-at-requires c κs = search needs
-
-enum-known-e : tie.Need-enum-known-e
-enum-known-e c = search needs
-
-enum-told : tie.Need-enum-told
-enum-told c = search needs
 
 returns-2 : tie.Need-returns-2
 unfolding foundTagged
@@ -29,21 +17,25 @@ returns-2 c = sym (tag-missing _ (sym (c .before .before .element-at .ensures) �
 
 returns-3 : tie.Need-returns-3
 unfolding foundTagged
-returns-3 c = sym (tag-kept _ (sym (c .before .before .before .before .before .element-at .ensures) ∙ c .before .before .before .e .given .1) (c .if3 .taken))
+returns-3 c =
+    let back4 = c .before .before .before .before in
+    sym (tag-kept _ (sym (back4 .before .element-at .ensures) ∙ c .before .before .before .e .given .1) (c .if3 .taken))
 
 returns-4 : tie.Need-returns-4
 unfolding foundTagged
-returns-4 c = sym (tag-other _ (sym (c .before .before .before .before .before .element-at .ensures) ∙ c .before .before .before .e .given .1) (c .if3 .left))
+returns-4 c =
+    let back4 = c .before .before .before .before in
+    sym (tag-other _ (sym (back4 .before .element-at .ensures) ∙ c .before .before .before .e .given .1) (c .if3 .left))
 
 pub any-tagged-spec : {M : Type 1} → statement M
 any-tagged-spec =
     tie.close
     (tie.spec
-    shared-slice-read-if2
+    (λ c. search needs)
     returns
-    element-at-requires
-    enum-known-e
-    enum-told
+    (λ c κs. search needs)
+    (λ c. search needs)
+    (λ c. search needs)
     returns-2
     returns-3
     returns-4)

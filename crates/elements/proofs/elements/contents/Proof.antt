@@ -1,15 +1,15 @@
--- The contents are the stretch from the offset of the contents to the end.
+-- The contents are the part from their first octet to the end.
+use mathlib.Core.Path.{_∙_, ap}
 use borrow.Author.Needs.{needs}
+use lib.ListN.{take, drop}
+use Prim.Native.Nat.{ℕ}
 use Rattle.elements.specs.Elements.{contentsOf}
 use Rattle.elements.proofs.elements.contents.Statement.{statement}
 use Rattle.elements.proofs.elements.contents.Tie as tie
 
-stretch-requires : tie.Need-stretch-requires
-stretch-requires c κs = search needs
-
 returns : tie.Need-returns
 unfolding contentsOf
-returns c = c .stretch .ensures
+returns c = rw (← c .before .between .ensures) (c .part .ensures)
 
 pub contents-spec : {M : Type 1} → statement M
-contents-spec = tie.close (tie.spec stretch-requires returns)
+contents-spec = tie.close (tie.spec (λ c κs. search needs) (λ c κs. search needs) returns)

@@ -5,15 +5,6 @@ use Rattle.elements.specs.Elements.{stepped, foundAt}
 use Rattle.elements.proofs.elements.element_at.Statement.{statement}
 use Rattle.elements.proofs.elements.element_at.Tie as tie
 
-member-requires : tie.Need-member-requires
-member-requires c κs = search needs
-
-enum-known-tag : tie.Need-enum-known-tag
-enum-known-tag c = search needs
-
-enum-told : tie.Need-enum-told
-enum-told c = search needs
-
 returns : tie.Need-returns
 unfolding foundAt stepped
 returns c = rw (sym (c .before .before .before .member .ensures) ∙ c .before .tag .given .1)
@@ -23,4 +14,4 @@ unfolding foundAt stepped
 returns-2 c = rw (sym (c .before .before .member .ensures) ∙ c .enum-told .given .1)
 
 pub element-at-spec : {M : Type 1} → statement M
-element-at-spec = tie.close (tie.spec member-requires enum-known-tag enum-told returns returns-2)
+element-at-spec = tie.close (tie.spec (λ c κs. search needs) (λ c. search needs) (λ c. search needs) returns returns-2)

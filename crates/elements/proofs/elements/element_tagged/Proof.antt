@@ -8,12 +8,6 @@ use Rattle.elements.proofs.Shorts.{short-found, short-within}
 use Rattle.elements.proofs.elements.element_tagged.Statement.{statement}
 use Rattle.elements.proofs.elements.element_tagged.Tie as tie
 
-short-end-requires : tie.Need-short-end-requires
-short-end-requires c κs = search needs
-
-usual-requires : tie.Need-usual-requires
-usual-requires c κs = search needs
-
 add-t8 : tie.Need-add-t8
 add-t8 c = omega (arith, short-within _ _ _ _ (c .before .before .before .short-end .ensures) (c .before .before .if1 .taken))
 
@@ -21,13 +15,7 @@ returns : tie.Need-returns
 unfolding foundTagged
 returns c = sym (tag-kept _ (short-found _ _ _ _ (c .before .usual .ensures (c .if2 .taken)) (c .before .before .if1 .taken) (c .before .before .before .short-end .ensures)) refl)
 
-any-tagged-requires : tie.Need-any-tagged-requires
-any-tagged-requires c κs = search needs
-
-returns-2 : tie.Need-returns-2
-returns-2 c = search needs
-
 pub element-tagged-spec : {M : Type 1} → statement M
 element-tagged-spec =
     tie.close
-    (tie.spec short-end-requires usual-requires add-t8 returns any-tagged-requires returns-2)
+    (tie.spec (λ c κs. search needs) (λ c κs. search needs) add-t8 returns (λ c κs. search needs) (λ c. search needs))

@@ -12,38 +12,22 @@ returns c = short-outside _ _ _ _ (c .if1 .taken)
 returns-2 : tie.Need-returns-2
 returns-2 c = short-none _ _ _ _ (omega arith) (omega arith)
 
-sub-left : tie.Need-sub-left
-sub-left c = search needs
-
 returns-3 : tie.Need-returns-3
 returns-3 c = short-none _ _ _ _ (omega arith) (omega arith)
-
-shared-slice-read-if4 : tie.Need-shared-slice-read-if4
-shared-slice-read-if4 c = search needs
 
 returns-4 : tie.Need-returns-4
 returns-4 c = short-other _ _ _ _ (omega arith) (omega arith) (c .if4 .taken)
 
-add-size : tie.Need-add-size
-add-size c = search needs
-
-shared-slice-read-size : tie.Need-shared-slice-read-size
-shared-slice-read-size c = search needs
-
 cast-size : tie.Need-cast-size
-cast-size c = omega (arith, c .shared-slice-known2 .given (c .before .before .before .before .before .before .args .from + 1))
+cast-size c =
+    let back4 = c .before .before .before .before in
+    omega (arith, c .shared-slice-known2 .given (back4 .before .before .args .from + 1))
 
 returns-5 : tie.Need-returns-5
 returns-5 c = short-long _ _ _ _ (omega arith) (omega arith) (c .before .before .if4 .left) (c .if5 .taken)
 
 returns-6 : tie.Need-returns-6
 returns-6 c = short-beyond _ _ _ _ (omega arith) (omega arith) (c .before .before .before .if4 .left) (c .before .if5 .left) (omega arith)
-
-add-result : tie.Need-add-result
-add-result c = search needs
-
-add-result-2 : tie.Need-add-result-2
-add-result-2 c = search needs
 
 returns-7 : tie.Need-returns-7
 returns-7 c = short-there _ _ _ _ (omega arith) (omega arith) (c .before .before .before .if4 .left) (c .before .if5 .left) (omega arith)
@@ -54,15 +38,15 @@ short-end-spec =
     (tie.spec
     returns
     returns-2
-    sub-left
+    (λ c. search needs)
     returns-3
-    shared-slice-read-if4
+    (λ c. search needs)
     returns-4
-    add-size
-    shared-slice-read-size
+    (λ c. search needs)
+    (λ c. search needs)
     cast-size
     returns-5
     returns-6
-    add-result
-    add-result-2
+    (λ c. search needs)
+    (λ c. search needs)
     returns-7)

@@ -7,28 +7,23 @@ use borrow.Author.Needs.{needs}
 use Rattle.elements.proofs.steps.only_member.Statement.{statement}
 use Rattle.elements.proofs.steps.only_member.Tie as tie
 
-element-tagged-requires : tie.Need-element-tagged-requires
-element-tagged-requires c κs = search needs
-
-enum-known-member : tie.Need-enum-known-member
-enum-known-member c = search needs
-
-enum-told : tie.Need-enum-told
-enum-told c = search needs
-
 returns : tie.Need-returns
 unfolding onlyOf
 returns c = on-missing _ (sym (c .before .before .element-tagged .ensures) ∙ c .enum-told .given .1)
 
 returns-2 : tie.Need-returns-2
 unfolding onlyOf
-returns-2 c = on-found _ _ (sym (c .before .before .before .before .before .before .element-tagged .ensures) ∙ c .before .before .before .before .member .given .1) (simp (eq-eqb _ _ (c .if1 .taken)))
+returns-2 c =
+    let back4 = c .before .before .before .before in
+    on-found _ _ (sym (back4 .before .before .element-tagged .ensures) ∙ c .before .before .before .before .member .given .1) (simp (eq-eqb _ _ (c .if1 .taken)))
 
 returns-3 : tie.Need-returns-3
 unfolding onlyOf
-returns-3 c = on-found _ _ (sym (c .before .before .before .before .before .before .element-tagged .ensures) ∙ c .before .before .before .before .member .given .1) (simp (ne-eqb _ _ (c .if1 .left)))
+returns-3 c =
+    let back4 = c .before .before .before .before in
+    on-found _ _ (sym (back4 .before .before .element-tagged .ensures) ∙ c .before .before .before .before .member .given .1) (simp (ne-eqb _ _ (c .if1 .left)))
 
 pub only-member-spec : {M : Type 1} → statement M
 only-member-spec =
     tie.close
-    (tie.spec element-tagged-requires enum-known-member enum-told returns returns-2 returns-3)
+    (tie.spec (λ c κs. search needs) (λ c. search needs) (λ c. search needs) returns returns-2 returns-3)

@@ -6,15 +6,6 @@ use borrow.Author.Needs.{needs}
 use Rattle.elements.proofs.steps.past.Statement.{statement}
 use Rattle.elements.proofs.steps.past.Tie as tie
 
-element-tagged-requires : tie.Need-element-tagged-requires
-element-tagged-requires c κs = search needs
-
-enum-known-e : tie.Need-enum-known-e
-enum-known-e c = search needs
-
-enum-told : tie.Need-enum-told
-enum-told c = search needs
-
 returns : tie.Need-returns
 unfolding pastOf
 returns c = on-missing _ (sym (c .before .before .element-tagged .ensures) ∙ c .enum-told .given .1)
@@ -24,4 +15,4 @@ unfolding pastOf
 returns-2 c = on-found _ _ (sym (c .before .before .before .element-tagged .ensures) ∙ c .before .e .given .1) refl
 
 pub past-spec : {M : Type 1} → statement M
-past-spec = tie.close (tie.spec element-tagged-requires enum-known-e enum-told returns returns-2)
+past-spec = tie.close (tie.spec (λ c κs. search needs) (λ c. search needs) (λ c. search needs) returns returns-2)

@@ -7,37 +7,24 @@ use Rattle.extensions.proofs.Places.{place-none, place-one}
 use Rattle.extensions.proofs.finding.lookup.Statement.{statement}
 use Rattle.extensions.proofs.finding.lookup.Tie as tie
 
-place-of-requires : tie.Need-place-of-requires
-place-of-requires c κs = search needs
-
-element-at-requires : tie.Need-element-at-requires
-element-at-requires c κs = search needs
-
-enum-known-e : tie.Need-enum-known-e
-enum-known-e c = search needs
-
-enum-told : tie.Need-enum-told
-enum-told c = search needs
-
 returns : tie.Need-returns
 unfolding lookupOf inside
 returns c = place-none _ _ _ _ (c .before .before .before .place-of .ensures) (sym (c .before .before .element-at .ensures) ∙ c .enum-told .given .1)
 
-any-extension-requires : tie.Need-any-extension-requires
-any-extension-requires c κs = search needs
-
 returns-2 : tie.Need-returns-2
 unfolding lookupOf inside
-returns-2 c = c .any-extension .ensures ∙ place-one _ _ _ _ (c .before .before .before .before .before .place-of .ensures) (sym (c .before .before .before .before .element-at .ensures) ∙ c .before .before .e .given .1)
+returns-2 c =
+    let back4 = c .before .before .before .before in
+    c .any-extension .ensures ∙ place-one _ _ _ _ (back4 .before .place-of .ensures) (sym (c .before .before .before .before .element-at .ensures) ∙ c .before .before .e .given .1)
 
 pub lookup-spec : {M : Type 1} → statement M
 lookup-spec =
     tie.close
     (tie.spec
-    place-of-requires
-    element-at-requires
-    enum-known-e
-    enum-told
+    (λ c κs. search needs)
+    (λ c κs. search needs)
+    (λ c. search needs)
+    (λ c. search needs)
     returns
-    any-extension-requires
+    (λ c κs. search needs)
     returns-2)

@@ -18,27 +18,16 @@ abbrev μ-loop : tie.MeasureT-loop
 loop-holds : tie.Need-loop-holds Inv-loop μ-loop
 loop-holds c = refl
 
-element-at-requires : tie.Need-element-at-requires Inv-loop μ-loop
-element-at-requires c κs = search needs
-
-enum-known-e : tie.Need-enum-known-e Inv-loop μ-loop
-enum-known-e c = search needs
-
-enum-told : tie.Need-enum-told Inv-loop μ-loop
-enum-told c = search needs
-
-any-extension-requires : tie.Need-any-extension-requires Inv-loop μ-loop
-any-extension-requires c κs = search needs
-
-has-oid-requires : tie.Need-has-oid-requires Inv-loop μ-loop
-has-oid-requires c κs = search needs
-
 loop-less : tie.Need-loop-less Inv-loop μ-loop
-loop-less c = omega (arith, found-within _ _ _ (sym (c .before .before .before .before .before .before .element-at .ensures) ∙ c .before .before .before .before .e .given .1))
+loop-less c =
+    let back4 = c .before .before .before .before in
+    omega (arith, found-within _ _ _ (sym (back4 .before .before .element-at .ensures) ∙ c .before .before .before .before .e .given .1))
 
 loop-again : tie.Need-loop-again Inv-loop μ-loop
 unfolding placeIn
-loop-again c = c .before .before .before .before .before .before .before .loop .inv ∙ rw (members-more _ _ _ (sym (c .before .before .before .before .before .before .element-at .ensures) ∙ c .before .before .before .before .e .given .1), ← c .before .before .any-extension .ensures, ← c .before .has-oid .ensures, c .if1 .left)
+loop-again c =
+    let back4 = c .before .before .before .before in
+    back4 .before .before .before .loop .inv ∙ rw (members-more _ _ _ (sym (back4 .before .before .element-at .ensures) ∙ c .before .before .before .before .e .given .1), ← c .before .before .any-extension .ensures, ← c .before .has-oid .ensures, c .if1 .left)
 
 returns : tie.Need-returns Inv-loop μ-loop
 unfolding placeIn
@@ -46,7 +35,9 @@ returns c = sym (c .before .before .before .loop .inv ∙ rw (members-none _ _ _
 
 returns-2 : tie.Need-returns-2 Inv-loop μ-loop
 unfolding placeIn
-returns-2 c = sym (c .before .before .before .before .before .before .before .loop .inv ∙ rw (members-more _ _ _ (sym (c .before .before .before .before .before .before .element-at .ensures) ∙ c .before .before .before .before .e .given .1), ← c .before .before .any-extension .ensures, ← c .before .has-oid .ensures, c .if1 .taken) (found-within _ _ _ (sym (c .before .before .before .before .before .before .element-at .ensures) ∙ c .before .before .before .before .e .given .1) .0))
+returns-2 c =
+    let back4 = c .before .before .before .before in
+    sym (back4 .before .before .before .loop .inv ∙ rw (members-more _ _ _ (sym (back4 .before .before .element-at .ensures) ∙ c .before .before .before .before .e .given .1), ← c .before .before .any-extension .ensures, ← c .before .has-oid .ensures, c .if1 .taken) (found-within _ _ _ (sym (back4 .before .before .element-at .ensures) ∙ c .before .before .before .before .e .given .1) .0))
 
 pub place-of-spec : {M : Type 1} → statement M
 place-of-spec =
@@ -55,11 +46,11 @@ place-of-spec =
     Inv-loop
     μ-loop
     loop-holds
-    element-at-requires
-    enum-known-e
-    enum-told
-    any-extension-requires
-    has-oid-requires
+    (λ c κs. search needs)
+    (λ c. search needs)
+    (λ c. search needs)
+    (λ c κs. search needs)
+    (λ c κs. search needs)
     loop-less
     loop-again
     returns

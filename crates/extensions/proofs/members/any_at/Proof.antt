@@ -5,20 +5,8 @@ use borrow.Author.Needs.{needs}
 use Rattle.extensions.proofs.members.any_at.Statement.{statement}
 use Rattle.extensions.proofs.members.any_at.Tie as tie
 
-element-at-requires : tie.Need-element-at-requires
-element-at-requires c κs = search needs
-
-enum-known-e : tie.Need-enum-known-e
-enum-known-e c = search needs
-
-enum-told : tie.Need-enum-told
-enum-told c = search needs
-
 returns : tie.Need-returns
 returns c = record { some = λ z. absurd (false≢true z); none = λ z. sym (c .before .before .element-at .ensures) ∙ c .enum-told .given .1 }
-
-any-extension-requires : tie.Need-any-extension-requires
-any-extension-requires c κs = search needs
 
 returns-2 : tie.Need-returns-2
 returns-2 c = record { some = λ z. record { e = _; found = sym (c .before .before .before .before .element-at .ensures) ∙ c .before .before .e .given .1; ends = refl; is = c .any-extension .ensures }; none = λ z. absurd (true≢false z) }
@@ -26,4 +14,4 @@ returns-2 c = record { some = λ z. record { e = _; found = sym (c .before .befo
 pub any-at-spec : {M : Type 1} → statement M
 any-at-spec =
     tie.close
-    (tie.spec element-at-requires enum-known-e enum-told returns any-extension-requires returns-2)
+    (tie.spec (λ c κs. search needs) (λ c. search needs) (λ c. search needs) returns (λ c κs. search needs) returns-2)

@@ -12,78 +12,65 @@ returns : tie.Need-returns
 unfolding extensionOf
 returns c = rw (ne-eqb _ _ (c .if1 .taken))
 
-element-tagged-requires : tie.Need-element-tagged-requires
-element-tagged-requires c κs = search needs
-
-enum-known-oid : tie.Need-enum-known-oid
-enum-known-oid c = search needs
-
-enum-told : tie.Need-enum-told
-enum-told c = search needs
-
 returns-2 : tie.Need-returns-2
 unfolding extensionOf
 returns-2 c = rw (eq-eqb _ _ (c .before .before .before .if1 .left)) (on-missing _ (sym (c .before .before .element-tagged .ensures) ∙ c .enum-told .given .1))
 
-element-at-requires : tie.Need-element-at-requires
-element-at-requires c κs = search needs
-
-enum-known-next : tie.Need-enum-known-next
-enum-known-next c = search needs
-
-enum-told-2 : tie.Need-enum-told-2
-enum-told-2 c = search needs
-
 returns-3 : tie.Need-returns-3
 unfolding extensionOf
-returns-3 c = rw (eq-eqb _ _ (c .before .before .before .before .before .before .before .if1 .left)) (on-found _ _ (sym (c .before .before .before .before .before .before .element-tagged .ensures) ∙ c .before .before .before .before .oid .given .1) (on-missing _ (sym (c .before .before .element-at .ensures) ∙ c .enum-told2 .given .1)))
-
-holding-requires : tie.Need-holding-requires
-holding-requires c κs = search needs
+returns-3 c =
+    let back4 = c .before .before .before .before in
+    rw (eq-eqb _ _ (back4 .before .before .before .if1 .left)) (on-found _ _ (sym (back4 .before .before .element-tagged .ensures) ∙ c .before .before .before .before .oid .given .1) (on-missing _ (sym (c .before .before .element-at .ensures) ∙ c .enum-told2 .given .1)))
 
 returns-4 : tie.Need-returns-4
 unfolding extensionOf
-returns-4 c = rw (eq-eqb _ _ (c .before .before .before .before .before .before .before .before .before .before .before .if1 .left)) (on-found _ _ (sym (c .before .before .before .before .before .before .before .before .before .before .element-tagged .ensures) ∙ c .before .before .before .before .before .before .before .before .oid .given .1) (on-found _ _ (sym (c .before .before .before .before .before .before .element-at .ensures) ∙ c .before .before .before .before .next .given .1) (rw (ne-eqb _ _ (c .before .if2 .taken)) (c .holding .ensures))))
+returns-4 c =
+    let back4 = c .before .before .before .before in
+    let back8 = back4 .before .before .before .before in
+    rw (eq-eqb _ _ (back8 .before .before .before .if1 .left)) (on-found _ _ (sym (back8 .before .before .element-tagged .ensures) ∙ back8 .oid .given .1) (on-found _ _ (sym (back4 .before .before .element-at .ensures) ∙ c .before .before .before .before .next .given .1) (rw (ne-eqb _ _ (c .before .if2 .taken)) (c .holding .ensures))))
 
 returns-5 : tie.Need-returns-5
 unfolding extensionOf
-returns-5 c = rw (eq-eqb _ _ (c .before .before .before .before .before .before .before .before .before .before .before .if1 .left)) (on-found _ _ (sym (c .before .before .before .before .before .before .before .before .before .before .element-tagged .ensures) ∙ c .before .before .before .before .before .before .before .before .oid .given .1) (on-found _ _ (sym (c .before .before .before .before .before .before .element-at .ensures) ∙ c .before .before .before .before .next .given .1) (rw (eq-eqb _ _ (c .before .if2 .left), List·getD-eq-default (c .before .before .before .before .before .before .before .before .before .before .before .before .before .before .args .item .now) 0 (c .if3 .taken)))))
-
-shared-slice-read-if4 : tie.Need-shared-slice-read-if4
-shared-slice-read-if4 c = search needs
+returns-5 c =
+    let back4 = c .before .before .before .before in
+    let back8 = back4 .before .before .before .before in
+    let back12 = back8 .before .before .before .before in
+    rw (eq-eqb _ _ (back8 .before .before .before .if1 .left)) (on-found _ _ (sym (back8 .before .before .element-tagged .ensures) ∙ back8 .oid .given .1) (on-found _ _ (sym (back4 .before .before .element-at .ensures) ∙ c .before .before .before .before .next .given .1) (rw (eq-eqb _ _ (c .before .if2 .left), List·getD-eq-default (back12 .before .before .args .item .now) 0 (c .if3 .taken)))))
 
 returns-6 : tie.Need-returns-6
 unfolding extensionOf
-returns-6 c = rw (eq-eqb _ _ (c .before .before .before .before .before .before .before .before .before .before .before .before .before .if1 .left)) (on-found _ _ (sym (c .before .before .before .before .before .before .before .before .before .before .before .before .element-tagged .ensures) ∙ c .before .before .before .before .before .before .before .before .before .before .oid .given .1) (on-found _ _ (sym (c .before .before .before .before .before .before .before .before .element-at .ensures) ∙ c .before .before .before .before .before .before .next .given .1) (rw (eq-eqb _ _ (c .before .before .before .if2 .left), ne-eqb _ _ (c .if4 .taken)))))
-
-element-at-requires-2 : tie.Need-element-at-requires-2
-element-at-requires-2 c κs = search needs
-
-holding-requires-2 : tie.Need-holding-requires-2
-holding-requires-2 c κs = search needs
+returns-6 c =
+    let back4 = c .before .before .before .before in
+    let back8 = back4 .before .before .before .before in
+    let back12 = back8 .before .before .before .before in
+    rw (eq-eqb _ _ (back12 .before .if1 .left)) (on-found _ _ (sym (back12 .element-tagged .ensures) ∙ back8 .before .before .oid .given .1) (on-found _ _ (sym (back8 .element-at .ensures) ∙ back4 .before .before .next .given .1) (rw (eq-eqb _ _ (c .before .before .before .if2 .left), ne-eqb _ _ (c .if4 .taken)))))
 
 returns-7 : tie.Need-returns-7
 unfolding extensionOf
-returns-7 c = rw (eq-eqb _ _ (c .before .before .before .before .before .before .before .before .before .before .before .before .before .before .before .if1 .left)) (on-found _ _ (sym (c .before .before .before .before .before .before .before .before .before .before .before .before .before .before .element-tagged .ensures) ∙ c .before .before .before .before .before .before .before .before .before .before .before .before .oid .given .1) (on-found _ _ (sym (c .before .before .before .before .before .before .before .before .before .before .element-at .ensures) ∙ c .before .before .before .before .before .before .before .before .next .given .1) (rw (eq-eqb _ _ (c .before .before .before .before .before .if2 .left), eq-eqb _ _ (c .before .before .if4 .left), ← c .before .element-at2 .ensures) (c .holding2 .ensures))))
+returns-7 c =
+    let back4 = c .before .before .before .before in
+    let back8 = back4 .before .before .before .before in
+    let back12 = back8 .before .before .before .before in
+    rw (eq-eqb _ _ (back12 .before .before .before .if1 .left)) (on-found _ _ (sym (back12 .before .before .element-tagged .ensures) ∙ back12 .oid .given .1) (on-found _ _ (sym (back8 .before .before .element-at .ensures) ∙ back8 .next .given .1) (rw (eq-eqb _ _ (back4 .before .if2 .left), eq-eqb _ _ (c .before .before .if4 .left), ← c .before .element-at2 .ensures) (c .holding2 .ensures))))
 
 pub any-extension-spec : {M : Type 1} → statement M
 any-extension-spec =
     tie.close
     (tie.spec
     returns
-    element-tagged-requires
-    enum-known-oid
-    enum-told
+    (λ c κs. search needs)
+    (λ c. search needs)
+    (λ c. search needs)
     returns-2
-    element-at-requires
-    enum-known-next
-    enum-told-2
+    (λ c κs. search needs)
+    (λ c. search needs)
+    (λ c. search needs)
     returns-3
-    holding-requires
+    (λ c κs. search needs)
     returns-4
     returns-5
-    shared-slice-read-if4
+    (λ c. search needs)
     returns-6
-    element-at-requires-2
-    holding-requires-2
+    (λ c κs. search needs)
+    (λ c κs. search needs)
     returns-7)

@@ -6,12 +6,6 @@ use Rattle.elements.proofs.Members.{on-missing, on-found, tag-missing, tag-kept
 use Rattle.extensions.proofs.shape.holding.Statement.{statement}
 use Rattle.extensions.proofs.shape.holding.Tie as tie
 
-enum-known-next : tie.Need-enum-known-next
-enum-known-next c = search needs
-
-enum-told : tie.Need-enum-told
-enum-told c = search needs
-
 returns : tie.Need-returns
 unfolding holdingOf
 returns c = on-missing _ (tag-missing _ (c .enum-told .given .1))
@@ -22,11 +16,15 @@ returns-2 c = on-missing _ (tag-other _ (c .before .before .before .next .given 
 
 returns-3 : tie.Need-returns-3
 unfolding holdingOf
-returns-3 c = on-found _ _ (tag-kept _ (c .before .before .before .before .before .before .next .given .1) (c .before .before .before .if1 .left)) (rw (eq-eqb _ _ (c .if2 .taken)))
+returns-3 c =
+    let back4 = c .before .before .before .before in
+    on-found _ _ (tag-kept _ (back4 .before .before .next .given .1) (c .before .before .before .if1 .left)) (rw (eq-eqb _ _ (c .if2 .taken)))
 
 returns-4 : tie.Need-returns-4
 unfolding holdingOf
-returns-4 c = on-found _ _ (tag-kept _ (c .before .before .before .before .before .before .next .given .1) (c .before .before .before .if1 .left)) (rw (ne-eqb _ _ (c .if2 .left)))
+returns-4 c =
+    let back4 = c .before .before .before .before in
+    on-found _ _ (tag-kept _ (back4 .before .before .next .given .1) (c .before .before .before .if1 .left)) (rw (ne-eqb _ _ (c .if2 .left)))
 
 pub holding-spec : {M : Type 1} → statement M
-holding-spec = tie.close (tie.spec enum-known-next enum-told returns returns-2 returns-3 returns-4)
+holding-spec = tie.close (tie.spec (λ c. search needs) (λ c. search needs) returns returns-2 returns-3 returns-4)

@@ -17,11 +17,8 @@ returns-3 c = (omega arith, λ k l. unslotted _ k l λ e. omega (arith, c .if3 .
 returns-4 : tie.Need-returns-4
 returns-4 c = (omega arith, λ k l. unslotted _ k l λ e. omega (arith, c .if4 .taken, three-slot _ _ _ k e))
 
-sub-result : tie.Need-sub-result
-sub-result c = search needs
-
 returns-5 : tie.Need-returns-5
 returns-5 c = (omega arith, λ k l. slot-three _ _ _ k (c .before .before .before .if1 .left) (c .before .before .if2 .left) (c .before .if3 .left) (c .if4 .left))
 
 pub slot-by-spec : {M : Type 1} → statement M
-slot-by-spec = tie.close (tie.spec returns returns-2 returns-3 returns-4 sub-result returns-5)
+slot-by-spec = tie.close (tie.spec returns returns-2 returns-3 returns-4 (λ c. search needs) returns-5)

@@ -2,71 +2,65 @@
 use mathlib.Core.Path.{_≡_, sym, ap, _∙_}
 use native.Mathlib.Omega.{arith}
 use borrow.Author.Tests.{ne-eqb}
-use Rattle.elements.specs.Octets.{alike}
+use Rattle.octets.specs.Alike.{alike}
 use Rattle.extensions.specs.Extensions.{present, hasOid, oidOf}
-use Rattle.elements.proofs.Likeness.{three}
+use Rattle.octets.proofs.Likeness.{three}
 use Rattle.extensions.proofs.Slots.{slot-types, slot-none}
 use borrow.Author.Needs.{needs}
 use Rattle.extensions.proofs.slot.slot_of.Statement.{statement}
 use Rattle.extensions.proofs.slot.slot_of.Tie as tie
 
-enum-known-extension : tie.Need-enum-known-extension
-enum-known-extension c = search needs
-
-enum-told : tie.Need-enum-told
-enum-told c = search needs
-
 returns : tie.Need-returns
 unfolding hasOid present
 returns c = record { there = rw (c .enum-told .given .1); each = λ k l. rw (c .enum-told .given .1) (ne-eqb 24 k (λ (q : 24 ≡ k). omega arith)) }
 
-contents-requires : tie.Need-contents-requires
-contents-requires c κs = search needs
-
-shared-slice-read-slot-by : tie.Need-shared-slice-read-slot-by
-shared-slice-read-slot-by c = search needs
-
-shared-slice-read-slot-by-2 : tie.Need-shared-slice-read-slot-by-2
-shared-slice-read-slot-by-2 c = search needs
-
-shared-slice-read-slot-by-3 : tie.Need-shared-slice-read-slot-by-3
-shared-slice-read-slot-by-3 c = search needs
-
-slot-by-requires : tie.Need-slot-by-requires
-slot-by-requires c κs = search needs
-
 returns-2 : tie.Need-returns-2
 unfolding hasOid present
-returns-2 c = record { there = rw (c .before .before .before .before .before .before .before .extension .given .1, ne-eqb (c .slot-by .result) 24 (λ q. omega (arith, c .slot-by .ensures .0))); each = λ k l. c .slot-by .ensures .1 k l ∙ (ap (λ o. alike o (oidOf k)) (sym (three _ (c .before .before .before .before .if1 .taken)) ∙ c .before .before .before .before .before .contents .ensures) ∙ rw (c .before .before .before .before .before .before .before .extension .given .1)) }
-
-slice-aggregate-same : tie.Need-slice-aggregate-same
-slice-aggregate-same c = search needs
-
-same-requires : tie.Need-same-requires
-same-requires c κs = search needs
+returns-2 c =
+    let back4 = c .before .before .before .before in
+    record {
+      there = rw (back4 .before .before .before .extension .given .1, ne-eqb (c .slot-by .result) 24 (λ q. omega (arith, c .slot-by .ensures .0)));
+      each =
+          let back4 = c .before .before .before .before in
+          λ k l. c .slot-by .ensures .1 k l ∙ (ap (λ o. alike o (oidOf k)) (sym (three _ (c .before .before .before .before .if1 .taken)) ∙ back4 .before .contents .ensures) ∙ rw (back4 .before .before .before .extension .given .1));
+    }
 
 returns-3 : tie.Need-returns-3
 unfolding hasOid present
-returns-3 c = record { there = rw (c .before .before .before .before .before .before .extension .given .1); each = λ k l. slot-types _ k l (sym (c .before .same .ensures) ∙ c .if2 .taken) ∙ rw (c .before .before .before .before .contents .ensures, c .before .before .before .before .before .before .extension .given .1) }
+returns-3 c =
+    let back4 = c .before .before .before .before in
+    record {
+      there = rw (back4 .before .before .extension .given .1);
+      each =
+          let back4 = c .before .before .before .before in
+          λ k l. slot-types _ k l (sym (c .before .same .ensures) ∙ c .if2 .taken) ∙ rw (c .before .before .before .before .contents .ensures, back4 .before .before .extension .given .1);
+    }
 
 returns-4 : tie.Need-returns-4
 unfolding hasOid present
-returns-4 c = record { there = rw (c .before .before .before .before .before .before .extension .given .1); each = λ k l. slot-none _ k l (c .before .before .before .if1 .left) (sym (c .before .same .ensures) ∙ c .if2 .left) ∙ rw (c .before .before .before .before .contents .ensures, c .before .before .before .before .before .before .extension .given .1) }
+returns-4 c =
+    let back4 = c .before .before .before .before in
+    record {
+      there = rw (back4 .before .before .extension .given .1);
+      each =
+          let back4 = c .before .before .before .before in
+          λ k l. slot-none _ k l (c .before .before .before .if1 .left) (sym (c .before .same .ensures) ∙ c .if2 .left) ∙ rw (c .before .before .before .before .contents .ensures, back4 .before .before .extension .given .1);
+    }
 
 pub slot-of-spec : {M : Type 1} → statement M
 slot-of-spec =
     tie.close
     (tie.spec
-    enum-known-extension
-    enum-told
+    (λ c. search needs)
+    (λ c. search needs)
     returns
-    contents-requires
-    shared-slice-read-slot-by
-    shared-slice-read-slot-by-2
-    shared-slice-read-slot-by-3
-    slot-by-requires
+    (λ c κs. search needs)
+    (λ c. search needs)
+    (λ c. search needs)
+    (λ c. search needs)
+    (λ c κs. search needs)
     returns-2
-    slice-aggregate-same
-    same-requires
+    (λ c. search needs)
+    (λ c κs. search needs)
     returns-3
     returns-4)

@@ -6,12 +6,6 @@ use Rattle.extensions.specs.Extensions.{refusedCritical}
 use Rattle.extensions.proofs.told.is_critical.Statement.{statement}
 use Rattle.extensions.proofs.told.is_critical.Tie as tie
 
-enum-known-extension : tie.Need-enum-known-extension
-enum-known-extension c = search needs
-
-enum-told : tie.Need-enum-told
-enum-told c = search needs
-
 returns : tie.Need-returns
 unfolding refusedCritical
 returns c = λ s. rw (c .enum-told .given .1)
@@ -22,4 +16,4 @@ returns-2 c = λ s. rw (c .before .extension .given .1) (sym (and-true _))
 
 pub is-critical-spec : {M : Type 1} → statement M
 is-critical-spec =
-    tie.close (tie.spec enum-known-extension enum-told returns returns-2)
+    tie.close (tie.spec (λ c. search needs) (λ c. search needs) returns returns-2)

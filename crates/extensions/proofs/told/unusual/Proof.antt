@@ -8,12 +8,6 @@ use Rattle.extensions.proofs.Slots.{harsh-slot}
 use Rattle.extensions.proofs.told.unusual.Statement.{statement}
 use Rattle.extensions.proofs.told.unusual.Tie as tie
 
-enum-known-extension : tie.Need-enum-known-extension
-enum-known-extension c = search needs
-
-enum-told : tie.Need-enum-told
-enum-told c = search needs
-
 returns : tie.Need-returns
 unfolding refusedCritical
 returns c = λ s h. rw (c .enum-told .given .1)
@@ -29,4 +23,4 @@ returns-4 c = λ s h. sym (rw (c .before .before .before .extension .given .1) (
 
 pub unusual-spec : {M : Type 1} → statement M
 unusual-spec =
-    tie.close (tie.spec enum-known-extension enum-told returns returns-2 returns-3 returns-4)
+    tie.close (tie.spec (λ c. search needs) (λ c. search needs) returns returns-2 returns-3 returns-4)

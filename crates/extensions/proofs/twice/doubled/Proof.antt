@@ -25,46 +25,34 @@ abbrev μ-each : tie.MeasureT-each
 each-holds : tie.Need-each-holds Inv-loop μ-loop Inv-each μ-each
 each-holds c = (refl, refl)
 
-element-at-requires : tie.Need-element-at-requires Inv-loop μ-loop Inv-each μ-each
-element-at-requires c κs = search needs
-
-enum-known-e : tie.Need-enum-known-e Inv-loop μ-loop Inv-each μ-each
-enum-known-e c = search needs
-
-enum-told : tie.Need-enum-told Inv-loop μ-loop Inv-each μ-each
-enum-told c = search needs
-
-any-extension-requires : tie.Need-any-extension-requires Inv-loop μ-loop Inv-each μ-each
-any-extension-requires c κs = search needs
-
 loop-holds : tie.Need-loop-holds Inv-loop μ-loop Inv-each μ-each
-loop-holds c = (c .before .before .before .before .before .each .inv .0, refl)
-
-element-at-requires-2 : tie.Need-element-at-requires-2 Inv-loop μ-loop Inv-each μ-each
-element-at-requires-2 c κs = search needs
-
-enum-known-other : tie.Need-enum-known-other Inv-loop μ-loop Inv-each μ-each
-enum-known-other c = search needs
-
-enum-told-2 : tie.Need-enum-told-2 Inv-loop μ-loop Inv-each μ-each
-enum-told-2 c = search needs
-
-doubles-requires : tie.Need-doubles-requires Inv-loop μ-loop Inv-each μ-each
-doubles-requires c κs = search needs
+loop-holds c =
+    let back4 = c .before .before .before .before in
+    (back4 .before .each .inv .0, refl)
 
 loop-less : tie.Need-loop-less Inv-loop μ-loop Inv-each μ-each
-loop-less c = omega (arith, found-within _ _ _ (sym (c .before .before .before .before .before .element-at2 .ensures) ∙ c .before .before .before .other .given .1))
+loop-less c =
+    let back4 = c .before .before .before .before in
+    omega (arith, found-within _ _ _ (sym (back4 .before .element-at2 .ensures) ∙ c .before .before .before .other .given .1))
 
 loop-again : tie.Need-loop-again Inv-loop μ-loop Inv-each μ-each
 unfolding standsIn
-loop-again c = (c .before .before .before .before .before .before .loop .inv .0, c .before .before .before .before .before .before .loop .inv .1 ∙ rw (members-more _ _ _ (sym (c .before .before .before .before .before .element-at2 .ensures) ∙ c .before .before .before .other .given .1), ← c .before .doubles .ensures, c .if1 .left))
+loop-again c =
+    let back4 = c .before .before .before .before in
+    (back4 .before .before .loop .inv .0, back4 .before .before .loop .inv .1 ∙ rw (members-more _ _ _ (sym (back4 .before .element-at2 .ensures) ∙ c .before .before .before .other .given .1), ← c .before .doubles .ensures, c .if1 .left))
 
 each-less : tie.Need-each-less Inv-loop μ-loop Inv-each μ-each
-each-less c = omega (arith, found-within _ _ _ (sym (c .before .before .before .before .before .before .before .before .element-at .ensures) ∙ c .before .before .before .before .before .before .e .given .1))
+each-less c =
+    let back4 = c .before .before .before .before in
+    let back8 = back4 .before .before .before .before in
+    omega (arith, found-within _ _ _ (sym (back8 .element-at .ensures) ∙ back4 .before .before .e .given .1))
 
 each-again : tie.Need-each-again Inv-loop μ-loop Inv-each μ-each
 unfolding doubledIn standsIn
-each-again c = (c .before .before .before .loop .inv .0, c .before .before .before .before .before .before .before .before .before .each .inv .1 ∙ rw (members-more _ _ _ (sym (c .before .before .before .before .before .before .before .before .element-at .ensures) ∙ c .before .before .before .before .before .before .e .given .1), ← c .before .before .before .before .any-extension .ensures, c .before .before .before .loop .inv .1, members-none _ _ _ (sym (c .before .before .element-at2 .ensures) ∙ c .enum-told2 .given .1)))
+each-again c =
+    let back4 = c .before .before .before .before in
+    let back8 = back4 .before .before .before .before in
+    (c .before .before .before .loop .inv .0, back8 .before .each .inv .1 ∙ rw (members-more _ _ _ (sym (back8 .element-at .ensures) ∙ back4 .before .before .e .given .1), ← c .before .before .before .before .any-extension .ensures, c .before .before .before .loop .inv .1, members-none _ _ _ (sym (c .before .before .element-at2 .ensures) ∙ c .enum-told2 .given .1)))
 
 returns : tie.Need-returns Inv-loop μ-loop Inv-each μ-each
 unfolding doubledOf inside doubledIn
@@ -72,7 +60,11 @@ returns c = c .before .before .before .each .inv .0 ∙ sym (c .before .before .
 
 returns-2 : tie.Need-returns-2 Inv-loop μ-loop Inv-each μ-each
 unfolding doubledOf inside doubledIn standsIn
-returns-2 c = sym (c .before .before .before .before .before .before .before .before .before .before .before .before .each .inv .1 ∙ rw (members-more _ _ _ (sym (c .before .before .before .before .before .before .before .before .before .before .before .element-at .ensures) ∙ c .before .before .before .before .before .before .before .before .before .e .given .1), ← c .before .before .before .before .before .before .before .any-extension .ensures, c .before .before .before .before .before .before .loop .inv .1, members-more _ _ _ (sym (c .before .before .before .before .before .element-at2 .ensures) ∙ c .before .before .before .other .given .1), ← c .before .doubles .ensures, c .if1 .taken))
+returns-2 c =
+    let back4 = c .before .before .before .before in
+    let back8 = back4 .before .before .before .before in
+    let back12 = back8 .before .before .before .before in
+    sym (back12 .each .inv .1 ∙ rw (members-more _ _ _ (sym (back8 .before .before .before .element-at .ensures) ∙ back8 .before .e .given .1), ← back4 .before .before .before .any-extension .ensures, back4 .before .before .loop .inv .1, members-more _ _ _ (sym (back4 .before .element-at2 .ensures) ∙ c .before .before .before .other .given .1), ← c .before .doubles .ensures, c .if1 .taken))
 
 pub doubled-spec : {M : Type 1} → statement M
 doubled-spec =
@@ -83,15 +75,15 @@ doubled-spec =
     Inv-each
     μ-each
     each-holds
-    element-at-requires
-    enum-known-e
-    enum-told
-    any-extension-requires
+    (λ c κs. search needs)
+    (λ c. search needs)
+    (λ c. search needs)
+    (λ c κs. search needs)
     loop-holds
-    element-at-requires-2
-    enum-known-other
-    enum-told-2
-    doubles-requires
+    (λ c κs. search needs)
+    (λ c. search needs)
+    (λ c. search needs)
+    (λ c κs. search needs)
     loop-less
     loop-again
     each-less

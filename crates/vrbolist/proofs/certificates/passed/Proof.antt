@@ -3,10 +3,7 @@ use mathlib.Core.Path.{refl}
 use Rattle.vrbolist.specs.Told.{certificatePassed}
 use Rattle.vrbolist.proofs.certificates.passed.Statement.{statement}
 use Rattle.vrbolist.proofs.certificates.passed.Tie as tie
-use Rattle.vrbolist.proofs.certificates.passed.Reads as reads
-use Rattle.vrbolist.proofs.certificates.passed.Lts as lts
 
--- src/certificates.rt:58:1
 returns : tie.Need-returns
 unfolding certificatePassed
 returns c = refl

@@ -3,33 +3,11 @@ use Rattle.vrbolist.specs.Chains.{outcomeNumber, outcomeDetail, chainTol
 use borrow.Author.Needs.{needs}
 use Rattle.vrbolist.proofs.chains.chain_told.Statement.{statement}
 use Rattle.vrbolist.proofs.chains.chain_told.Tie as tie
-use Rattle.vrbolist.proofs.chains.chain_told.Reads as reads
-use Rattle.vrbolist.proofs.chains.chain_told.Lts as lts
-use Rattle.refusal.proofs.detail.Reads as detail-reads
-use Rattle.refusal.proofs.number.Reads as number-reads
 
--- src/chains.rt:33:21
-enum-told : tie.Need-enum-told
-enum-told c = search needs
-
--- src/chains.rt:36:26
-enum-known-outcome : tie.Need-enum-known-outcome
-enum-known-outcome c = search needs
-
--- src/chains.rt:37:21
-number-requires : tie.Need-number-requires
-number-requires c κs = search needs
-
--- src/chains.rt:38:21
-detail-requires : tie.Need-detail-requires
-detail-requires c κs = search needs
-
--- src/chains.rt:23:1
 returns : tie.Need-returns
 unfolding chainTold outcomeNumber outcomeDetail
 returns c = rw (c .enum-told .given .1)
 
--- src/chains.rt:23:1
 returns-2 : tie.Need-returns-2
 unfolding chainTold outcomeNumber outcomeDetail
 returns-2 c = rw (c .before .before .before .outcome .given .1, c .before .number .ensures, c .detail .ensures)
@@ -37,4 +15,4 @@ returns-2 c = rw (c .before .before .before .outcome .given .1, c .before .numbe
 pub chain-told-spec : {M : Type 1} → statement M
 chain-told-spec =
     tie.close
-    (tie.spec enum-told enum-known-outcome number-requires detail-requires returns returns-2)
+    (tie.spec (λ c. search needs) (λ c. search needs) (λ c κs. search needs) (λ c κs. search needs) returns returns-2)

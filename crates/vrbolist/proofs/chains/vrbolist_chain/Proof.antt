@@ -3,22 +3,9 @@ use Rattle.vrbolist.specs.Chains.{forwarded}
 use borrow.Author.Needs.{needs}
 use Rattle.vrbolist.proofs.chains.vrbolist_chain.Statement.{statement}
 use Rattle.vrbolist.proofs.chains.vrbolist_chain.Tie as tie
-use Rattle.vrbolist.proofs.chains.vrbolist_chain.Reads as reads
-use Rattle.vrbolist.proofs.chains.vrbolist_chain.Lts as lts
-use Rattle.chain.proofs.best_chain.Reads as best-chain-reads
-use Rattle.vrbolist.proofs.chains.chain_told.Reads as chain-told-reads
 
--- src/chains.rt:20:16
-best-chain-requires : tie.Need-best-chain-requires
-best-chain-requires c κs = search needs
-
--- src/chains.rt:20:5
-chain-told-requires : tie.Need-chain-told-requires
-chain-told-requires c κs = search needs
-
--- src/chains.rt:16:1
 returns : tie.Need-returns
 returns c = forwarded _ (c .before .best-chain .ensures) (c .chain-told .ensures)
 
 pub vrbolist-chain-spec : {M : Type 1} → statement M
-vrbolist-chain-spec = tie.close (tie.spec best-chain-requires chain-told-requires returns)
+vrbolist-chain-spec = tie.close (tie.spec (λ c κs. search needs) (λ c κs. search needs) returns)

@@ -2,22 +2,9 @@
 use borrow.Author.Needs.{needs}
 use Rattle.vrbolist.proofs.images.vrbolist_image.Statement.{statement}
 use Rattle.vrbolist.proofs.images.vrbolist_image.Tie as tie
-use Rattle.vrbolist.proofs.images.vrbolist_image.Reads as reads
-use Rattle.vrbolist.proofs.images.vrbolist_image.Lts as lts
-use Rattle.image.proofs.open.Reads as open-reads
-use Rattle.vrbolist.proofs.images.image_told.Reads as image-told-reads
 
--- src/images.rt:41:16
-open-requires : tie.Need-open-requires
-open-requires c κs = search needs
-
--- src/images.rt:41:5
-image-told-requires : tie.Need-image-told-requires
-image-told-requires c κs = search needs
-
--- src/images.rt:37:1
 returns : tie.Need-returns
 returns c = rw (c .before .«open» .ensures) at (c .image-told .ensures)
 
 pub vrbolist-image-spec : {M : Type 1} → statement M
-vrbolist-image-spec = tie.close (tie.spec open-requires image-told-requires returns)
+vrbolist-image-spec = tie.close (tie.spec (λ c κs. search needs) (λ c κs. search needs) returns)

@@ -2,22 +2,9 @@
 use borrow.Author.Needs.{needs}
 use Rattle.vrbolist.proofs.images.vrbolist_image_for_day.Statement.{statement}
 use Rattle.vrbolist.proofs.images.vrbolist_image_for_day.Tie as tie
-use Rattle.vrbolist.proofs.images.vrbolist_image_for_day.Reads as reads
-use Rattle.vrbolist.proofs.images.vrbolist_image_for_day.Lts as lts
-use Rattle.image.proofs.open_for.Reads as open-for-reads
-use Rattle.vrbolist.proofs.images.image_told.Reads as image-told-reads
 
--- src/images.rt:48:16
-open-for-requires : tie.Need-open-for-requires
-open-for-requires c κs = search needs
-
--- src/images.rt:48:5
-image-told-requires : tie.Need-image-told-requires
-image-told-requires c κs = search needs
-
--- src/images.rt:44:1
 returns : tie.Need-returns
 returns c = rw (c .before .open-for .ensures) at (c .image-told .ensures)
 
 pub vrbolist-image-for-day-spec : {M : Type 1} → statement M
-vrbolist-image-for-day-spec = tie.close (tie.spec open-for-requires image-told-requires returns)
+vrbolist-image-for-day-spec = tie.close (tie.spec (λ c κs. search needs) (λ c κs. search needs) returns)

@@ -5,33 +5,11 @@ use mir.Syntax.{w64}
 use mir.ValLaws.{toZ-ofZ}
 use Rattle.vrbolist.proofs.items.days_told.Statement.{statement}
 use Rattle.vrbolist.proofs.items.days_told.Tie as tie
-use Rattle.vrbolist.proofs.items.days_told.Reads as reads
-use Rattle.vrbolist.proofs.items.days_told.Lts as lts
-use Rattle.refusal.proofs.detail.Reads as detail-reads
-use Rattle.refusal.proofs.number.Reads as number-reads
 
--- src/items.rt:90:26
-enum-known-difference : tie.Need-enum-known-difference
-enum-known-difference c = search needs
-
--- src/items.rt:95:29
-enum-known-difference-2 : tie.Need-enum-known-difference-2
-enum-known-difference-2 c = search needs
-
--- src/items.rt:96:21
-number-requires : tie.Need-number-requires
-number-requires c κs = search needs
-
--- src/items.rt:97:21
-detail-requires : tie.Need-detail-requires
-detail-requires c κs = search needs
-
--- src/items.rt:86:1
 returns : tie.Need-returns
 unfolding daysTold
 returns c = rw (c .before .difference .given .1, toZ-ofZ w64 (c .before .difference .given .0 .0) (record { sfits = c .known-told .given .0 .1 }))
 
--- src/items.rt:86:1
 returns-2 : tie.Need-returns-2
 unfolding daysTold
 returns-2 c = rw (c .before .before .before .difference2 .given .1, c .before .number .ensures, c .detail .ensures)
@@ -40,9 +18,9 @@ pub days-told-spec : {M : Type 1} → statement M
 days-told-spec =
     tie.close
     (tie.spec
-    enum-known-difference
-    enum-known-difference-2
-    number-requires
-    detail-requires
+    (λ c. search needs)
+    (λ c. search needs)
+    (λ c κs. search needs)
+    (λ c κs. search needs)
     returns
     returns-2)

@@ -2,22 +2,9 @@
 use borrow.Author.Needs.{needs}
 use Rattle.vrbolist.proofs.items.vrbolist_crl_age.Statement.{statement}
 use Rattle.vrbolist.proofs.items.vrbolist_crl_age.Tie as tie
-use Rattle.vrbolist.proofs.items.vrbolist_crl_age.Reads as reads
-use Rattle.vrbolist.proofs.items.vrbolist_crl_age.Lts as lts
-use Rattle.crl.proofs.age.Reads as age-reads
-use Rattle.vrbolist.proofs.items.days_told.Reads as days-told-reads
 
--- src/items.rt:83:15
-age-requires : tie.Need-age-requires
-age-requires c κs = search needs
-
--- src/items.rt:83:5
-days-told-requires : tie.Need-days-told-requires
-days-told-requires c κs = search needs
-
--- src/items.rt:79:1
 returns : tie.Need-returns
 returns c = rw (c .before .age .ensures) at (c .days-told .ensures)
 
 pub vrbolist-crl-age-spec : {M : Type 1} → statement M
-vrbolist-crl-age-spec = tie.close (tie.spec age-requires days-told-requires returns)
+vrbolist-crl-age-spec = tie.close (tie.spec (λ c κs. search needs) (λ c κs. search needs) returns)

@@ -6,50 +6,25 @@ use mir.Syntax.{w64}
 use mir.ValLaws.{toZ-ofZ}
 use Rattle.vrbolist.proofs.items.vrbolist_integer.Statement.{statement}
 use Rattle.vrbolist.proofs.items.vrbolist_integer.Tie as tie
-use Rattle.vrbolist.proofs.items.vrbolist_integer.Reads as reads
-use Rattle.vrbolist.proofs.items.vrbolist_integer.Lts as lts
-use Rattle.der.proofs.integer.Reads as integer-reads
-use Rattle.refusal.proofs.detail.Reads as detail-reads
-use Rattle.refusal.proofs.number.Reads as number-reads
 
--- src/items.rt:58:11
-integer-requires : tie.Need-integer-requires
-integer-requires c κs = search needs
-
--- src/items.rt:59:23
-enum-known-value : tie.Need-enum-known-value
-enum-known-value c = search needs
-
--- src/items.rt:64:25
-enum-known-refusal : tie.Need-enum-known-refusal
-enum-known-refusal c = search needs
-
--- src/items.rt:65:21
-number-requires : tie.Need-number-requires
-number-requires c κs = search needs
-
--- src/items.rt:66:21
-detail-requires : tie.Need-detail-requires
-detail-requires c κs = search needs
-
--- src/items.rt:54:1
 returns : tie.Need-returns
 unfolding integerTold
 returns c = rw (sym (c .before .before .before .integer .ensures) ∙ c .before .value .given .1, toZ-ofZ w64 (c .before .value .given .0 .0) (record { sfits = c .known-told .given .0 .1 }))
 
--- src/items.rt:54:1
 returns-2 : tie.Need-returns-2
 unfolding integerTold
-returns-2 c = rw (sym (c .before .before .before .before .before .integer .ensures) ∙ c .before .before .before .refusal .given .1, c .before .number .ensures, c .detail .ensures)
+returns-2 c =
+    let back4 = c .before .before .before .before in
+    rw (sym (back4 .before .integer .ensures) ∙ c .before .before .before .refusal .given .1, c .before .number .ensures, c .detail .ensures)
 
 pub vrbolist-integer-spec : {M : Type 1} → statement M
 vrbolist-integer-spec =
     tie.close
     (tie.spec
-    integer-requires
-    enum-known-value
-    enum-known-refusal
-    number-requires
-    detail-requires
+    (λ c κs. search needs)
+    (λ c. search needs)
+    (λ c. search needs)
+    (λ c κs. search needs)
+    (λ c κs. search needs)
     returns
     returns-2)

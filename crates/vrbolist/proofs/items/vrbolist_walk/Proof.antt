@@ -4,50 +4,25 @@ use Rattle.vrbolist.specs.Told.{walkTold}
 use borrow.Author.Needs.{needs}
 use Rattle.vrbolist.proofs.items.vrbolist_walk.Statement.{statement}
 use Rattle.vrbolist.proofs.items.vrbolist_walk.Tie as tie
-use Rattle.vrbolist.proofs.items.vrbolist_walk.Reads as reads
-use Rattle.vrbolist.proofs.items.vrbolist_walk.Lts as lts
-use Rattle.der.proofs.walk.Reads as walk-reads
-use Rattle.refusal.proofs.detail.Reads as detail-reads
-use Rattle.refusal.proofs.number.Reads as number-reads
 
--- src/items.rt:40:11
-walk-requires : tie.Need-walk-requires
-walk-requires c κs = search needs
-
--- src/items.rt:41:26
-enum-known-count : tie.Need-enum-known-count
-enum-known-count c = search needs
-
--- src/items.rt:46:25
-enum-known-refusal : tie.Need-enum-known-refusal
-enum-known-refusal c = search needs
-
--- src/items.rt:47:21
-number-requires : tie.Need-number-requires
-number-requires c κs = search needs
-
--- src/items.rt:48:21
-detail-requires : tie.Need-detail-requires
-detail-requires c κs = search needs
-
--- src/items.rt:36:1
 returns : tie.Need-returns
 unfolding walkTold
 returns c = rw (sym (c .before .before .before .walk .ensures .0) ∙ c .before .count .given .1)
 
--- src/items.rt:36:1
 returns-2 : tie.Need-returns-2
 unfolding walkTold
-returns-2 c = rw (sym (c .before .before .before .before .before .walk .ensures .0) ∙ c .before .before .before .refusal .given .1, c .before .number .ensures, c .detail .ensures)
+returns-2 c =
+    let back4 = c .before .before .before .before in
+    rw (sym (back4 .before .walk .ensures .0) ∙ c .before .before .before .refusal .given .1, c .before .number .ensures, c .detail .ensures)
 
 pub vrbolist-walk-spec : {M : Type 1} → statement M
 vrbolist-walk-spec =
     tie.close
     (tie.spec
-    walk-requires
-    enum-known-count
-    enum-known-refusal
-    number-requires
-    detail-requires
+    (λ c κs. search needs)
+    (λ c. search needs)
+    (λ c. search needs)
+    (λ c κs. search needs)
+    (λ c κs. search needs)
     returns
     returns-2)

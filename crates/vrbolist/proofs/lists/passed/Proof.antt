@@ -3,10 +3,7 @@ use mathlib.Core.Path.{refl}
 use Rattle.vrbolist.specs.Told.{crlPassed}
 use Rattle.vrbolist.proofs.lists.passed.Statement.{statement}
 use Rattle.vrbolist.proofs.lists.passed.Tie as tie
-use Rattle.vrbolist.proofs.lists.passed.Reads as reads
-use Rattle.vrbolist.proofs.lists.passed.Lts as lts
 
--- src/lists.rt:40:1
 returns : tie.Need-returns
 unfolding crlPassed
 returns c = refl

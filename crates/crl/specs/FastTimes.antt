@@ -1,0 +1,26 @@
+-- What the fast path tells of the first eight octets of a UTCTime: they are digits, and their pairs are in ranges that every
+-- month has. No public promise cites this.
+use Prim.Native.Nat.{ℕ, _+_, _*_, _-_, _≤_}
+use mathlib.Core.List.{List}
+use lib.ListN.{getD}
+use Rattle.times.specs.Pairs.{Digit}
+
+-- the number that two digits write
+abbrev pub valueOf : ℕ → ℕ → ℕ
+valueOf a b = (a - 48) * 10 + (b - 48)
+
+-- year, month, day and hour
+pub record UsualDate (c : List ℕ) : Type 0 where
+  pub year-tens : Digit (getD c 0 0)
+  pub year-ones : Digit (getD c 1 0)
+  pub month-tens : Digit (getD c 2 0)
+  pub month-ones : Digit (getD c 3 0)
+  pub day-tens : Digit (getD c 4 0)
+  pub day-ones : Digit (getD c 5 0)
+  pub hour-tens : Digit (getD c 6 0)
+  pub hour-ones : Digit (getD c 7 0)
+  pub month-low : 1 ≤ valueOf (getD c 2 0) (getD c 3 0)
+  pub month-high : valueOf (getD c 2 0) (getD c 3 0) ≤ 12
+  pub day-low : 1 ≤ valueOf (getD c 4 0) (getD c 5 0)
+  pub day-high : valueOf (getD c 4 0) (getD c 5 0) ≤ 28
+  pub hour-high : valueOf (getD c 6 0) (getD c 7 0) ≤ 23

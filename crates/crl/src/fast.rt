@@ -1,0 +1,58 @@
+// The fast path for a UTCTime, which takes its octets eight and four at a time.
+ghost use mathlib.Core.Path.{_≡_};
+ghost use mathlib.Core.Bool.{true};
+ghost use Prim.Native.Nat.{_+_, _*_};
+ghost use lib.ListN.{length};
+ghost use Rattle.crl.specs.Entries.{isTime};
+ghost use Rattle.crl.specs.FastTimes.{UsualDate};
+ghost use Rattle.times.specs.Times.{timeIn};
+
+// Whether 13 octets are a UTCTime with a day to 28, as most are; false where it does not tell. Minute and second
+// are tested as the date is, and their tens are held to 5 by adding 10.
+pub(crate) fn usual_utc(c: &[u8]) -> bool
+    requires { ⌜ length (now c) ≡ 13 ⌝ }
+    ensures { λ r. ⌜ (r ≡ true → isTime (timeIn 0x17 (now (c .entry))) ≡ true) ⌝ }
+{
+    if !usual_date(c) {
+        return false;
+    }
+    let octets = four(c[8], c[9], c[10], c[11]);
+    if octets & 0xf0f0_f0f0 != 0x3030_3030 {
+        return false;
+    }
+    if (octets + 0x060a_060a) & 0xf0f0_f0f0 != 0x3030_3030 {
+        return false;
+    }
+    c[12] == 90
+}
+
+// Whether the first eight octets write year, month, day and hour. They are digits if each has 3 as its upper half, by
+// itself and with 6 added; then pairs of them are made and held to their ranges at once.
+fn usual_date(c: &[u8]) -> bool
+    requires { ⌜ length (now c) ≡ 13 ⌝ }
+    ensures { λ r. ⌜ (r ≡ true → UsualDate (now (c .entry))) ⌝ }
+{
+    let octets = four(c[0], c[1], c[2], c[3]) + four(c[4], c[5], c[6], c[7]) * 0x1_0000_0000;
+    if octets & 0xf0f0_f0f0_f0f0_f0f0 != 0x3030_3030_3030_3030 {
+        return false;
+    }
+    if (octets + 0x0606_0606_0606_0606) & 0xf0f0_f0f0_f0f0_f0f0 != 0x3030_3030_3030_3030 {
+        return false;
+    }
+    let digits = octets - 0x3030_3030_3030_3030;
+    let pairs = digits * 10 + digits / 256;
+    if (pairs + 0x0068_0063_0073_0000) & 0x0080_0080_0080_0080 != 0 {
+        return false;
+    }
+    if pairs / 0x1_0000 % 256 == 0 {
+        return false;
+    }
+    pairs / 0x1_0000_0000 % 256 != 0
+}
+
+// Four octets as one number, the first lowest.
+pub(crate) fn four(a: u8, b: u8, c: u8, d: u8) -> u64
+    ensures { λ r. ⌜ r ≡ ((d * 256 + c) * 256 + b) * 256 + a ⌝ }
+{
+    a as u64 + b as u64 * 256 + c as u64 * 0x1_0000 + d as u64 * 0x100_0000
+}

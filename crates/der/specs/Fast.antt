@@ -1,0 +1,43 @@
+-- What the fast paths of the walk promise, of a stretch of octets that they read without telling a fault. No public promise
+-- cites this.
+use Prim.Native.Nat.{ℕ, _+_, _-_, _*_, _≤_}
+use mathlib.Core.Bool.{true, false}
+use mathlib.Core.List.{List}
+use mathlib.Core.Path.{_≡_}
+use lib.ListN.{length, getD, take, drop}
+use Rattle.der.specs.declared.walking.Read.the-variants.{Past}
+use Rattle.der.specs.declared.walking.Walked.the-variants.{Passed}
+use Rattle.der.specs.Forms.{paper}
+use Rattle.der.specs.Heading.{identifierGood, constructed}
+use Rattle.der.specs.Contents.{contentsGood}
+use Rattle.der.specs.Walk.{elementAt, listAt}
+
+-- the octets from one offset to another
+abbrev pub stretch : List ℕ → ℕ → ℕ → List ℕ
+stretch s i e = take (e - i) (drop i s)
+
+-- the element at the front of s is read, and takes `used` octets
+abbrev pub Reads : List ℕ → ℕ → ℕ → ℕ → ℕ → Type 0
+Reads s depth count used m = (base fuel : ℕ) → 2 * length s + 1 ≤ fuel → Past used m ≡ elementAt fuel paper s base depth count
+
+-- the elements that fill s are read
+abbrev pub Fills : List ℕ → ℕ → ℕ → ℕ → Type 0
+Fills s depth count m = (base fuel : ℕ) → 2 * length s + 2 ≤ fuel → Passed m ≡ listAt fuel paper s base depth count
+
+-- the headers of a SET and of a SEQUENCE that fills it
+pub record Double (s : List ℕ) (i : ℕ) : Type 0 where
+  pub outer : getD s i 0 ≡ 49
+  pub inner : getD s (i + 2) 0 ≡ 48
+  pub fills : getD s (i + 3) 0 + 2 ≡ getD s (i + 1) 0
+
+-- an identifier of a primitive whose contents are not judged
+pub record Unjudged (tag : ℕ) : Type 0 where
+  pub known : identifierGood tag ≡ true
+  pub primitive : constructed tag ≡ false
+  pub unjudged : (c : List ℕ) → contentsGood tag c ≡ true
+
+-- an identifier of a primitive, with contents that nothing is wrong with
+pub record Leaf (tag : ℕ) (c : List ℕ) : Type 0 where
+  pub known : identifierGood tag ≡ true
+  pub primitive : constructed tag ≡ false
+  pub good : contentsGood tag c ≡ true

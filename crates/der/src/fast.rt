@@ -1,0 +1,214 @@
+// Fast paths of the walk: elements of usual kinds with a header of two octets, read without telling a fault. What one of them does
+// not take, the reader of one element does.
+use crate::contents::bit_string_good;
+use crate::contents::boolean_good;
+use crate::contents::integer_good;
+use crate::contents::oid_good;
+ghost use mathlib.Core.Path.{_≡_};
+ghost use mathlib.Core.Bool.{true, false};
+ghost use Prim.Native.Nat.{ℕ, _+_, _-_, _≤_, _<_};
+ghost use lib.ListN.{length, getD};
+ghost use Rattle.der.specs.Heading.{constructed};
+ghost use Rattle.der.specs.Fast.{stretch, Reads, Fills, Double, Unjudged, Leaf};
+
+// The count of elements when the one at `at` has been read, if nothing is wrong with it and it is a primitive with a header of two
+// octets, or holds nothing but such; else 0.
+pub(crate) fn fast_path(s: &[u8], at: usize, left: usize, count: usize) -> usize
+    requires { ⌜ (at ≤ length (now s)) × (length (now s) ≤ 16384) × (left ≤ 16) × (count ≤ 4096) ⌝ }
+    ensures { λ r. ⌜ (0 < r → (at + 2 ≤ length (now (s .entry))) × Reads (stretch (now (s .entry)) at (length (now (s .entry)))) (17 - left) count (2 + getD (now (s .entry)) (at + 1) 0) r) ⌝ }
+{
+    let end = s.len();
+    if end < at + 2 {
+        return 0;
+    }
+    if s[at] / 32 % 2 == 1 {
+        if left < 3 {
+            return 0;
+        }
+        if 4032 <= count {
+            return 0;
+        }
+        return flat(s, at, end, count);
+    }
+    if left == 0 {
+        return 0;
+    }
+    if 4096 <= count {
+        return 0;
+    }
+    if primitive(s, at, end) {
+        return count + 1;
+    }
+    0
+}
+
+// Whether the element at `at`, a primitive, has a header of two octets and nothing is wrong with it.
+fn primitive(s: &[u8], at: usize, end: usize) -> bool
+    requires { ⌜ (at + 2 ≤ end) × (end ≤ length (now s)) × (length (now s) ≤ 16384) × (constructed (getD (now s) at 0) ≡ false) ⌝ }
+    ensures { λ r. ⌜ (r ≡ true → (depth count : ℕ) → depth ≤ 16 → count < 4096 → Reads (stretch (now (s .entry)) at end) depth count (2 + getD (now (s .entry)) (at + 1) 0) (count + 1)) ⌝ }
+{
+    let size = s[at + 1] as usize;
+    if 128 <= size {
+        return false;
+    }
+    let from = at + 2;
+    let after = from + size;
+    if end < after {
+        return false;
+    }
+    let tag = s[at];
+    if 63 < tag {
+        return tag % 32 != 31;
+    }
+    if unjudged(tag) {
+        return true;
+    }
+    judged(tag, &s[from..after])
+}
+
+// Whether a universal primitive whose contents are judged has good ones.
+fn judged(tag: u8, c: &[u8]) -> bool
+    ensures { λ r. ⌜ (r ≡ true → Leaf tag (now (c .entry))) ⌝ }
+{
+    if tag == 2 {
+        return integer_good(c);
+    }
+    if tag == 6 {
+        return oid_good(c);
+    }
+    if tag == 5 {
+        return c.len() == 0;
+    }
+    if tag == 1 {
+        return boolean_good(c);
+    }
+    if tag == 3 {
+        return bit_string_good(c);
+    }
+    false
+}
+
+// The count of elements when the one at `i` has been read, if it is a SEQUENCE whose members are leaves, or a SET that one
+// such SEQUENCE fills; else 0.
+fn flat(s: &[u8], i: usize, end: usize, count: usize) -> usize
+    requires { ⌜ (i + 2 ≤ end) × (end ≤ length (now s)) × (length (now s) ≤ 16384) × (count < 4032) ⌝ }
+    ensures { λ r. ⌜ (0 < r → (depth : ℕ) → depth ≤ 14 → Reads (stretch (now (s .entry)) i end) depth count (2 + getD (now (s .entry)) (i + 1) 0) r) ⌝ }
+{
+    let mut from = i + 2;
+    let mut read = count + 1;
+    if s[i] != 0x30 {
+        if !double(s, i, end) {
+            return 0;
+        }
+        from = i + 4;
+        read = count + 2;
+    }
+    let size = s[i + 1] as usize;
+    if 128 <= size {
+        return 0;
+    }
+    let after = i + 2 + size;
+    if end < after {
+        return 0;
+    }
+    leaves(s, from, after, read)
+}
+
+// Whether a SET starts at `i` that a SEQUENCE fills, by the first four octets.
+fn double(s: &[u8], i: usize, end: usize) -> bool
+    requires { ⌜ (i + 2 ≤ end) × (end ≤ length (now s)) × (length (now s) ≤ 16384) ⌝ }
+    ensures { λ r. ⌜ (r ≡ true → Double (now (s .entry)) i) ⌝ }
+{
+    if s[i] != 0x31 {
+        return false;
+    }
+    if end < i + 4 {
+        return false;
+    }
+    if s[i + 2] != 0x30 {
+        return false;
+    }
+    s[i + 3] as usize + 2 == s[i + 1] as usize
+}
+
+// The count of elements when those from `from` to `end` have been read, if each is a leaf; else 0.
+fn leaves(s: &[u8], from: usize, end: usize, count: usize) -> usize
+    requires { ⌜ (from ≤ end) × (end ≤ from + 127) × (end ≤ length (now s)) × (length (now s) ≤ 16384) × (count ≤ 4033) ⌝ }
+    ensures { λ r. ⌜ (0 < r → (depth : ℕ) → depth ≤ 16 → Fills (stretch (now (s .entry)) from end) depth count r) ⌝ }
+{
+    let mut i = from;
+    let mut read = count;
+    while i + 2 <= end {
+        let after = leaf(s, i, end);
+        if after == 0 {
+            return 0;
+        }
+        read += 1;
+        i = after;
+    }
+    if i == end {
+        return read;
+    }
+    0
+}
+
+// The end of the element at `i` if it is a primitive of the universal class and nothing is wrong with it, but that it may
+// end beyond `end`; else 0.
+fn leaf(s: &[u8], i: usize, end: usize) -> usize
+    requires { ⌜ (i + 2 ≤ end) × (end ≤ i + 127) × (end ≤ length (now s)) × (length (now s) ≤ 16384) ⌝ }
+    ensures { λ r. ⌜ (r ≤ i + 257) × (0 < r → (i + 2 ≤ r) × (r ≤ end → (depth count : ℕ) → depth ≤ 16 → count < 4096 → Reads (stretch (now (s .entry)) i end) depth count (r - i) (count + 1))) ⌝ }
+{
+    let size = s[i + 1] as usize;
+    let from = i + 2;
+    let after = from + size;
+    let tag = s[i];
+    if tag == 6 {
+        if end < after {
+            return 0;
+        }
+        if oid_good(&s[from..after]) {
+            return after;
+        }
+        return 0;
+    }
+    if tag == 2 {
+        if end < after {
+            return 0;
+        }
+        if integer_good(&s[from..after]) {
+            return after;
+        }
+        return 0;
+    }
+    if unjudged(tag) {
+        return after;
+    }
+    if end < after {
+        return 0;
+    }
+    if tag == 1 {
+        if boolean_good(&s[from..after]) {
+            return after;
+        }
+        return 0;
+    }
+    if tag == 5 {
+        if size == 0 {
+            return after;
+        }
+    }
+    0
+}
+
+// Bit n tells whether n is a good identifier of a primitive whose contents are not judged.
+const UNJUDGED: u64 = 0x000000007ffcff90;
+
+// Whether `tag` is such an identifier, of the universal class.
+fn unjudged(tag: u8) -> bool
+    ensures { λ r. ⌜ (r ≡ true → Unjudged tag) ⌝ }
+{
+    if 63 < tag {
+        return false;
+    }
+    (UNJUDGED >> tag) % 2 == 1
+}

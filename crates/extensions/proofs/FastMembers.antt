@@ -1,0 +1,64 @@
+-- An extension whose headers have two octets each is what the fast path tells.
+use Prim.Native.Nat.{ℕ, _+_, _<_, _≤_}
+use mathlib.Core.Path.{_≡_, refl, sym}
+use mathlib.Core.Bool.{Bool, true, false}
+use mathlib.Core.List.{List}
+use native.Mathlib.Omega.{arith}
+use borrow.Author.Tests.{eq-eqb}
+use lib.ListN.{getD}
+use Rattle.der.specs.Heading.{identifierGood}
+use Rattle.elements.specs.declared.elements.Element.{Element}
+use Rattle.elements.specs.declared.elements.Found.the-variants.{One}
+use Rattle.elements.specs.Elements.{foundAt, withTag, foundTagged, onFound}
+use Rattle.elements.specs.Short.{shortEnd}
+use Rattle.elements.proofs.Shorts.{brief, short-found, short-within}
+use Rattle.extensions.specs.declared.Extension.{Extension}
+use Rattle.extensions.specs.declared.Extension.the-variants.{Is, Absent}
+use Rattle.extensions.specs.Extensions.{present, holdingOf, extensionOf}
+use Rattle.extensions.specs.Fast.{Member}
+
+pub nothing-told : {A : Type 0} → present Absent ≡ true → A
+unfolding present
+nothing-told h = let z : _≡_ {A = ℕ} 0 1 = cc in absurd (omega arith)
+
+module _ (s : List ℕ) (e : Element) {next : ℕ} (tag : e .tag ≡ 0x30) (some : 0 < next) (oid : next ≡ shortEnd s (e .contents) (e .end) 0x06) where
+  full : 0 < e .end
+  full = omega (arith, some, short-within s (e .contents) (e .end) 0x06 oid some)
+
+  first : foundAt s (e .contents) (e .end) ≡ One (brief 0x06 (e .contents) next)
+  unfolding identifierGood
+  first = short-found s (e .contents) (e .end) 0x06 refl some oid
+
+  brief-uncritical : e .end ≡ shortEnd s next (e .end) 0x04 → Is (brief 0x06 (e .contents) next) false (brief 0x04 next (e .end)) ≡ extensionOf s e
+  unfolding identifierGood extensionOf holdingOf foundTagged withTag onFound
+  brief-uncritical last =
+      sym (rw (eq-eqb _ _ tag, first, short-found s next (e .end) 0x04 refl full last, eq-eqb (e .end) (e .end) refl))
+
+  brief-critical :
+      {from : ℕ} → 0 < from → from ≡ shortEnd s next (e .end) 0x01 → getD s (next + 2) 0 ≡ 255 → e .end ≡ shortEnd s from (e .end) 0x04
+      → Is (brief 0x06 (e .contents) next) true (brief 0x04 from (e .end)) ≡ extensionOf s e
+  unfolding identifierGood extensionOf holdingOf foundTagged withTag onFound
+  brief-critical {from} one flag set last =
+      sym
+      (rw (
+        eq-eqb _ _ tag,
+        first,
+        short-found s next (e .end) 0x01 refl one flag,
+        eq-eqb _ _ set,
+        short-found s from (e .end) 0x04 refl full last,
+        eq-eqb (e .end) (e .end) refl,
+      ))
+
+-- the same of an element that starts at an offset
+module _ (s : List ℕ) (from stop : ℕ) {end next : ℕ} (whole : 0 < end) (here : end ≡ shortEnd s from stop 0x30) (some : 0 < next) (oid : next ≡ shortEnd s (from + 2) end 0x06) where
+  there : foundAt s from stop ≡ One (brief 0x30 from end)
+  unfolding identifierGood
+  there = short-found s from stop 0x30 refl whole here
+
+  pub member-uncritical : end ≡ shortEnd s next end 0x04 → Member s from stop end (Is (brief 0x06 (from + 2) next) false (brief 0x04 next end))
+  member-uncritical last = record { e = brief 0x30 from end; found = there; ends = refl; is = brief-uncritical s (brief 0x30 from end) refl some oid last }
+
+  pub member-critical :
+      {from' : ℕ} → 0 < from' → from' ≡ shortEnd s next end 0x01 → getD s (next + 2) 0 ≡ 255 → end ≡ shortEnd s from' end 0x04
+      → Member s from stop end (Is (brief 0x06 (from + 2) next) true (brief 0x04 from' end))
+  member-critical one flag set last = record { e = brief 0x30 from end; found = there; ends = refl; is = brief-critical s (brief 0x30 from end) refl some oid one flag set last }

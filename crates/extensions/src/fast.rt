@@ -1,0 +1,66 @@
+// The fast path for an extension whose headers have two octets each.
+use crate::Extension;
+use elements::Element;
+use elements::short_end;
+ghost use mathlib.Core.Path.{_≡_};
+ghost use mathlib.Core.Bool.{true};
+ghost use Rattle.extensions.specs.Extensions.{present};
+ghost use Rattle.extensions.specs.Fast.{endOf, Member};
+
+// The extension that starts at `from`, before `stop`, or `Absent` for any that is not of that kind.
+pub(crate) fn brief_at(item: &[u8], from: usize, stop: usize) -> Extension
+    ensures { λ r. ⌜ (present r ≡ true → Member (now (item .entry)) from stop (endOf r) r) ⌝ }
+{
+    let end = short_end(item, from, stop, 0x30);
+    if end == 0 {
+        return Extension::Absent;
+    }
+    let at = from + 2;
+    let next = short_end(item, at, end, 0x06);
+    if next == 0 {
+        return Extension::Absent;
+    }
+    let oid = Element {
+        tag: 0x06,
+        at,
+        contents: at + 2,
+        end: next,
+    };
+    if short_end(item, next, end, 0x04) == end {
+        let value = Element {
+            tag: 0x04,
+            at: next,
+            contents: next + 2,
+            end,
+        };
+        return Extension::Is {
+            oid,
+            critical: false,
+            value,
+        };
+    }
+    let from = short_end(item, next, end, 0x01);
+    if from == 0 {
+        return Extension::Absent;
+    }
+    if from - next != 3 {
+        return Extension::Absent;
+    }
+    if item[next + 2] != 0xff {
+        return Extension::Absent;
+    }
+    if short_end(item, from, end, 0x04) != end {
+        return Extension::Absent;
+    }
+    let value = Element {
+        tag: 0x04,
+        at: from,
+        contents: from + 2,
+        end,
+    };
+    Extension::Is {
+        oid,
+        critical: true,
+        value,
+    }
+}

@@ -1,0 +1,70 @@
+-- All octets before i are equal; a block that differs, or the lengths, tell the strings apart, and the last block decides.
+use Prim.Native.Nat.{_-_, _≤_}
+use mathlib.Core.Path.{_≡_, refl, sym, _∙_}
+use native.Mathlib.Omega.{arith}
+use borrow.Author.Tests.{not-true, not-false}
+use lib.ListN.{length, take}
+use Rattle.octets.proofs.Likeness.{unlike-length, unlike-part, taken-more, alike-last}
+use Rattle.octets.proofs.equality.same.Statement.{statement}
+use Rattle.octets.proofs.equality.same.Tie as tie
+
+abbrev Inv-loop : tie.InvT-loop
+Inv-loop a b n i₀ i = (i ≤ length a) × (take i a ≡ take i b)
+
+abbrev μ-loop : tie.MeasureT-loop
+μ-loop a b n i₀ i = length a - i
+
+returns : tie.Need-returns Inv-loop μ-loop
+returns c = sym (unlike-length _ _ (c .if1 .taken))
+
+same-part-requires : tie.Need-same-part-requires Inv-loop μ-loop
+same-part-requires c κs = (omega arith, omega arith)
+
+returns-2 : tie.Need-returns-2 Inv-loop μ-loop
+returns-2 c =
+    let back4 = c .before .before .before .before in
+    c .same-part .ensures ∙ alike-last (back4 .before .args .a .now) (back4 .before .args .b .now) 0 0 (length (back4 .before .args .a .now)) (omega arith) (omega arith) (omega arith) refl
+
+loop-holds : tie.Need-loop-holds Inv-loop μ-loop
+loop-holds c = (omega arith, refl)
+
+same-part-requires-2 : tie.Need-same-part-requires-2 Inv-loop μ-loop
+same-part-requires-2 c κs = (omega arith, omega arith)
+
+returns-3 : tie.Need-returns-3 Inv-loop μ-loop
+returns-3 c = sym (unlike-part _ _ (c .before .before .before .loop .i) 16 (sym (c .before .same-part2 .ensures) ∙ not-true _ (c .if3 .taken)))
+
+add-i : tie.Need-add-i Inv-loop μ-loop
+add-i c = omega arith
+
+loop-less : tie.Need-loop-less Inv-loop μ-loop
+loop-less c = omega arith
+
+loop-again : tie.Need-loop-again Inv-loop μ-loop
+loop-again c = (omega arith, taken-more _ _ (c .before .before .before .loop .i) 16 (c .before .before .before .loop .inv .1) (sym (c .before .same-part2 .ensures) ∙ not-false _ (c .if3 .left)))
+
+same-part-requires-3 : tie.Need-same-part-requires-3 Inv-loop μ-loop
+same-part-requires-3 c κs = (omega arith, omega arith)
+
+returns-4 : tie.Need-returns-4 Inv-loop μ-loop
+returns-4 c =
+    let back4 = c .before .before .before .before in
+    c .same-part3 .ensures ∙ alike-last (back4 .before .before .before .args .a .now) (back4 .before .before .before .args .b .now) (length (back4 .before .before .before .args .a .now) - 16) (c .before .before .loop .i) 16 (omega arith) (omega arith) (omega arith) (c .before .before .loop .inv .1)
+
+pub same-spec : {M : Type 1} → statement M
+same-spec =
+    tie.close
+    (tie.spec
+    Inv-loop
+    μ-loop
+    returns
+    same-part-requires
+    returns-2
+    loop-holds
+    same-part-requires-2
+    returns-3
+    add-i
+    loop-less
+    loop-again
+    same-part-requires-3
+    returns-4)

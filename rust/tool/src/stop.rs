@@ -1,0 +1,24 @@
+//! A command that cannot answer: an exit status, and words for standard error.
+
+pub const USAGE: u8 = 64;
+pub const NO_INPUT: u8 = 66;
+pub const CANNOT_WRITE: u8 = 73;
+
+pub struct Stop {
+    pub status: u8,
+    pub message: String,
+}
+
+impl Stop {
+    pub fn usage(message: impl Into<String>) -> Stop {
+        Stop { status: USAGE, message: message.into() }
+    }
+
+    pub fn no_input(message: impl Into<String>) -> Stop {
+        Stop { status: NO_INPUT, message: message.into() }
+    }
+
+    pub fn cannot_write(message: impl Into<String>) -> Stop {
+        Stop { status: CANNOT_WRITE, message: message.into() }
+    }
+}
