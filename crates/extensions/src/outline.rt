@@ -1,8 +1,10 @@
 // The shape of a list of extensions and whether one is critical: all that is asked of the extensions of a CRL's entry.
-use crate::members::met_at;
+use crate::shape::any_extension;
 use crate::told::is_critical;
 use crate::told::is_there;
 use elements::Element;
+use elements::Found;
+use elements::element_at;
 ghost use mathlib.Core.Bool.{false};
 ghost use mathlib.Core.Path.{_≡_};
 ghost use Rattle.extensions.specs.Extensions.{extensionsShaped, criticalOf};
@@ -20,13 +22,12 @@ pub fn outline_of(item: &[u8], extensions: Element) -> Outline
     let mut marked = false;
     let mut at = extensions.contents;
     loop {
-        let met = met_at(item, at, extensions.end);
-        if !met.found {
+        let Found::One(e) = element_at(item, at, extensions.end) else {
             return Outline { shaped, marked };
-        }
-        let own = met.own;
+        };
+        let own = any_extension(item, e);
         shaped = shaped & is_there(own);
         marked = marked | is_critical(own);
-        at = met.next;
+        at = e.end;
     }
 }
