@@ -33,8 +33,7 @@ loop-again : tie.Need-loop-again Inv-loop μ-loop
 loop-again c =
     let back4 = c .before .before .before .before in
     let found = sym (back4 .before .before .element-at .ensures) ∙ back4 .e .given .1 in
-    let known = back4 .before .before .before .loop .inv in
-    (
+    let known = back4 .before .before .before .loop .inv in (
       shape-on found refl (known .0) (rw (← c .before .before .any-extension .ensures) (c .before .is-there .ensures)),
       mark-on found refl (known .1) (rw (← c .before .before .any-extension .ensures) (c .is-critical .ensures _)),
     )
