@@ -9,7 +9,6 @@ use Rattle.elements.specs.declared.elements.Element.{Element}
 use Rattle.elements.specs.declared.elements.Found.{Found}
 use Rattle.elements.specs.declared.elements.Found.the-variants.{One, Missing}
 use Rattle.elements.specs.Elements.{foundAt, onFound, membersIn, membersOf}
-use Rattle.extensions.specs.Extensions.{criticalOf}
 use Rattle.times.specs.Times.{timeOf}
 use Rattle.elements.proofs.Members.{found-within, members-none, members-more}
 use Rattle.crl.specs.declared.entries.Entry.the-variants.{Bare, Extended, Misshapen}
@@ -47,7 +46,7 @@ survey-starts s from end =
 pub record Adds (s : List ℕ) (e : Element) (times quiet times' quiet' : Bool) : Type 0 where
   pub fit : shaped (entryOf s e) ≡ true
   pub timed : times' ≡ (times && timely s (entryOf s e))
-  pub calmed : quiet' ≡ (quiet && calm s (entryOf s e))
+  pub calmed : quiet' ≡ (quiet && calm (entryOf s e))
 
 module _ (s : List ℕ) (count : ℕ) (times quiet : Bool) (at end : ℕ) where
   pub survey-done : foundAt s at end ≡ Missing → surveyWith s count times quiet (membersOf s at end) ≡ Entries count times quiet
@@ -80,7 +79,7 @@ module _ {s : List ℕ} {e serial time : Element} {times quiet times' quiet' : B
   unfolding shaped timely calm
   bare-adds h t q = record { fit = rw h; timed = rw (h, t); calmed = rw (h, q, and-true quiet) }
 
-  pub extended-adds : {extensions : Element} → entryOf s e ≡ Extended serial time extensions → times' ≡ (times && isTime (timeOf s time)) → quiet' ≡ (quiet && not (criticalOf s extensions false)) → Adds s e times quiet times' quiet'
+  pub extended-adds : {marked : Bool} → entryOf s e ≡ Extended serial time marked → times' ≡ (times && isTime (timeOf s time)) → quiet' ≡ (quiet && not marked) → Adds s e times quiet times' quiet'
   unfolding shaped timely calm
   extended-adds h t q = record { fit = rw h; timed = rw (h, t); calmed = rw (h, q) }
 

@@ -15,11 +15,11 @@ use Rattle.crl.specs.declared.entries.Entry.the-variants.{Bare, Extended
 use Rattle.crl.specs.declared.entries.Survey.{Survey}
 use Rattle.crl.specs.declared.entries.Survey.the-variants.{Entries, Shapeless}
 
--- the extensions, where there are octets after the time
+-- the extensions, where there are octets after the time, and whether one is critical
 unfoldable pub extended : List ℕ → Element → Element → Element → Entry
 extended s entry serial time =
     onFound (foundTagged s (time .end) (entry .end) 0x30) Misshapen λ extensions.
-    cond (eqb (extensions .end) (entry .end) && extensionsShaped s extensions) (Extended serial time extensions) Misshapen
+    cond (eqb (extensions .end) (entry .end) && extensionsShaped s extensions) (Extended serial time (criticalOf s extensions false)) Misshapen
 
 unfoldable pub entryOf : List ℕ → Element → Entry
 entryOf s e =
@@ -32,7 +32,7 @@ entryOf s e =
 unfoldable pub shaped : Entry → Bool
 shaped Misshapen = false
 shaped (Bare serial time) = true
-shaped (Extended serial time extensions) = true
+shaped (Extended serial time marked) = true
 
 unfoldable pub isTime : Time → Bool
 isTime Untimely = false
@@ -42,13 +42,13 @@ isTime (Moment moment) = true
 unfoldable pub timely : List ℕ → Entry → Bool
 timely s Misshapen = false
 timely s (Bare serial time) = isTime (timeOf s time)
-timely s (Extended serial time extensions) = isTime (timeOf s time)
+timely s (Extended serial time marked) = isTime (timeOf s time)
 
 -- no extension of the entry is critical
-unfoldable pub calm : List ℕ → Entry → Bool
-calm s Misshapen = true
-calm s (Bare serial time) = true
-calm s (Extended serial time extensions) = not (criticalOf s extensions false)
+unfoldable pub calm : Entry → Bool
+calm Misshapen = true
+calm (Bare serial time) = true
+calm (Extended serial time marked) = not marked
 
 unfoldable pub allShaped : List ℕ → List Element → Bool
 allShaped s [] = true
@@ -60,7 +60,7 @@ allTimely s (e ∷ rest) = timely s (entryOf s e) && allTimely s rest
 
 unfoldable pub allCalm : List ℕ → List Element → Bool
 allCalm s [] = true
-allCalm s (e ∷ rest) = calm s (entryOf s e) && allCalm s rest
+allCalm s (e ∷ rest) = calm (entryOf s e) && allCalm s rest
 
 -- what the rules ask of all the entries in a stretch, found in one pass
 unfoldable pub surveyOf : List ℕ → ℕ → ℕ → Survey

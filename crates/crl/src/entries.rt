@@ -1,12 +1,11 @@
 // Entries of a CRL, and what the rules ask of all of them, found in one pass.
 use crate::fast::four;
 use crate::fast::usual_utc;
-use crate::passes::extensions_shaped;
-use crate::passes::some_critical;
 use elements::Element;
 use elements::Found;
 use elements::element_at;
 use elements::element_tagged;
+use extensions::outline_of;
 use times::Time;
 use times::time_at;
 use times::time_of;
@@ -18,7 +17,7 @@ ghost use Rattle.crl.specs.Entries.{isTime, entryOf, surveyOf};
 ghost use Rattle.crl.specs.FastEntries.{utcAt, Usual, Opening};
 ghost use Rattle.times.specs.Times.{timeOf};
 
-// An entry's serial, time and extensions.
+// An entry's serial and time, and whether one of its extensions is critical, where it has any.
 pub enum Entry {
     Bare {
         serial: Element,
@@ -27,7 +26,7 @@ pub enum Entry {
     Extended {
         serial: Element,
         time: Element,
-        extensions: Element,
+        marked: bool,
     },
     Misshapen,
 }
@@ -76,12 +75,12 @@ pub(crate) fn survey_of(item: &[u8], from: usize, end: usize) -> Survey
             Entry::Extended {
                 serial: _,
                 time,
-                extensions,
+                marked,
             } => {
                 if !is_time(item, time) {
                     timely = false;
                 }
-                if some_critical(item, extensions) {
+                if marked {
                     calm = false;
                 }
             }
@@ -158,11 +157,12 @@ fn entry_of(item: &[u8], e: Element) -> Entry
     if extensions.end != e.end {
         return Entry::Misshapen;
     }
-    if extensions_shaped(item, extensions) {
+    let seen = outline_of(item, extensions);
+    if seen.shaped {
         return Entry::Extended {
             serial,
             time,
-            extensions,
+            marked: seen.marked,
         };
     }
     Entry::Misshapen

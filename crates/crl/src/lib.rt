@@ -2,7 +2,6 @@
 mod entries;
 mod fast;
 mod listing;
-mod passes;
 mod rules;
 mod shapes;
 

@@ -2,7 +2,7 @@
 use crate::shapes::Layout;
 use elements::holds;
 use elements::twins;
-use extensions::Extension;
+use extensions::is_there;
 use extensions::lookup;
 use extensions::one_pass;
 use names::Letters;
@@ -14,7 +14,7 @@ ghost use mathlib.Core.Path.{_≡_};
 ghost use mathlib.Core.Bool.{false};
 ghost use mathlib.Core.List.{List};
 ghost use Prim.Native.Nat.{ℕ};
-ghost use Rattle.extensions.specs.Extensions.{present, doubledOf, criticalOf};
+ghost use Rattle.extensions.specs.Extensions.{doubledOf, criticalOf};
 ghost use Rattle.refusal.specs.Rules.{firstBroken};
 ghost use Rattle.crl.specs.Rules.{readingsOf, rule4, rule5, rule6, rule7, rule8, rules2to8};
 
@@ -119,23 +119,10 @@ fn extensions_good(item: &[u8], l: Layout, doubled: bool) -> bool
         return false;
     }
     let extensions = l.extensions;
-    if !there(lookup(item, extensions, b"\x55\x1d\x23")) {
+    if !is_there(lookup(item, extensions, b"\x55\x1d\x23")) {
         return false;
     }
-    there(lookup(item, extensions, b"\x55\x1d\x14"))
-}
-
-fn there(extension: Extension) -> bool
-    ensures { λ r. ⌜ r ≡ present extension ⌝ }
-{
-    match extension {
-        Extension::Is {
-            oid: _,
-            critical: _,
-            value: _,
-        } => true,
-        Extension::Absent => false,
-    }
+    is_there(lookup(item, extensions, b"\x55\x1d\x14"))
 }
 
 // 8: nothing critical, in entries either.

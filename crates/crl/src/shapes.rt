@@ -1,13 +1,13 @@
 // CRL rule 1: the shape.
 use crate::entries::Survey;
 use crate::entries::survey_of;
-use crate::passes::extensions_shaped;
 use elements::Element;
 use elements::Envelope;
 use elements::Found;
 use elements::element_tagged;
 use elements::envelope_of;
 use elements::only_member;
+use extensions::outline_of;
 use names::Name;
 use names::Seen;
 use names::name_of;
@@ -146,7 +146,8 @@ fn last_of(item: &[u8], from: usize, end: usize) -> Found
     let Found::One(extensions) = only_member(item, last, 0x30) else {
         return Found::Missing;
     };
-    if extensions_shaped(item, extensions) {
+    let seen = outline_of(item, extensions);
+    if seen.shaped {
         return Found::One(extensions);
     }
     Found::Missing

@@ -1,6 +1,6 @@
 -- What the pass knows where the extensions from `at` on are left.
 use mathlib.Core.Path.{_≡_, refl, sym, ap, _∙_}
-use mathlib.Core.Bool.{Bool, true, false, cond, _&&_, _||_, not}
+use mathlib.Core.Bool.{Bool, true, false, _&&_, _||_, not}
 use mathlib.Core.List.{List}
 use Prim.Native.Nat.{ℕ, _<_, _≤_}
 use native.Mathlib.Omega.{arith}
@@ -12,57 +12,39 @@ use Rattle.elements.specs.declared.elements.Found.the-variants.{One, Missing}
 use Rattle.extensions.specs.declared.Extension.{Extension}
 use Rattle.extensions.specs.declared.Extension.the-variants.{Is, Absent}
 use Rattle.extensions.specs.declared.Held.{Held}
-use Rattle.elements.specs.Elements.{foundAt, membersOf, inside}
-use Rattle.elements.proofs.Members.{members-none, members-more}
-use Rattle.extensions.specs.Extensions.{extensionOf, present, allShaped, extensionsShaped, doubledOf, refusedCritical, someCritical, criticalOf, oidOf, heldOf, lookupOf, Slotted, Placed}
+use Rattle.elements.specs.Elements.{foundAt, inside}
+use Rattle.extensions.specs.Extensions.{extensionOf, present, extensionsShaped, doubledOf, refusedCritical, criticalOf, oidOf, heldOf, lookupOf, Slotted, Placed}
+use Rattle.extensions.proofs.Outlining.{Shaping, Marking, shape-start, mark-start, shape-end, mark-end, shape-on, mark-on}
 use Rattle.extensions.proofs.Slots.{has-there, held-there, Open, open-start, open-none, open-set, open-left}
 use Rattle.extensions.proofs.Strangers.{Apart, apart-start, apart-none, apart-again, apart-new, apart-stranger, apart-absent}
 
 pub record Far (s : List ℕ) (x : Element) (shaped marked critical twice strange unsure : Bool) (slots : List Held) (at : ℕ) : Type 0 where
-  pub shape : extensionsShaped s x ≡ (shaped && allShaped s (membersOf s at (x .end)))
-  pub marks : criticalOf s x false ≡ (marked || someCritical s false (membersOf s at (x .end)))
-  pub harsh : criticalOf s x true ≡ (critical || someCritical s true (membersOf s at (x .end)))
+  pub shape : Shaping s x shaped at
+  pub marks : Marking s x false marked at
+  pub harsh : Marking s x true critical at
   pub table : Open s (x .contents) (x .end) slots at
   pub apart : Apart s (x .contents) (x .end) slots twice strange unsure at
 
 pub far-start : (s : List ℕ) (x : Element) → Far s x (eqb (x .tag) 0x30) false false false false false (replicate 23 (heldOf Absent)) (x .contents)
-unfolding extensionsShaped criticalOf inside
 far-start s x =
     record {
-      shape = go (eqb (x .tag) 0x30);
-      marks = refl;
-      harsh = refl;
+      shape = shape-start s x;
+      marks = mark-start s x false;
+      harsh = mark-start s x true;
       table = open-start s (x .contents) (x .end);
       apart = apart-start s (x .contents) (x .end);
     }
-  where
-    go : (t : Bool) → cond t (allShaped s (membersOf s (x .contents) (x .end))) false ≡ (t && allShaped s (membersOf s (x .contents) (x .end)))
-    go true = refl
-    go false = refl
 
 module _ {s : List ℕ} {x : Element} {shaped marked critical twice strange unsure : Bool} {slots : List Held} {at : ℕ} (p : Far s x shaped marked critical twice strange unsure slots at) where
   module _ (f : foundAt s at (x .end) ≡ Missing) where
     pub end-shape : shaped ≡ extensionsShaped s x
-    unfolding allShaped
-    end-shape = sym (p .shape ∙ rw (members-none s at (x .end) f) (go shaped))
-      where
-        go : (t : Bool) → (t && true) ≡ t
-        go true = refl
-        go false = refl
-
-    none-critical : (allow flag : Bool) → criticalOf s x allow ≡ (flag || someCritical s allow (membersOf s at (x .end))) → flag ≡ criticalOf s x allow
-    unfolding someCritical
-    none-critical allow flag h = sym (h ∙ rw (members-none s at (x .end) f) (go flag))
-      where
-        go : (t : Bool) → (t || false) ≡ t
-        go true = refl
-        go false = refl
+    end-shape = shape-end f (p .shape)
 
     pub end-marks : marked ≡ criticalOf s x false
-    end-marks = none-critical false marked (p .marks)
+    end-marks = mark-end f (p .marks)
 
     pub end-harsh : critical ≡ criticalOf s x true
-    end-harsh = none-critical true critical (p .harsh)
+    end-harsh = mark-end f (p .harsh)
 
     pub end-placed : Placed s x slots
     unfolding lookupOf inside
@@ -77,31 +59,18 @@ module _ {s : List ℕ} {x : Element} {shaped marked critical twice strange unsu
     end-twice t = t ∙ sym (p .apart .told t)
 
   module _ {e : Element} {slot next : ℕ} {mark told : Bool} (f : foundAt s at (x .end) ≡ One e) (ends : next ≡ e .end) (h : Slotted s (extensionOf s e) slot) (m : mark ≡ refusedCritical s false (extensionOf s e)) (u : told ≡ refusedCritical s true (extensionOf s e)) where
-    shape-next : extensionsShaped s x ≡ ((shaped && not (eqb slot 24)) && allShaped s (membersOf s (e .end) (x .end)))
-    unfolding allShaped
-    shape-next = p .shape ∙ rw (members-more s at (x .end) f, h .there) (go shaped (not (eqb slot 24)) (allShaped s (membersOf s (e .end) (x .end))))
-      where
-        go : (a b c : Bool) → (a && cond b c false) ≡ ((a && b) && c)
-        go true true c = refl
-        go true false c = refl
-        go false b c = refl
-
-    critical-next :
-        (allow flag more : Bool) → criticalOf s x allow ≡ (flag || someCritical s allow (membersOf s at (x .end))) → more ≡ refusedCritical s allow (extensionOf s e)
-        → criticalOf s x allow ≡ ((flag || more) || someCritical s allow (membersOf s (e .end) (x .end)))
-    unfolding someCritical
-    critical-next allow flag more was is = was ∙ rw (members-more s at (x .end) f, ← is) (go flag more (someCritical s allow (membersOf s (e .end) (x .end))))
-      where
-        go : (a b c : Bool) → (a || cond b true c) ≡ ((a || b) || c)
-        go true b c = refl
-        go false true c = refl
-        go false false c = refl
-
     abbrev Next : Bool → Bool → Bool → List Held → Type 0
     Next twice strange unsure slots = Far s x (shaped && not (eqb slot 24)) (marked || mark) (critical || told) twice strange unsure slots next
 
     far-next : {after : List Held} {doubled stranger doubt : Bool} → Open s (x .contents) (x .end) after (e .end) → Apart s (x .contents) (x .end) after doubled stranger doubt (e .end) → Next doubled stranger doubt after
-    far-next o a = rw ends (record { shape = shape-next; marks = critical-next false marked mark (p .marks) m; harsh = critical-next true critical told (p .harsh) u; table = o; apart = a })
+    far-next o a =
+        record {
+          shape = shape-on f ends (p .shape) (sym (h .there));
+          marks = mark-on f ends (p .marks) m;
+          harsh = mark-on f ends (p .harsh) u;
+          table = rw ends o;
+          apart = rw ends a;
+        }
 
     pub far-new : {held : Held} → held ≡ heldOf (extensionOf s e) → slot < 23 → getD slots slot (heldOf Absent) .there ≡ false → Next twice strange unsure (set slots slot held)
     far-new {held} new l g = far-next (open-set (p .table) f h new l g) (apart-new (p .apart) f h held there (p .table .long) l g)

@@ -2,6 +2,7 @@
 mod fast;
 mod finding;
 mod members;
+mod outline;
 mod shape;
 mod slot;
 mod told;
@@ -16,6 +17,9 @@ use told::unusual;
 use twice::doubled;
 ghost use Rattle.extensions.specs.Extensions.{Viewed};
 pub use finding::lookup;
+pub use outline::Outline;
+pub use outline::outline_of;
+pub use told::is_there;
 
 pub enum Extension {
     Is {

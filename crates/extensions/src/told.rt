@@ -5,7 +5,7 @@ ghost use mathlib.Core.Path.{_≡_};
 ghost use mathlib.Core.Bool.{true, false};
 ghost use mathlib.Core.List.{List};
 ghost use Prim.Native.Nat.{ℕ};
-ghost use Rattle.extensions.specs.Extensions.{refusedCritical, heldOf, Slotted};
+ghost use Rattle.extensions.specs.Extensions.{present, refusedCritical, heldOf, Slotted};
 
 pub(crate) fn held_of(extension: Extension) -> Held
     ensures { λ r. ⌜ r ≡ heldOf extension ⌝ }
@@ -28,6 +28,20 @@ pub(crate) fn held_of(extension: Extension) -> Held
         critical,
         start: value.contents,
         end: value.end,
+    }
+}
+
+// Whether there is one.
+pub fn is_there(extension: Extension) -> bool
+    ensures { λ r. ⌜ r ≡ present extension ⌝ }
+{
+    match extension {
+        Extension::Is {
+            oid: _,
+            critical: _,
+            value: _,
+        } => true,
+        Extension::Absent => false,
     }
 }
 

@@ -1,13 +1,13 @@
 //! The questions by name, each made alone from a fixed seed.
 
 use make::certificate::{Certificate, ANCHOR, LINK, SIGNER};
-use make::crl::{Crl, Parameters};
-use make::extension::Extension;
+use make::crl::{entry, Crl, Parameters};
+use make::extension::{known, Extension};
 use make::image::Image;
 use make::questions::Question;
 use make::random::Random;
 use make::world::{Plan, World, MOMENT};
-use make::{der, name, table};
+use make::{der, name, table, time};
 
 /// The questions of the table.
 pub const QUESTIONS: &[&str] = &[
@@ -17,6 +17,8 @@ pub const QUESTIONS: &[&str] = &[
     "link",
     "signer",
     "crl-16k",
+    "crl-reasons",
+    "crl-entry-extended",
     "crl-age-16k",
     "image-read",
     "image-write",
@@ -77,6 +79,8 @@ pub fn named(name: &str) -> Option<Vec<Question>> {
         "link" => Question::Certificate(Certificate::typical(LINK).encode(), LINK),
         "signer" => Question::Certificate(Certificate::typical(SIGNER).encode(), SIGNER),
         "crl-16k" => Question::Crl(crl_of_16k()),
+        "crl-reasons" => Question::Crl(crl_with_reasons()),
+        "crl-entry-extended" => Question::Crl(crl_with_one_entry()),
         "crl-age-16k" => Question::Age(crl_of_16k(), DAY),
         "image-read" => Question::Image(realistic(World::line, 96, 40).0.encode()),
         "image-write" => {
@@ -127,6 +131,27 @@ fn many(bytes: usize) -> Vec<u8> {
 fn crl_of_16k() -> Vec<u8> {
     let items = (0..).map(|entries| Crl::typical(entries).encode());
     items.take_while(|item| item.len() <= ITEM).last().unwrap_or_default()
+}
+
+/// The longest CRL that is an item, with a reason code in each entry.
+fn crl_with_reasons() -> Vec<u8> {
+    let reason = Extension::new(&known(21), false, &[10, 1, 1]);
+    let revoked = time::time(20230704101112);
+    let items = (0..).map(|entries| {
+        let mut made = Crl::typical(0);
+        made.entries = Parameters::typical(entries).serials.iter().map(|serial| entry(serial, &revoked, &[reason.clone()])).collect();
+        made.encode()
+    });
+    items.take_while(|item| item.len() <= ITEM).last().unwrap_or_default()
+}
+
+/// A CRL with one entry that has as many extensions as an item has elements for, no OID twice.
+fn crl_with_one_entry() -> Vec<u8> {
+    let mut made = Crl::typical(0);
+    let extensions: Vec<_> =
+        (0..1353).map(|number| Extension::new(&[(number / 100) as u8, (number % 100) as u8], false, &[])).collect();
+    made.entries.push(entry(&[1], &time::time(20230704101112), &extensions));
+    made.encode()
 }
 
 /// A document signer with so many extensions, no OID twice.

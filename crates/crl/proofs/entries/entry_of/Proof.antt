@@ -53,7 +53,7 @@ returns-7 c =
     let back12 = back8 .before .before .before .before in
     let back16 = back12 .before .before .before .before in
     let back20 = back16 .before .before .before .before in
-    rw (eq-eqb _ _ (back20 .if1 .left)) (on-found _ _ (sym (back16 .before .before .before .element-tagged .ensures) ∙ back16 .before .serial .given .1) (on-found _ _ (sym (back12 .before .before .before .time-at .ensures) ∙ back12 .before .time .given .1) (rw (ne-eqb _ _ (back8 .before .if2 .left)) (on-found _ _ (sym (back8 .element-tagged2 .ensures) ∙ back4 .before .before .extensions .given .1) (rw (eq-eqb _ _ (c .before .before .if3 .left), sym (c .before .extensions-shaped .ensures) ∙ c .if4 .taken))))))
+    rw (eq-eqb _ _ (back20 .if1 .left)) (on-found _ _ (sym (back16 .before .before .before .element-tagged .ensures) ∙ back16 .before .serial .given .1) (on-found _ _ (sym (back12 .before .before .before .time-at .ensures) ∙ back12 .before .time .given .1) (rw (ne-eqb _ _ (back8 .before .if2 .left)) (on-found _ _ (sym (back8 .element-tagged2 .ensures) ∙ back4 .before .before .extensions .given .1) (rw (eq-eqb _ _ (c .before .before .if3 .left), sym (c .before .outline-of .ensures .0) ∙ c .if4 .taken, c .before .outline-of .ensures .1))))))
 
 returns-8 : tie.Need-returns-8
 unfolding entryOf extended
@@ -63,7 +63,7 @@ returns-8 c =
     let back12 = back8 .before .before .before .before in
     let back16 = back12 .before .before .before .before in
     let back20 = back16 .before .before .before .before in
-    rw (eq-eqb _ _ (back20 .if1 .left)) (on-found _ _ (sym (back16 .before .before .before .element-tagged .ensures) ∙ back16 .before .serial .given .1) (on-found _ _ (sym (back12 .before .before .before .time-at .ensures) ∙ back12 .before .time .given .1) (rw (ne-eqb _ _ (back8 .before .if2 .left)) (on-found _ _ (sym (back8 .element-tagged2 .ensures) ∙ back4 .before .before .extensions .given .1) (rw (eq-eqb _ _ (c .before .before .if3 .left), sym (c .before .extensions-shaped .ensures) ∙ c .if4 .left))))))
+    rw (eq-eqb _ _ (back20 .if1 .left)) (on-found _ _ (sym (back16 .before .before .before .element-tagged .ensures) ∙ back16 .before .serial .given .1) (on-found _ _ (sym (back12 .before .before .before .time-at .ensures) ∙ back12 .before .time .given .1) (rw (ne-eqb _ _ (back8 .before .if2 .left)) (on-found _ _ (sym (back8 .element-tagged2 .ensures) ∙ back4 .before .before .extensions .given .1) (rw (eq-eqb _ _ (c .before .before .if3 .left), sym (c .before .outline-of .ensures .0) ∙ c .if4 .left))))))
 
 pub entry-of-spec : {M : Type 1} → statement M
 entry-of-spec =

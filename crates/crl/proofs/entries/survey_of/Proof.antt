@@ -86,8 +86,8 @@ loop-again-2 c =
           (⊎-elim
           (λ w. bare-adds (entry ∙ w .1 .given .1) (stays (was .timely) (sym (w .3 .ensures) ∙ not-false _ (w .4 .left)) (w .5)) (w .6))
           (⊎-elim
-          (λ w. extended-adds (entry ∙ w .1 .given .1) (w .7 ∙ ⊎-elim (λ v. falls (was .timely) (sym (w .3 .ensures) ∙ not-true _ (v .0 .taken)) (v .1)) (λ v. stays (was .timely) (sym (w .3 .ensures) ∙ not-false _ (v .0 .left)) (v .1)) (w .4 .came)) (falls (was .calm) (ap not (sym (w .5 .ensures) ∙ w .6 .taken)) (w .8)))
-          (λ w. extended-adds (entry ∙ w .1 .given .1) (w .7 ∙ ⊎-elim (λ v. falls (was .timely) (sym (w .3 .ensures) ∙ not-true _ (v .0 .taken)) (v .1)) (λ v. stays (was .timely) (sym (w .3 .ensures) ∙ not-false _ (v .0 .left)) (v .1)) (w .4 .came)) (stays (was .calm) (ap not (sym (w .5 .ensures) ∙ w .6 .left)) (w .8)))))
+          (λ w. extended-adds (entry ∙ w .1 .given .1) (w .6 ∙ ⊎-elim (λ v. falls (was .timely) (sym (w .3 .ensures) ∙ not-true _ (v .0 .taken)) (v .1)) (λ v. stays (was .timely) (sym (w .3 .ensures) ∙ not-false _ (v .0 .left)) (v .1)) (w .4 .came)) (falls (was .calm) (ap not (w .5 .taken)) (w .7)))
+          (λ w. extended-adds (entry ∙ w .1 .given .1) (w .6 ∙ ⊎-elim (λ v. falls (was .timely) (sym (w .3 .ensures) ∙ not-true _ (v .0 .taken)) (v .1)) (λ v. stays (was .timely) (sym (w .3 .ensures) ∙ not-false _ (v .0 .left)) (v .1)) (w .4 .came)) (stays (was .calm) (ap not (w .5 .left)) (w .7)))))
           (c .match2 .came)),
     )
 
@@ -114,7 +114,6 @@ survey-of-spec =
     (λ c. search needs)
     (λ c κs. search needs)
     (λ c. search needs)
-    (λ c κs. search needs)
     (λ c κs. search needs)
     add-count-2
     loop-less-2

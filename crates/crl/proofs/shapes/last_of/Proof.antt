@@ -29,14 +29,14 @@ unfolding lastOf
 returns-4 c =
     let back4 = c .before .before .before .before in
     let back8 = back4 .before .before .before .before in
-    on-found _ _ (sym (back8 .before .before .before .element-tagged .ensures) ∙ back8 .before .last .given .1) (rw (eq-eqb _ _ (back4 .before .before .if1 .left)) (on-found _ _ (sym (back4 .before .only-member .ensures) ∙ c .before .before .before .extensions .given .1) (rw (sym (c .before .extensions-shaped .ensures) ∙ c .if2 .taken))))
+    on-found _ _ (sym (back8 .before .before .before .element-tagged .ensures) ∙ back8 .before .last .given .1) (rw (eq-eqb _ _ (back4 .before .before .if1 .left)) (on-found _ _ (sym (back4 .before .only-member .ensures) ∙ c .before .before .before .extensions .given .1) (rw (sym (c .before .outline-of .ensures .0) ∙ c .if2 .taken))))
 
 returns-5 : tie.Need-returns-5
 unfolding lastOf
 returns-5 c =
     let back4 = c .before .before .before .before in
     let back8 = back4 .before .before .before .before in
-    on-found _ _ (sym (back8 .before .before .before .element-tagged .ensures) ∙ back8 .before .last .given .1) (rw (eq-eqb _ _ (back4 .before .before .if1 .left)) (on-found _ _ (sym (back4 .before .only-member .ensures) ∙ c .before .before .before .extensions .given .1) (rw (sym (c .before .extensions-shaped .ensures) ∙ c .if2 .left))))
+    on-found _ _ (sym (back8 .before .before .before .element-tagged .ensures) ∙ back8 .before .last .given .1) (rw (eq-eqb _ _ (back4 .before .before .if1 .left)) (on-found _ _ (sym (back4 .before .only-member .ensures) ∙ c .before .before .before .extensions .given .1) (rw (sym (c .before .outline-of .ensures .0) ∙ c .if2 .left))))
 
 pub last-of-spec : {M : Type 1} → statement M
 last-of-spec =
