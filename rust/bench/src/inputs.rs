@@ -1,28 +1,47 @@
 //! The questions by name, each made alone from a fixed seed.
 
 use make::certificate::{Certificate, ANCHOR, LINK, SIGNER};
-use make::crl::{entry, Crl, Parameters};
-use make::extension::{known, Extension};
+use make::crl::Crl;
 use make::image::Image;
 use make::questions::Question;
-use make::random::Random;
-use make::world::{Plan, World, MOMENT};
-use make::{der, name, table, time};
+use make::world::World;
+
+use crate::images::{self, chain, realistic, DAY};
+use crate::items::{self, ITEM};
 
 /// The questions of the table.
 pub const QUESTIONS: &[&str] = &[
     "walk-certificate",
     "walk-16k",
+    "walk-oids",
+    "walk-nulls",
+    "walk-deep",
     "anchor",
     "link",
     "signer",
+    "signer-two-strangers",
+    "signer-strangers",
     "crl-16k",
     "crl-reasons",
+    "crl-some-reasons",
+    "crl-empty-lists",
+    "crl-late-times",
+    "crl-last-days",
+    "crl-short",
+    "crl-none",
     "crl-entry-extended",
+    "crl-extended",
     "crl-age-16k",
     "image-read",
     "image-write",
+    "image-write-real",
     "days",
+    "chain-usual-two",
+    "chain-usual-five",
+    "chain-usual-none",
+    "chain-strangers",
+    "chain-long-names",
+    "chain-extended",
     "chain-dense",
     "chain-sparse",
     "chain-line",
@@ -59,11 +78,8 @@ pub const GROWTH: &[&str] = &[
     "chain-line-entries-680",
 ];
 
-/// The most bytes of an item.
-const ITEM: usize = 16_384;
 /// The most bytes of an image.
 const ROOM: usize = 262_144;
-const DAY: u64 = 20240301;
 
 /// The questions of a name.
 pub fn named(name: &str) -> Option<Vec<Question>> {
@@ -72,46 +88,73 @@ pub fn named(name: &str) -> Option<Vec<Question>> {
             return sized(what, number);
         }
     }
-    let question = match name {
+    if let Some(question) = item(name) {
+        return Some(vec![question]);
+    }
+    match name.split_once('-')? {
+        ("chain", "strangers") => Some(images::strangers()),
+        ("chain", "long-names") => Some(images::long_names()),
+        ("chain", "extended") => Some(images::extended()),
+        ("chain", usual) if usual.starts_with("usual-") => images::usual(&usual["usual-".len()..]),
+        ("chain", shape) => chain(shape, 96, 40, false),
+        ("signers", shape) => chain(shape, 96, 40, true),
+        _ => None,
+    }
+}
+
+/// A question about one item or image.
+fn item(name: &str) -> Option<Question> {
+    Some(match name {
         "walk-certificate" => Question::Walk(Certificate::typical(SIGNER).encode()),
-        "walk-16k" => Question::Walk(many(ITEM)),
+        "walk-16k" => Question::Walk(items::many(ITEM)),
+        "walk-oids" => Question::Walk(items::alike(&[6, 1, 0x2A])),
+        "walk-nulls" => Question::Walk(items::alike(&[5, 0])),
+        "walk-deep" => Question::Walk(items::deep()),
         "anchor" => Question::Certificate(Certificate::typical(ANCHOR).encode(), ANCHOR),
         "link" => Question::Certificate(Certificate::typical(LINK).encode(), LINK),
         "signer" => Question::Certificate(Certificate::typical(SIGNER).encode(), SIGNER),
-        "crl-16k" => Question::Crl(crl_of_16k()),
-        "crl-reasons" => Question::Crl(crl_with_reasons()),
-        "crl-entry-extended" => Question::Crl(crl_with_one_entry()),
-        "crl-age-16k" => Question::Age(crl_of_16k(), DAY),
+        "signer-two-strangers" => Question::Certificate(items::signer_with_strangers(2), SIGNER),
+        "signer-strangers" => Question::Certificate(items::signer_with_strangers(1326), SIGNER),
+        "crl-16k" => Question::Crl(items::crl_of_16k()),
+        "crl-reasons" => Question::Crl(items::crl_with_reasons()),
+        "crl-some-reasons" => Question::Crl(items::crl_with_some_reasons()),
+        "crl-empty-lists" => Question::Crl(items::crl_with_empty_lists()),
+        "crl-late-times" => Question::Crl(items::crl_with_late_times()),
+        "crl-last-days" => Question::Crl(items::crl_with_last_days()),
+        "crl-short" => Question::Crl(Crl::typical(5).encode()),
+        "crl-none" => Question::Crl(Crl::typical(0).encode()),
+        "crl-entry-extended" => Question::Crl(items::crl_with_one_entry()),
+        "crl-extended" => Question::Crl(items::crl_with_extensions()),
+        "crl-age-16k" => Question::Age(items::crl_of_16k(), DAY),
         "image-read" => Question::Image(realistic(World::line, 96, 40).0.encode()),
-        "image-write" => {
-            let (image, _) = realistic(World::line, 96, 40);
-            Question::Write {
-                items: image.items.concat(),
-                lengths: image.lengths(),
-                day: image.day as u64,
-                kinds: image.kinds,
-                flags: image.flags,
-                room: ROOM,
+        "image-write" => written(realistic(World::line, 96, 40).0),
+        "image-write-real" => {
+            let mut image = Image::new(DAY as u32);
+            for _ in 0..96 {
+                image.add(SIGNER as u8, 0, items::signer_of(1350));
             }
+            written(image)
         }
         "days" => Question::Days(19500101, 20240301),
-        _ => {
-            let (how_many, shape) = name.split_once('-')?;
-            let every = match how_many {
-                "chain" => false,
-                "signers" => true,
-                _ => return None,
-            };
-            return chain(shape, 96, 40, every);
-        }
-    };
-    Some(vec![question])
+        _ => return None,
+    })
+}
+
+fn written(image: Image) -> Question {
+    Question::Write {
+        items: image.items.concat(),
+        lengths: image.lengths(),
+        day: image.day as u64,
+        kinds: image.kinds,
+        flags: image.flags,
+        room: ROOM,
+    }
 }
 
 fn sized(what: &str, number: usize) -> Option<Vec<Question>> {
     let question = match what {
-        "walk-bytes" => Question::Walk(many(number)),
-        "signer-extensions" => Question::Certificate(extended(number), SIGNER),
+        "walk-bytes" => Question::Walk(items::many(number)),
+        "signer-extensions" => Question::Certificate(items::extended(number), SIGNER),
         "crl-entries" => Question::Crl(Crl::typical(number).encode()),
         "chain-dense-places" => return chain("dense", number, 40, false),
         "chain-line-places" => return chain("line", number, 40, false),
@@ -119,91 +162,4 @@ fn sized(what: &str, number: usize) -> Option<Vec<Question>> {
         _ => return None,
     };
     Some(vec![question])
-}
-
-/// An item of at most so many bytes: a SEQUENCE of SEQUENCEs of an INTEGER, an OID, a string and a NULL.
-fn many(bytes: usize) -> Vec<u8> {
-    let group = [0x30, 19, 2, 2, 1, 7, 6, 3, 0x55, 4, 6, 0x13, 6, b'U', b'T', b'O', b'P', b'I', b'A', 5, 0];
-    der::element(der::SEQUENCE, &group.repeat((bytes - 4) / group.len()))
-}
-
-/// The longest typical CRL that is an item.
-fn crl_of_16k() -> Vec<u8> {
-    let items = (0..).map(|entries| Crl::typical(entries).encode());
-    items.take_while(|item| item.len() <= ITEM).last().unwrap_or_default()
-}
-
-/// The longest CRL that is an item, with a reason code in each entry.
-fn crl_with_reasons() -> Vec<u8> {
-    let reason = Extension::new(&known(21), false, &[10, 1, 1]);
-    let revoked = time::time(20230704101112);
-    let items = (0..).map(|entries| {
-        let mut made = Crl::typical(0);
-        made.entries = Parameters::typical(entries).serials.iter().map(|serial| entry(serial, &revoked, &[reason.clone()])).collect();
-        made.encode()
-    });
-    items.take_while(|item| item.len() <= ITEM).last().unwrap_or_default()
-}
-
-/// A CRL with one entry that has as many extensions as an item has elements for, no OID twice.
-fn crl_with_one_entry() -> Vec<u8> {
-    let mut made = Crl::typical(0);
-    let extensions: Vec<_> =
-        (0..1353).map(|number| Extension::new(&[(number / 100) as u8, (number % 100) as u8], false, &[])).collect();
-    made.entries.push(entry(&[1], &time::time(20230704101112), &extensions));
-    made.encode()
-}
-
-/// A document signer with so many extensions, no OID twice.
-fn extended(number: usize) -> Vec<u8> {
-    let mut made = Certificate::typical(SIGNER);
-    for stranger in made.extensions.len()..number {
-        let oid = [0x2B, 14, (stranger / 100) as u8, (stranger % 100) as u8];
-        made.extensions.push(Extension::new(&oid, false, &[5, 0]));
-    }
-    made.encode()
-}
-
-type Maker = fn(&mut Random, Plan, bool) -> World;
-
-/// An image of so many places whose items are all good, with four CRLs of so many entries that list none of the items.
-fn realistic(maker: Maker, places: usize, entries: usize) -> (Image, World) {
-    let (anchors, crls, signers) = (4, 4, places / 6);
-    let plan = Plan { anchors, links: places - anchors - crls - signers, signers, crls, wrong: 0, lists: false };
-    let world = maker(&mut Random::new(1), plan, false);
-    let listing = Crl::new(&Parameters { issuer: name::name(*b"UT", "CSCA"), ..Parameters::typical(entries) }).encode();
-    let mut image = Image::new(DAY as u32);
-    for place in 0..world.entries() {
-        let found = plain::entry(&world.image, place as u64);
-        let item = &world.image[found.offset as usize..(found.offset + found.length) as usize];
-        let item = if found.kind == make::world::CRL as u64 { &listing[..] } else { item };
-        image.add(found.kind as u8, found.flags as u8, item.to_vec());
-    }
-    (image, world)
-}
-
-/// A chain question, for the first signer that has a chain or for every signer.
-fn chain(shape: &str, places: usize, entries: usize, every: bool) -> Option<Vec<Question>> {
-    let maker: Maker = if shape == "line" { World::line } else { World::alike };
-    let (image, world) = realistic(maker, places, entries);
-    let table = match shape {
-        "dense" => vec![1; places * places],
-        "sparse" => {
-            let mut random = Random::new(2);
-            let mut table = table::scattered(&mut random, places, 4);
-            table::sign_crls(&mut random, &world, &mut table, 100);
-            table
-        }
-        "line" => world.truth.clone(),
-        _ => return None,
-    };
-    let image = image.encode();
-    let mut targets: Vec<u64> = world.places(SIGNER as u8).into_iter().map(|place| place as u64).collect();
-    if !every {
-        let has_chain = |&target: &u64| plain::chain(&image, &table, MOMENT, target).number == 0;
-        let one = targets.iter().copied().find(has_chain).or(targets.first().copied());
-        targets = one.into_iter().collect();
-    }
-    let question = |target| Question::Chain { image: image.clone(), table: table.clone(), moment: MOMENT, target };
-    Some(targets.into_iter().map(question).collect())
 }

@@ -8,7 +8,9 @@
 #![forbid(unsafe_code)]
 
 mod ask;
+mod images;
 mod inputs;
+mod items;
 mod timing;
 
 use ask::Asker;
