@@ -131,7 +131,7 @@ fn item(name: &str) -> Option<Question> {
         "image-write-real" => {
             let mut image = Image::new(DAY as u32);
             for _ in 0..96 {
-                image.add(SIGNER as u8, 0, items::signer_of(1350));
+                image.add(SIGNER as u8, 0, items::signer_of(2140));
             }
             written(image)
         }
