@@ -8,6 +8,7 @@ use make::world::World;
 
 use crate::images::{self, chain, realistic, DAY};
 use crate::items::{self, ITEM};
+use crate::worst;
 
 /// The questions of the table.
 pub const QUESTIONS: &[&str] = &[
@@ -49,6 +50,10 @@ pub const QUESTIONS: &[&str] = &[
     "signers-sparse",
     "signers-line",
 ];
+
+/// The dearest that a search found, with the most instructions that they may cost.
+pub const WORST: &[(&str, u64)] =
+    &[("worst-certificate", 16_000_000), ("worst-crl", 16_000_000), ("worst-chain", 280_000_000)];
 
 /// The same questions at four sizes. The number is bytes, extensions, entries, places, or entries in each of four CRLs.
 pub const GROWTH: &[&str] = &[
@@ -98,6 +103,9 @@ pub fn named(name: &str) -> Option<Vec<Question>> {
         ("chain", usual) if usual.starts_with("usual-") => images::usual(&usual["usual-".len()..]),
         ("chain", shape) => chain(shape, 96, 40, false),
         ("signers", shape) => chain(shape, 96, 40, true),
+        ("worst", "certificate") => Some(worst::CERTIFICATE.asked()),
+        ("worst", "crl") => Some(worst::LIST.asked()),
+        ("worst", "chain") => Some(worst::CHAIN.asked()),
         _ => None,
     }
 }
