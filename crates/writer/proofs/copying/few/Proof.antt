@@ -7,8 +7,8 @@ use native.Mathlib.Omega.{arith}
 use lib.ListN.{length, getD, set, take, drop, length-set}
 use lib.Seq.{take-length}
 use Rattle.writer.proofs.Stores.{copy-next}
-use Rattle.writer.proofs.copy.Statement.{statement}
-use Rattle.writer.proofs.copy.Tie as tie
+use Rattle.writer.proofs.copying.few.Statement.{statement}
+use Rattle.writer.proofs.copying.few.Tie as tie
 
 abbrev Inv-loop : tie.InvT-loop
 Inv-loop from out₀ i₀ out i = (i ≤ length from) × (length out ≡ length out₀) × (out ≡ take i from ++ drop i out₀)
@@ -51,8 +51,8 @@ returns c =
     let all : c .before .loop .i ≡ length from = omega arith in
     rw (all, take-length) at (c .before .loop .inv .2)
 
-pub copy-spec : {M : Type 1} → statement M
-copy-spec =
+pub few-spec : {M : Type 1} → statement M
+few-spec =
     tie.close
     (tie.spec
     Inv-loop
