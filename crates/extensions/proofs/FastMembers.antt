@@ -14,8 +14,8 @@ use Rattle.elements.specs.Short.{shortEnd}
 use Rattle.elements.proofs.Shorts.{brief, short-found, short-within}
 use Rattle.extensions.specs.declared.Extension.{Extension}
 use Rattle.extensions.specs.declared.Extension.the-variants.{Is, Absent}
-use Rattle.extensions.specs.Extensions.{present, holdingOf, extensionOf}
-use Rattle.extensions.specs.Fast.{Member}
+use Rattle.extensions.specs.Extensions.{present, holdingOf, extensionOf, refusedCritical}
+use Rattle.extensions.specs.Fast.{Member, Plain}
 
 pub nothing-told : {A : Type 0} → present Absent ≡ true → A
 unfolding present
@@ -62,3 +62,9 @@ module _ (s : List ℕ) (from stop : ℕ) {end next : ℕ} (whole : 0 < end) (he
       {from' : ℕ} → 0 < from' → from' ≡ shortEnd s next end 0x01 → getD s (next + 2) 0 ≡ 255 → end ≡ shortEnd s from' end 0x04
       → Member s from stop end (Is (brief 0x06 (from + 2) next) true (brief 0x04 from' end))
   member-critical one flag set last = record { e = brief 0x30 from end; found = there; ends = refl; is = brief-critical s (brief 0x30 from end) refl some oid one flag set last }
+
+  pub plain-member : end ≡ shortEnd s next end 0x04 → Plain s from stop end
+  unfolding present refusedCritical
+  plain-member last =
+      let m = member-uncritical last in
+      record { e = m .e; found = m .found; ends = m .ends; there = rw (← m .is); mild = rw (← m .is) }
