@@ -1,21 +1,27 @@
 -- An extension whose headers have two octets each is what the fast path tells.
-use Prim.Native.Nat.{ℕ, _+_, _<_, _≤_}
-use mathlib.Core.Path.{_≡_, refl, sym}
+use Prim.Native.Nat.{ℕ, _+_, _-_, _<_, _≤_}
+use mathlib.Core.Path.{_≡_, refl, sym, ap, _∙_}
 use mathlib.Core.Bool.{Bool, true, false}
-use mathlib.Core.List.{List}
+use mathlib.Core.List.{List, [], _∷_}
 use native.Mathlib.Omega.{arith}
 use borrow.Author.Tests.{eq-eqb}
-use lib.ListN.{getD}
+use lib.ListN.{length, getD, take, drop, length-drop}
+use lib.Seq.{length-take-le, getD-take, getD-drop}
 use Rattle.der.specs.Heading.{identifierGood}
 use Rattle.elements.specs.declared.elements.Element.{Element}
 use Rattle.elements.specs.declared.elements.Found.the-variants.{One}
-use Rattle.elements.specs.Elements.{foundAt, withTag, foundTagged, onFound}
+use Rattle.elements.specs.Elements.{foundAt, withTag, foundTagged, onFound, contentsOf}
 use Rattle.elements.specs.Short.{shortEnd}
-use Rattle.elements.proofs.Shorts.{brief, short-found, short-within}
+use Rattle.elements.proofs.Shorts.{brief, short-found, short-within, short-inside}
 use Rattle.extensions.specs.declared.Extension.{Extension}
 use Rattle.extensions.specs.declared.Extension.the-variants.{Is, Absent}
-use Rattle.extensions.specs.Extensions.{present, holdingOf, extensionOf}
-use Rattle.extensions.specs.Fast.{Member}
+use Rattle.extensions.specs.Extensions.{present, holdingOf, extensionOf, refusedCritical, oidOf}
+use Rattle.extensions.specs.Fast.{Member, Plain}
+use Rattle.extensions.specs.Strange.{strangeOid, Passed}
+use Rattle.extensions.proofs.Oids.{by-oid}
+use Rattle.extensions.proofs.Slotless.{with-slot}
+use Rattle.octets.specs.Alike.{alike}
+use Rattle.octets.proofs.Likeness.{three}
 
 pub nothing-told : {A : Type 0} → present Absent ≡ true → A
 unfolding present
@@ -62,3 +68,36 @@ module _ (s : List ℕ) (from stop : ℕ) {end next : ℕ} (whole : 0 < end) (he
       {from' : ℕ} → 0 < from' → from' ≡ shortEnd s next end 0x01 → getD s (next + 2) 0 ≡ 255 → end ≡ shortEnd s from' end 0x04
       → Member s from stop end (Is (brief 0x06 (from + 2) next) true (brief 0x04 from' end))
   member-critical one flag set last = record { e = brief 0x30 from end; found = there; ends = refl; is = brief-critical s (brief 0x30 from end) refl some oid one flag set last }
+
+  pub plain-member : end ≡ shortEnd s next end 0x04 → Plain s from stop end
+  unfolding present refusedCritical
+  plain-member last =
+      let m = member-uncritical last in
+      record { e = m .e; found = m .found; ends = m .ends; there = rw (← m .is); mild = rw (← m .is) }
+
+  -- an OID of three octets that has a slot
+  module _ (size : next ≡ from + 7) {k : ℕ} (l : k < 23) (slot : alike (getD s (from + 4) 0 ∷ getD s (from + 5) 0 ∷ getD s (from + 6) 0 ∷ []) (oidOf k) ≡ true) where
+    three-octets : contentsOf s (brief 0x06 (from + 2) next) ≡ getD s (from + 4) 0 ∷ getD s (from + 5) 0 ∷ getD s (from + 6) 0 ∷ []
+    unfolding contentsOf
+    three-octets =
+        let count : next - (from + 2 + 2) ≡ 3 = omega (arith, size) in
+        let start : from + 2 + 2 ≡ from + 4 = omega arith in
+        rw (count, start)
+        (three (take 3 (drop (from + 4) s)) (length-take-le 3 (drop (from + 4) s) (rw length-drop (omega (arith, size, short-inside s (from + 2) end 0x06 oid some))))
+        ∙ rw (nth 0 {j = from + 4} (omega arith) (omega arith), nth 1 {j = from + 5} (omega arith) (omega arith), nth 2 {j = from + 6} (omega arith) (omega arith)))
+      where
+        nth : (i : ℕ) {j : ℕ} → i < 3 → from + 4 + i ≡ j → getD (take 3 (drop (from + 4) s)) i 0 ≡ getD s j 0
+        nth i h q = getD-take 3 (drop (from + 4) s) i 0 h ∙ getD-drop (from + 4) s i 0 ∙ ap (λ (n : ℕ). getD s n 0) q
+
+    pub passed-slot : Passed s from stop end
+    unfolding strangeOid foundTagged withTag identifierGood
+    passed-slot =
+        record {
+          e = brief 0x30 from end;
+          found = there;
+          ends = refl;
+          familiar = λ more.
+              by-oid s (brief 0x30 from end) (brief 0x06 (from + 2) next) (λ x. strangeOid s x more ≡ more) refl
+              (λ critical value. rw (with-slot (contentsOf s (brief 0x06 (from + 2) next)) 23 k l (ap (λ (o : List ℕ). alike o (oidOf k)) three-octets ∙ slot)))
+              (rw (short-found s (from + 2) end 0x06 refl some oid));
+        }

@@ -3,8 +3,10 @@ mod fast;
 mod finding;
 mod members;
 mod outline;
+mod rows;
 mod shape;
 mod slot;
+mod stranger;
 mod told;
 mod twice;
 

@@ -2,8 +2,8 @@
 use mathlib.Core.Path.{_∙_}
 use borrow.Author.Needs.{needs}
 use Rattle.extensions.specs.Extensions.{hasOid}
-use Rattle.extensions.proofs.twice.has_oid.Statement.{statement}
-use Rattle.extensions.proofs.twice.has_oid.Tie as tie
+use Rattle.extensions.proofs.finding.has_oid.Statement.{statement}
+use Rattle.extensions.proofs.finding.has_oid.Tie as tie
 
 returns : tie.Need-returns
 unfolding hasOid
