@@ -3,6 +3,7 @@ pub mod Surveys
 pub mod Firsts
 pub mod Serials
 pub mod FastEntries
+pub mod ReasonCodes
 pub mod Words
 pub mod Digits
 pub mod Theorems

@@ -2,9 +2,9 @@
 use Prim.Native.Nat.{ℕ, zero, suc, _+_, _-_, _<_, _≤_}
 use mathlib.Core.Bool.{Bool, true, false, cond, _&&_, not, and-true, and-assoc}
 use mathlib.Core.List.{List, [], _∷_}
-use mathlib.Core.Path.{_≡_, refl, ap, sym, _∙_}
+use mathlib.Core.Path.{_≡_, ap, sym, _∙_}
 use native.Mathlib.Omega.{arith}
-use lib.ListN.{length}
+use lib.ListN.{length, getD}
 use Rattle.elements.specs.declared.elements.Element.{Element}
 use Rattle.elements.specs.declared.elements.Found.{Found}
 use Rattle.elements.specs.declared.elements.Found.the-variants.{One, Missing}
@@ -14,7 +14,7 @@ use Rattle.elements.proofs.Members.{found-within, members-none, members-more}
 use Rattle.crl.specs.declared.entries.Entry.the-variants.{Bare, Extended, Misshapen}
 use Rattle.crl.specs.declared.entries.Survey.{Survey}
 use Rattle.crl.specs.declared.entries.Survey.the-variants.{Entries, Shapeless}
-use Rattle.crl.specs.FastEntries.{utcAt, Usual}
+use Rattle.crl.specs.FastEntries.{Usual}
 use Rattle.crl.specs.Entries.{entryOf, shaped, isTime, timely, calm, allShaped, allTimely, allCalm, surveyOf}
 
 -- there are no more members than octets
@@ -84,13 +84,18 @@ module _ {s : List ℕ} {e serial time : Element} {times quiet times' quiet' : B
   extended-adds h t q = record { fit = rw h; timed = rw (h, t); calmed = rw (h, q) }
 
 -- a usual entry adds its time
-module _ {s : List ℕ} {at end r : ℕ} (u : Usual s at end r) where
-  pub usual-more : length (membersOf s at end) ≡ suc (length (membersOf s (r + 15) end))
+module _ {s : List ℕ} {at end : ℕ} {time : Element} (u : Usual s at end time) where
+  pub usual-within : at + 2 + getD s (at + 1) 0 ≤ length s
+  usual-within = omega (arith, u .ends, found-within s at end (u .found))
+
+  pub usual-more : length (membersOf s at end) ≡ suc (length (membersOf s (at + 2 + getD s (at + 1) 0) end))
   usual-more = rw (u .ends) at (ap length (members-more s at end (u .found)))
 
-  pub usual-less : end - (r + 15) < end - at
+  pub usual-less : end - (at + 2 + getD s (at + 1) 0) < end - at
   usual-less = omega (arith, u .ends, found-within s at end (u .found))
 
-  pub usual-on : (count : ℕ) (times quiet : Bool) {times' : Bool} → times' ≡ (times && isTime (timeOf s (utcAt r)))
-      → surveyWith s count times quiet (membersOf s at end) ≡ surveyWith s (count + 1) times' quiet (membersOf s (r + 15) end)
-  usual-on count times quiet t = rw (u .ends) at (survey-on s count times quiet at end (u .found) (bare-adds (u .bare) t refl))
+  pub usual-on : (count : ℕ) (times quiet : Bool) {times' : Bool} → times' ≡ (times && isTime (timeOf s time))
+      → surveyWith s count times quiet (membersOf s at end) ≡ surveyWith s (count + 1) times' quiet (membersOf s (at + 2 + getD s (at + 1) 0) end)
+  usual-on count times quiet {times'} t =
+      let adds : Adds s (u .entry) times quiet times' quiet = record { fit = u .fit; timed = rw (u .timed) t; calmed = rw (u .calmed, and-true quiet) } in
+      rw (u .ends) at (survey-on s count times quiet at end (u .found) adds)

@@ -29,7 +29,7 @@ Ands (o ∷ os) [] es = Unit
 Ands (o ∷ os) (b ∷ bs) [] = Unit
 Ands (o ∷ os) (b ∷ bs) (e ∷ es) = (bitAnd o b ≡ e) × Ands os bs es
 
-apart : (x y e t : ℕ) → y < 256 → t < 256 → x * 256 + y ≡ e * 256 + t → (y ≡ t) × (x ≡ e)
+pub apart : (x y e t : ℕ) → y < 256 → t < 256 → x * 256 + y ≡ e * 256 + t → (y ≡ t) × (x ≡ e)
 apart x y e t few less is = (omega arith, omega arith)
 
 and-apart : (a b e r s t : ℕ) → r < 256 → s < 256 → t < 256 → bitAnd (a * 256 + r) (b * 256 + s) ≡ e * 256 + t → (bitAnd r s ≡ t) × (bitAnd a b ≡ e)

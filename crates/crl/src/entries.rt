@@ -1,6 +1,7 @@
 // Entries of a CRL, and what the rules ask of all of them, found in one pass.
 use crate::fast::four;
 use crate::fast::usual_utc;
+use crate::reasons::calm_list;
 use elements::Element;
 use elements::Found;
 use elements::element_at;
@@ -55,7 +56,7 @@ pub(crate) fn survey_of(item: &[u8], from: usize, end: usize) -> Survey
                 timely = false;
             }
             count += 1;
-            at = time + 15;
+            at = at + 2 + item[at + 1] as usize;
             continue;
         }
         let Found::One(e) = element_at(item, at, end) else {
@@ -90,19 +91,22 @@ pub(crate) fn survey_of(item: &[u8], from: usize, end: usize) -> Survey
     }
 }
 
-// The offset of the time of the entry at `at` if the entry is a serial and a UTCTime of 13 octets, each length in the
-// short form; else 0.
+// The offset of the time of the entry at `at` if the entry is a serial, a UTCTime of 13 octets and no critical
+// extension, each length in the short form; else 0.
 fn usual_time(item: &[u8], at: usize, end: usize) -> usize
-    ensures { λ r. ⌜ (0 < r → Usual (now (item .entry)) at end r) ⌝ }
+    ensures { λ r. ⌜ (0 < r → Usual (now (item .entry)) at end (utcAt r)) ⌝ }
 {
     if !opens(item, at, end) {
         return 0;
     }
     let size = item[at + 3] as usize;
-    if item[at + 1] as usize != size + 17 {
-        return 0;
-    }
+    let whole = item[at + 1] as usize;
     let time = at + 4 + size;
+    if whole != size + 17 {
+        if !calm_list(item, time + 15, at + 2 + whole) {
+            return 0;
+        }
+    }
     if four(item[time], item[time + 1], 0, 0) != 0x0d17 {
         return 0;
     }

@@ -2,6 +2,7 @@
 mod entries;
 mod fast;
 mod listing;
+mod reasons;
 mod rules;
 mod shapes;
 

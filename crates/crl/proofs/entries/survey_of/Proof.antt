@@ -10,7 +10,7 @@ use lib.ListN.{length}
 use Rattle.elements.specs.Elements.{membersOf}
 use Rattle.elements.proofs.Members.{found-within, members-more}
 use Rattle.crl.specs.Entries.{surveyOf}
-use Rattle.crl.proofs.Surveys.{members-few, surveyWith, survey-starts, survey-done, survey-bad, survey-on, falls, stays, bare-adds, extended-adds, usual-more, usual-less, usual-on}
+use Rattle.crl.proofs.Surveys.{members-few, surveyWith, survey-starts, survey-done, survey-bad, survey-on, falls, stays, bare-adds, extended-adds, usual-within, usual-more, usual-less, usual-on}
 use Rattle.crl.proofs.entries.survey_of.Statement.{statement}
 use Rattle.crl.proofs.entries.survey_of.Tie as tie
 
@@ -30,23 +30,35 @@ add-count : tie.Need-add-count Inv-loop μ-loop
 add-count c = omega (arith, c .before .before .before .before .loop .inv .0, usual-more (c .before .before .before .usual-time .ensures (c .before .before .if1 .taken)))
 
 add-at : tie.Need-add-at Inv-loop μ-loop
-add-at c = omega (arith, (c .before .before .before .usual-time .ensures (c .before .before .if1 .taken)) .room)
+add-at c = omega (arith, usual-within (c .before .before .before .usual-time .ensures (c .before .before .if1 .taken)))
+
+add-at-2 : tie.Need-add-at-2 Inv-loop μ-loop
+add-at-2 c = omega (arith, usual-within (c .before .before .before .usual-time .ensures (c .before .before .if1 .taken)))
+
+shared-slice-read-at : tie.Need-shared-slice-read-at Inv-loop μ-loop
+shared-slice-read-at c = omega (arith, usual-within (c .before .before .before .before .usual-time .ensures (c .before .before .before .if1 .taken)))
+
+cast-at : tie.Need-cast-at Inv-loop μ-loop
+cast-at c = omega (arith, usual-within (c .before .before .before .before .usual-time .ensures (c .before .before .before .if1 .taken)))
+
+add-at-3 : tie.Need-add-at-3 Inv-loop μ-loop
+add-at-3 c = omega (arith, usual-within (c .before .before .before .before .usual-time .ensures (c .before .before .before .if1 .taken)))
 
 loop-less : tie.Need-loop-less Inv-loop μ-loop
-loop-less c = usual-less (c .before .before .before .usual-time .ensures (c .before .before .if1 .taken))
+loop-less c = usual-less (c .before .before .before .before .usual-time .ensures (c .before .before .before .if1 .taken))
 
 loop-again : tie.Need-loop-again Inv-loop μ-loop
 loop-again c =
-    let was = c .before .before .before .before .loop in
-    let seen = c .before .before .before .usual-time .ensures (c .before .before .if1 .taken) in
-    let told = c .before .is-utc .ensures in (
+    let was = c .before .before .before .before .before .loop in
+    let seen = c .before .before .before .before .usual-time .ensures (c .before .before .before .if1 .taken) in
+    let told = c .before .before .is-utc .ensures in (
       omega (arith, was .inv .0, usual-more seen),
       was .inv .1
           ∙ usual-on seen _ _ _
           (⊎-elim
           (λ w. falls (was .timely) (sym told ∙ not-true _ (w .0 .taken)) (w .1))
           (λ w. stays (was .timely) (sym told ∙ not-false _ (w .0 .left)) (w .1))
-          (c .if2 .came)),
+          (c .before .if2 .came)),
     )
 
 returns : tie.Need-returns Inv-loop μ-loop
@@ -102,6 +114,10 @@ survey-of-spec =
     is-utc-requires
     add-count
     add-at
+    add-at-2
+    shared-slice-read-at
+    cast-at
+    add-at-3
     loop-less
     loop-again
     (λ c κs. search needs)

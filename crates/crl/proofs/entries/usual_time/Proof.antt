@@ -1,8 +1,9 @@
--- The entry opens as it should, and the UTCTime after its serial ends with it.
-use native.Mathlib.Omega.{arith}
+-- The entry opens as it should, and the UTCTime after its serial ends with it or stands before extensions.
 use Prim.Native.Nat.{_+_}
+use mathlib.Core.Logic.{⊎-elim}
+use native.Mathlib.Omega.{arith}
 use borrow.Author.Tests.{not-false}
-use Rattle.crl.proofs.FastEntries.{header-told, opened-usual}
+use Rattle.crl.proofs.FastEntries.{header-told, opened-bare, opened-mild}
 use borrow.Author.Needs.{needs}
 use Rattle.crl.proofs.entries.usual_time.Statement.{statement}
 use Rattle.crl.proofs.entries.usual_time.Tie as tie
@@ -19,56 +20,65 @@ shared-slice-read-size c = let o = c .before .before .opens .ensures (not-false 
 cast-size : tie.Need-cast-size
 cast-size c = omega (arith, c .before .before .before .shared-slice-known .given (c .before .before .before .before .args .at + 3))
 
+add-whole : tie.Need-add-whole
+add-whole c = let o = c .before .before .opens .ensures (not-false _ (c .before .if1 .left)) in omega (arith, o .room, o .inside)
+
+shared-slice-read-whole : tie.Need-shared-slice-read-whole
+shared-slice-read-whole c = let o = c .before .before .before .opens .ensures (not-false _ (c .before .before .if1 .left)) in omega (arith, o .room, o .inside)
+
+cast-whole : tie.Need-cast-whole
+cast-whole c = omega (arith, c .before .before .before .before .shared-slice-known .given (c .before .before .before .before .before .args .at + 1))
+
+add-time : tie.Need-add-time
+add-time c = let o = c .before .before .before .opens .ensures (not-false _ (c .before .before .if1 .left)) in omega (arith, o .room, o .inside)
+
+add-time-2 : tie.Need-add-time-2
+add-time-2 c = let o = c .before .before .before .opens .ensures (not-false _ (c .before .before .if1 .left)) in omega (arith, o .room, o .inside, c .before .before .before .before .shared-slice-known .given (c .before .before .before .before .before .args .at + 3))
+
 add-if2 : tie.Need-add-if2
-add-if2 c = let o = c .before .before .opens .ensures (not-false _ (c .before .if1 .left)) in omega (arith, o .room, o .inside)
+add-if2 c = omega (arith, c .before .before .before .before .shared-slice-known .given (c .before .before .before .before .before .args .at + 3))
 
-shared-slice-read-if2 : tie.Need-shared-slice-read-if2
-shared-slice-read-if2 c = let o = c .before .before .before .opens .ensures (not-false _ (c .before .before .if1 .left)) in omega (arith, o .room, o .inside)
+add-calm-list : tie.Need-add-calm-list
+add-calm-list c = let o = c .before .before .before .before .opens .ensures (not-false _ (c .before .before .before .if1 .left)) in omega (arith, o .room, o .inside, c .before .before .before .before .before .shared-slice-known .given (c .before .before .before .before .before .before .args .at + 3))
 
-cast-if2 : tie.Need-cast-if2
-cast-if2 c =
-    let back4 = c .before .before .before .before in
-    omega (arith, c .before .before .before .before .shared-slice-known .given (back4 .before .args .at + 1))
+add-calm-list-2 : tie.Need-add-calm-list-2
+add-calm-list-2 c = let o = c .before .before .before .before .opens .ensures (not-false _ (c .before .before .before .if1 .left)) in omega (arith, o .room, o .inside)
 
-add-if2-2 : tie.Need-add-if2-2
-add-if2-2 c =
-    let back4 = c .before .before .before .before in
-    omega (arith, c .before .before .before .before .shared-slice-known .given (back4 .before .args .at + 3))
+add-calm-list-3 : tie.Need-add-calm-list-3
+add-calm-list-3 c = let o = c .before .before .before .before .opens .ensures (not-false _ (c .before .before .before .if1 .left)) in omega (arith, o .fits, o .inside)
+
+calm-list-requires : tie.Need-calm-list-requires
+calm-list-requires c κs =
+    let o = c .before .before .before .before .opens .ensures (not-false _ (c .before .before .before .if1 .left)) in
+    (omega arith, omega (arith, o .fits, o .inside), omega (arith, c .before .before .before .before .before .shared-slice-known .given (c .before .before .before .before .before .before .args .at + 3)))
 
 returns-2 : tie.Need-returns-2
 returns-2 c = λ some. absurd (omega arith)
 
-add-time : tie.Need-add-time
-add-time c = let o = c .before .before .before .before .opens .ensures (not-false _ (c .before .before .before .if1 .left)) in omega (arith, o .fits, o .inside, c .if2 .left)
-
-add-time-2 : tie.Need-add-time-2
-add-time-2 c = let o = c .before .before .before .before .opens .ensures (not-false _ (c .before .before .before .if1 .left)) in omega (arith, o .fits, o .inside, c .if2 .left)
-
 shared-slice-read-four : tie.Need-shared-slice-read-four
 shared-slice-read-four c =
-    let back4 = c .before .before .before .before in
-    let o = back4 .before .opens .ensures (not-false _ (c .before .before .before .before .if1 .left)) in omega (arith, o .fits, o .inside, c .before .if2 .left)
+    let o = c .before .before .before .before .before .opens .ensures (not-false _ (c .before .before .before .before .if1 .left)) in
+    ⊎-elim (λ w. omega (arith, o .fits, o .inside, (w .1 .ensures (not-false _ (w .2 .left))) .low)) (λ w. omega (arith, o .fits, o .inside, w .left)) (c .before .if2 .came)
 
 add-four : tie.Need-add-four
 add-four c =
-    let back4 = c .before .before .before .before in
-    let o = back4 .before .opens .ensures (not-false _ (c .before .before .before .before .if1 .left)) in omega (arith, o .fits, o .inside, c .before .if2 .left)
+    let o = c .before .before .before .before .before .opens .ensures (not-false _ (c .before .before .before .before .if1 .left)) in
+    ⊎-elim (λ w. omega (arith, o .fits, o .inside, (w .1 .ensures (not-false _ (w .2 .left))) .low)) (λ w. omega (arith, o .fits, o .inside, w .left)) (c .before .if2 .came)
 
 shared-slice-read-four-2 : tie.Need-shared-slice-read-four-2
 shared-slice-read-four-2 c =
-    let back4 = c .before .before .before .before in
-    let o = back4 .before .before .opens .ensures (not-false _ (back4 .before .if1 .left)) in omega (arith, o .fits, o .inside, c .before .before .if2 .left)
+    let o = c .before .before .before .before .before .before .opens .ensures (not-false _ (c .before .before .before .before .before .if1 .left)) in
+    ⊎-elim (λ w. omega (arith, o .fits, o .inside, (w .1 .ensures (not-false _ (w .2 .left))) .low)) (λ w. omega (arith, o .fits, o .inside, w .left)) (c .before .before .if2 .came)
 
 returns-3 : tie.Need-returns-3
 returns-3 c = λ some. absurd (omega arith)
 
 returns-4 : tie.Need-returns-4
 returns-4 c =
-    let back4 = c .before .before .before .before in
-    let back8 = back4 .before .before .before .before in
     λ some.
-    let told = header-told (back8 .before .shared-slice-known .given _ .fits) (c .before .four .ensures) (c .if3 .left) in
-    opened-usual (back8 .opens .ensures (not-false _ (back4 .before .before .before .if1 .left))) (c .before .before .before .before .if2 .left) (told .0) (told .1)
+    let o = c .before .before .before .before .before .before .before .before .opens .ensures (not-false _ (c .before .before .before .before .before .before .before .if1 .left)) in
+    let told = header-told (c .before .before .before .before .before .before .before .before .before .shared-slice-known .given _ .fits) (c .before .four .ensures) (c .if4 .left) in
+    ⊎-elim (λ w. opened-mild o (told .0) (told .1) (w .1 .ensures (not-false _ (w .2 .left)))) (λ w. opened-bare o (told .0) (told .1) (w .left)) (c .before .before .before .before .if2 .came)
 
 pub usual-time-spec : {M : Type 1} → statement M
 usual-time-spec =
@@ -79,13 +89,17 @@ usual-time-spec =
     add-size
     shared-slice-read-size
     cast-size
-    add-if2
-    shared-slice-read-if2
-    cast-if2
-    add-if2-2
-    returns-2
+    add-whole
+    shared-slice-read-whole
+    cast-whole
     add-time
     add-time-2
+    add-if2
+    add-calm-list
+    add-calm-list-2
+    add-calm-list-3
+    calm-list-requires
+    returns-2
     shared-slice-read-four
     add-four
     shared-slice-read-four-2
