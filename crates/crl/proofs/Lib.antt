@@ -1,5 +1,6 @@
 pub mod Chains
 pub mod Surveys
+pub mod OwnExtensions
 pub mod Firsts
 pub mod Serials
 pub mod FastEntries
