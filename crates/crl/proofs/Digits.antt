@@ -2,10 +2,11 @@
 use Prim.Native.Nat.{ℕ, zero, suc, _+_, _*_, _-_, _/_, _%_, _<_, _≤_}
 use mathlib.Core.Bool.{true, false}
 use mathlib.Core.List.{List, [], _∷_}
+use mathlib.Core.Logic.{_⊎_, ⊎-elim}
 use mathlib.Core.Path.{_≡_, refl, ap, ap₂, sym, _∙_}
 use native.Mathlib.Omega.{arith}
-use borrow.Author.Tests.{eq-eqb, eqb-true, eqb-false, ltb-true, ltb-false}
-use lib.Dec.{eqb, ltb}
+use borrow.Author.Tests.{eq-eqb, eqb-true, eqb-false, ltb-true, ltb-false, leb-true, leb-false}
+use lib.Dec.{eqb, ltb, leb}
 use lib.Bits.{bitAnd}
 use lib.ListN.{length, getD, take, drop}
 use lib.Seq.{getD-take, getD-drop}
@@ -16,10 +17,10 @@ use Rattle.times.specs.Times.{figures, realNumber, inCentury, zulu, timeIn}
 use Rattle.times.proofs.Moments.{one-real}
 use Rattle.times.proofs.Years.{short-read, in-two-thousands, in-nineteen-hundreds, ten-left}
 use Rattle.calendar.specs.Days.{leap, monthLength}
-use Rattle.calendar.proofs.Days.{by-test, length-two, length-rule, february-leap, february-common}
+use Rattle.calendar.proofs.Days.{by-test, length-two, length-rule, length-none, february-leap, february-common}
 use Rattle.crl.specs.Entries.{isTime}
 use Rattle.crl.specs.FastTimes.{valueOf, UsualDate}
-use Rattle.crl.proofs.Words.{word, Each, ands, upper, below, plus, word-plus, each, word-most, takeOff, word-off, pairsOf, word-pairs, word-tail, word-third, word-fifth}
+use Rattle.crl.proofs.Words.{word, Each, ands, upper, below, plus, word-plus, word-most, takeOff, word-off, word-pairs, word-tail, word-third, word-fifth, word-seventh}
 
 pub never : {A : Type 0} → false ≡ true → A
 never e = absurd (let z : _≡_ {A = ℕ} 0 1 = cc in omega arith)
@@ -93,6 +94,11 @@ module _ (v0 v1 v2 v3 v4 v5 v6 v7 : ℕ) (few : Each (λ o. o ≤ 99) (eight v0 
       let (w0, (w1, (w2, (w3, (w4, (w5, (w6, (w7, end)))))))) = few in
       word-fifth v0 v1 v2 v3 v4 _ (omega (arith, w0)) (omega (arith, w1)) (omega (arith, w2)) (omega (arith, w3)) (omega (arith, w4))
 
+  pub seventh : word (eight v0 v1 v2 v3 v4 v5 v6 v7) / 0x1000000000000 % 256 ≡ v6
+  seventh =
+      let (w0, (w1, (w2, (w3, (w4, (w5, (w6, (w7, end)))))))) = few in
+      word-seventh v0 v1 v2 v3 v4 v5 v6 _ (omega (arith, w0)) (omega (arith, w1)) (omega (arith, w2)) (omega (arith, w3)) (omega (arith, w4)) (omega (arith, w5)) (omega (arith, w6))
+
 -- digits and the pairs that are made of them
 module _ (a b c d e f g h : ℕ) (ds : Each Digit (eight a b c d e f g h)) where
   abbrev pairs : List ℕ
@@ -115,19 +121,54 @@ pos : (n : ℕ) → (n ≡ 0 → ⊥) → 1 ≤ n
 pos zero h = absurd (h refl)
 pos (suc n) h = omega arith
 
+month-least : (y m : ℕ) → 1 ≤ m → m ≤ 12 → 28 ≤ monthLength y m
+month-least y m low high =
+    by-test (eqb m 2)
+    (λ g. by-test (leap y) (λ e. omega (arith, length-two y m (eqb-true m 2 g), february-leap y e)) (λ e. omega (arith, length-two y m (eqb-true m 2 g), february-common y e)))
+    (λ g. omega (arith, length-rule y m low high (eqb-false m 2 g)))
+
+-- year 1 is no leap year, so another has no fewer days
+common-least : (y m : ℕ) → 1 ≤ m → m ≤ 12 → monthLength 1 m ≤ monthLength y m
+unfolding leap
+common-least y m low high =
+    by-test (eqb m 2)
+    (λ g. omega (arith, month-least y m low high, length-two 1 m (eqb-true m 2 g), february-common 1 refl))
+    (λ g. omega (arith, length-rule y m low high (eqb-false m 2 g), length-rule 1 m low high (eqb-false m 2 g)))
+
+-- month, day and hour in their ranges
+abbrev Ranged : ℕ → ℕ → ℕ → Type 0
+Ranged month day hour = (month ≤ 12) × (day ≤ monthLength 1 month) × (hour ≤ 23)
+
+-- by the bits, with a day to 28, or each by itself
+by-bits : {month day hour : ℕ} → 1 ≤ month → (month ≤ 12) × (day ≤ 28) × (hour ≤ 23) → Ranged month day hour
+by-bits {month} low (m, d, h) = (m, omega (arith, d, month-least 1 month low m), h)
+
+by-length : {month day hour : ℕ} → 1 ≤ day → (day ≤ monthLength 1 month) × (hour ≤ 23) → Ranged month day hour
+by-length {month} low (d, h) =
+    by-test (leb month 12) (λ g. (leb-true month 12 g, d, h)) (λ g. absurd (omega (arith, low, d, length-none 1 month (leb-false month 12 g))))
+
+-- what is tested of the pairs: the bits, or each by itself
+abbrev pub HeldTo : ℕ → Type 0
+HeldTo p =
+    (bitAnd (p + 0x0068006300730000) 0x0080008000800080 ≡ 0)
+    ⊎ ((p / 0x100000000 % 256 ≤ monthLength 1 (p / 0x10000 % 256)) × (p / 0x1000000000000 % 256 ≤ 23))
+
 abbrev pub dateOf : List ℕ → List ℕ
 dateOf c = eight (getD c 0 0) (getD c 1 0) (getD c 2 0) (getD c 3 0) (getD c 4 0) (getD c 5 0) (getD c 6 0) (getD c 7 0)
 
 module _
     (c : List ℕ) (ds : Each Digit (dateOf c)) (n p : ℕ) (is : n ≡ word (dateOf c))
     (made-so : p ≡ (n - 0x3030303030303030) * 10 + (n - 0x3030303030303030) / 256) where
-  pub usual-date : bitAnd (p + 0x0068006300730000) 0x0080008000800080 ≡ 0 → (p / 0x10000 % 256 ≡ 0 → ⊥) → (p / 0x100000000 % 256 ≡ 0 → ⊥) → UsualDate c
-  usual-date bits month day =
+  pub usual-date : HeldTo p → (p / 0x10000 % 256 ≡ 0 → ⊥) → (p / 0x100000000 % 256 ≡ 0 → ⊥) → UsualDate c
+  usual-date held month day =
       let few = pairs-few _ _ _ _ _ _ _ _ ds in
       let word-is = made-so ∙ pairs-made _ _ _ _ _ _ _ _ ds n is in
-      let (mo, d, h) = ranged _ _ _ _ _ _ _ _ few (rw word-is at bits) in
       let third-is = ap (λ (k : ℕ). k / 0x10000 % 256) word-is ∙ third _ _ _ _ _ _ _ _ few in
       let fifth-is = ap (λ (k : ℕ). k / 0x100000000 % 256) word-is ∙ fifth _ _ _ _ _ _ _ _ few in
+      let seventh-is = ap (λ (k : ℕ). k / 0x1000000000000 % 256) word-is ∙ seventh _ _ _ _ _ _ _ _ few in
+      let month-low = pos _ (λ z. month (third-is ∙ z)) in
+      let day-low = pos _ (λ z. day (fifth-is ∙ z)) in
+      let (mo, d, h) = ⊎-elim (λ bits. by-bits month-low (ranged _ _ _ _ _ _ _ _ few (rw word-is at bits))) (λ late. by-length day-low (rw (third-is, fifth-is, seventh-is) at late)) held in
       let (a1, (b1, (c1, (d1, (e1, (f1, (g1, (h1, end)))))))) = ds in
       record {
         year-tens = a1;
@@ -138,9 +179,9 @@ module _
         day-ones = f1;
         hour-tens = g1;
         hour-ones = h1;
-        month-low = pos _ (λ z. month (third-is ∙ z));
+        month-low = month-low;
         month-high = mo;
-        day-low = pos _ (λ z. day (fifth-is ∙ z));
+        day-low = day-low;
         day-high = d;
         hour-high = h;
       }
@@ -165,7 +206,7 @@ module _
 
     pub date-told : {p : ℕ} → bitAnd (x + y * 0x100000000 + 0x0606060606060606) 0xf0f0f0f0f0f0f0f0 ≡ 0x3030303030303030
         → p ≡ (x + y * 0x100000000 - 0x3030303030303030) * 10 + (x + y * 0x100000000 - 0x3030303030303030) / 256
-        → bitAnd (p + 0x0068006300730000) 0x0080008000800080 ≡ 0 → (p / 0x10000 % 256 ≡ 0 → ⊥) → (p / 0x100000000 % 256 ≡ 0 → ⊥) → UsualDate c
+        → HeldTo p → (p / 0x10000 % 256 ≡ 0 → ⊥) → (p / 0x100000000 % 256 ≡ 0 → ⊥) → UsualDate c
     date-told more p-is = usual-date c (digits _ _ _ _ _ _ _ _ date-uppers (rw date-is at more)) _ _ date-is p-is
 
 -- minute and second
@@ -206,12 +247,6 @@ module _ (c : List ℕ) (u : Each Upper (clockOf c)) where
         second-high = omega (arith, c2 .1, d2 .1);
       }
 
-month-least : (y m : ℕ) → 1 ≤ m → m ≤ 12 → 28 ≤ monthLength y m
-month-least y m low high =
-    by-test (eqb m 2)
-    (λ g. by-test (leap y) (λ e. omega (arith, length-two y m (eqb-true m 2 g), february-leap y e)) (λ e. omega (arith, length-two y m (eqb-true m 2 g), february-common y e)))
-    (λ g. omega (arith, length-rule y m low high (eqb-false m 2 g)))
-
 pair-told : (a b : ℕ) → Digit a → Digit b → Pair a b (valueOf a b)
 pair-told a b da db = record { tens = λ h. da; ones = λ h. db; value = λ x y. refl }
 
@@ -240,7 +275,7 @@ module _ (c : List ℕ) (long : length c ≡ 13) (date : UsualDate c) (clock : U
       (told 6 7 (omega arith) (omega arith) (clock .minute-tens) (clock .minute-ones))
       (told 8 9 (omega arith) (omega arith) (clock .second-tens) (clock .second-ones))
       few (date .month-high) (date .day-low)
-      (omega (arith, date .day-high, month-least year _ (date .month-low) (date .month-high)))
+      (omega (arith, date .day-high, common-least year _ (date .month-low) (date .month-high)))
       (date .hour-high) (clock .minute-high) (clock .second-high))
 
   year : ℕ

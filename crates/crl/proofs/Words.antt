@@ -107,7 +107,7 @@ pub word-tail : (t : ℕ) (us : List ℕ) → t < 256 → word (t ∷ us) / 256 
 unfolding word
 word-tail t us h = omega arith
 
--- the third octet and the fifth
+-- the third octet, the fifth and the seventh
 pub word-third : (a b o : ℕ) (os : List ℕ) → a < 256 → b < 256 → o < 256 → word (a ∷ b ∷ o ∷ os) / 0x10000 % 256 ≡ o
 unfolding word
 word-third a b o os ha hb ho = omega arith
@@ -115,3 +115,8 @@ word-third a b o os ha hb ho = omega arith
 pub word-fifth : (a b c d o : ℕ) (os : List ℕ) → a < 256 → b < 256 → c < 256 → d < 256 → o < 256 → word (a ∷ b ∷ c ∷ d ∷ o ∷ os) / 0x100000000 % 256 ≡ o
 unfolding word
 word-fifth a b c d o os ha hb hc hd ho = omega arith
+
+pub word-seventh : (a b c d e f o : ℕ) (os : List ℕ) → a < 256 → b < 256 → c < 256 → d < 256 → e < 256 → f < 256 → o < 256
+    → word (a ∷ b ∷ c ∷ d ∷ e ∷ f ∷ o ∷ os) / 0x1000000000000 % 256 ≡ o
+unfolding word
+word-seventh a b c d e f o os ha hb hc hd he hf ho = omega arith

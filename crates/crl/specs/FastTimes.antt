@@ -1,8 +1,9 @@
 -- What the fast path tells of the first eight octets of a UTCTime: they are digits, and their pairs are in ranges that every
--- month has. No public promise cites this.
+-- year has, as year 1 does, which is no leap year. No public promise cites this.
 use Prim.Native.Nat.{ℕ, _+_, _*_, _-_, _≤_}
 use mathlib.Core.List.{List}
 use lib.ListN.{getD}
+use Rattle.calendar.specs.Days.{monthLength}
 use Rattle.times.specs.Pairs.{Digit}
 
 -- the number that two digits write
@@ -22,5 +23,5 @@ pub record UsualDate (c : List ℕ) : Type 0 where
   pub month-low : 1 ≤ valueOf (getD c 2 0) (getD c 3 0)
   pub month-high : valueOf (getD c 2 0) (getD c 3 0) ≤ 12
   pub day-low : 1 ≤ valueOf (getD c 4 0) (getD c 5 0)
-  pub day-high : valueOf (getD c 4 0) (getD c 5 0) ≤ 28
+  pub day-high : valueOf (getD c 4 0) (getD c 5 0) ≤ monthLength 1 (valueOf (getD c 2 0) (getD c 3 0))
   pub hour-high : valueOf (getD c 6 0) (getD c 7 0) ≤ 23
