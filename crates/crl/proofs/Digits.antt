@@ -1,4 +1,4 @@
--- What the fast path for a UTCTime tells: digits in their ranges are a time.
+-- What the fast path for a time tells: digits in their ranges are a time.
 use Prim.Native.Nat.{ℕ, zero, suc, _+_, _*_, _-_, _/_, _%_, _<_, _≤_}
 use mathlib.Core.Bool.{true, false}
 use mathlib.Core.List.{List, [], _∷_}
@@ -15,11 +15,11 @@ use Rattle.times.specs.declared.Time.the-variants.{Moment}
 use Rattle.times.specs.Pairs.{Digit, Pair}
 use Rattle.times.specs.Times.{figures, realNumber, inCentury, zulu, timeIn}
 use Rattle.times.proofs.Moments.{one-real}
-use Rattle.times.proofs.Years.{short-read, in-two-thousands, in-nineteen-hundreds, ten-left}
+use Rattle.times.proofs.Years.{short-read, long-read, in-two-thousands, in-nineteen-hundreds, late-enough, ten-left}
 use Rattle.calendar.specs.Days.{leap, monthLength}
 use Rattle.calendar.proofs.Days.{by-test, length-two, length-rule, length-none, february-leap, february-common}
 use Rattle.crl.specs.Entries.{isTime}
-use Rattle.crl.specs.FastTimes.{valueOf, UsualDate}
+use Rattle.crl.specs.FastTimes.{valueOf, UsualDate, UsualClock, UsualTime, Later}
 use Rattle.crl.proofs.Words.{word, Each, ands, upper, below, plus, word-plus, word-most, takeOff, word-off, word-pairs, word-tail, word-third, word-fifth, word-seventh}
 
 pub never : {A : Type 0} → false ≡ true → A
@@ -209,15 +209,6 @@ module _
         → HeldTo p → (p / 0x10000 % 256 ≡ 0 → ⊥) → (p / 0x100000000 % 256 ≡ 0 → ⊥) → UsualDate c
     date-told more p-is = usual-date c (digits _ _ _ _ _ _ _ _ date-uppers (rw date-is at more)) _ _ date-is p-is
 
--- minute and second
-pub record UsualClock (c : List ℕ) : Type 0 where
-  pub minute-tens : Digit (getD c 8 0)
-  pub minute-ones : Digit (getD c 9 0)
-  pub second-tens : Digit (getD c 10 0)
-  pub second-ones : Digit (getD c 11 0)
-  pub minute-high : valueOf (getD c 8 0) (getD c 9 0) ≤ 59
-  pub second-high : valueOf (getD c 10 0) (getD c 11 0) ≤ 59
-
 -- the four octets of minute and second
 abbrev pub clockOf : List ℕ → List ℕ
 clockOf c = getD c 8 0 ∷ getD c 9 0 ∷ getD c 10 0 ∷ getD c 11 0 ∷ []
@@ -254,21 +245,19 @@ real-time : {t : Time} {m : ℕ} → Moment m ≡ t → isTime t ≡ true
 unfolding isTime
 real-time e = rw (← e) refl
 
--- all of it together
-module _ (c : List ℕ) (long : length c ≡ 13) (date : UsualDate c) (clock : UsualClock c) where
-  abbrev ten : List ℕ
-  ten = take 10 (drop 2 c)
-
-  at-ten : (i : ℕ) → i < 10 → getD ten i 0 ≡ getD c (2 + i) 0
-  at-ten i h = getD-take 10 (drop 2 c) i 0 h ∙ getD-drop 2 c i 0
-
+-- ten digits after a year
+module _
+    {c : List ℕ} (u : UsualTime c) (ten : List ℕ) (long : length ten ≡ 10)
+    (at-ten : (i : ℕ) → i < 10 → getD ten i 0 ≡ getD c (2 + i) 0) where
   told : (i j : ℕ) → i < 10 → j < 10 → Digit (getD c (2 + i) 0) → Digit (getD c (2 + j) 0) → Pair (getD ten i 0) (getD ten j 0) (valueOf (getD c (2 + i) 0) (getD c (2 + j) 0))
   told i j hi hj di dj = rw (at-ten i hi, at-ten j hj) (pair-told _ _ di dj)
 
   any-year : (year : ℕ) → year ≤ 9999 → isTime (realNumber (figures year ten)) ≡ true
   any-year year few =
+      let date = u .date in
+      let clock = u .clock in
       real-time
-      (one-real year ten (ten-left c 2 (omega arith))
+      (one-real year ten long
       (told 0 1 (omega arith) (omega arith) (date .month-tens) (date .month-ones))
       (told 2 3 (omega arith) (omega arith) (date .day-tens) (date .day-ones))
       (told 4 5 (omega arith) (omega arith) (date .hour-tens) (date .hour-ones))
@@ -278,23 +267,75 @@ module _ (c : List ℕ) (long : length c ≡ 13) (date : UsualDate c) (clock : U
       (omega (arith, date .day-high, common-least year _ (date .month-low) (date .month-high)))
       (date .hour-high) (clock .minute-high) (clock .second-high))
 
+-- a UTCTime
+module _ (c : List ℕ) (long : length c ≡ 13) (u : UsualTime c) where
+  abbrev ten : List ℕ
+  ten = take 10 (drop 2 c)
+
+  ten-is : (year : ℕ) → year ≤ 9999 → isTime (realNumber (figures year ten)) ≡ true
+  ten-is = any-year u ten (ten-left c 2 (omega arith)) (λ i h. getD-take 10 (drop 2 c) i 0 h ∙ getD-drop 2 c i 0)
+
   year : ℕ
   year = valueOf (getD c 0 0) (getD c 1 0)
 
   year-few : year ≤ 99
   unfolding year
-  year-few = omega (arith, date .year-tens .high, date .year-ones .high)
+  year-few = omega (arith, u .date .year-tens .high, u .date .year-ones .high)
 
   in-century : isTime (inCentury (figures year ten)) ≡ true
   in-century =
       by-test (ltb year 50)
-      (λ e. rw (← in-two-thousands ten (ten-left c 2 (omega arith)) year (ltb-true _ _ e)) (any-year (2000 + year) (omega (arith, year-few))))
-      (λ e. rw (← in-nineteen-hundreds ten (ten-left c 2 (omega arith)) year (ltb-false _ _ e)) (any-year (1900 + year) (omega (arith, year-few))))
+      (λ e. rw (← in-two-thousands ten (ten-left c 2 (omega arith)) year (ltb-true _ _ e)) (ten-is (2000 + year) (omega (arith, year-few))))
+      (λ e. rw (← in-nineteen-hundreds ten (ten-left c 2 (omega arith)) year (ltb-false _ _ e)) (ten-is (1900 + year) (omega (arith, year-few))))
 
-  pub utc-time : getD c 12 0 ≡ 90 → isTime (timeIn 0x17 c) ≡ true
+  pub utc-time : isTime (timeIn 0x17 c) ≡ true
   unfolding timeIn zulu year
-  utc-time last =
-      simp (eq-eqb _ _ long, eq-eqb _ _ last, short-read c (omega arith) (pair-told _ _ (date .year-tens) (date .year-ones)) year-few) in-century
+  utc-time =
+      simp (eq-eqb _ _ long, eq-eqb _ _ (u .last), short-read c (omega arith) (pair-told _ _ (u .date .year-tens) (u .date .year-ones)) year-few) in-century
+
+-- a GeneralizedTime, which has a century before the octets of a UTCTime
+module _ (c : List ℕ) (long : length c ≡ 15) (l : Later (getD c 0 0) (getD c 1 0) (getD c 2 0)) (u : UsualTime (take 13 (drop 2 c))) where
+  abbrev rest : List ℕ
+  rest = take 13 (drop 2 c)
+
+  abbrev last-ten : List ℕ
+  last-ten = take 10 (drop 4 c)
+
+  at-rest : (i : ℕ) → i < 13 → getD rest i 0 ≡ getD c (2 + i) 0
+  at-rest i h = getD-take 13 (drop 2 c) i 0 h ∙ getD-drop 2 c i 0
+
+  at-last : (i : ℕ) → i < 10 → getD last-ten i 0 ≡ getD rest (2 + i) 0
+  at-last i h =
+      let next : 4 + i ≡ 2 + (2 + i) = omega arith in
+      getD-take 10 (drop 4 c) i 0 h ∙ getD-drop 4 c i 0 ∙ ap (λ (k : ℕ). getD c k 0) next ∙ sym (at-rest (2 + i) (omega (arith, h)))
+
+  tens : Digit (getD c 2 0)
+  tens = rw (at-rest 0 (omega arith)) at (u .date .year-tens)
+
+  ones : Digit (getD c 3 0)
+  ones = rw (at-rest 1 (omega arith)) at (u .date .year-ones)
+
+  zulu-last : getD c 14 0 ≡ 90
+  zulu-last = sym (at-rest 12 (omega arith)) ∙ u .last
+
+  full : ℕ
+  full = valueOf (getD c 0 0) (getD c 1 0) * 100 + valueOf (getD c 2 0) (getD c 3 0)
+
+  full-few : full ≤ 9999
+  unfolding full
+  full-few = omega (arith, l .first .high, l .second .high, tens .high, ones .high)
+
+  full-late : 2050 ≤ full
+  unfolding full
+  full-late = omega (arith, l .from)
+
+  pub full-time : isTime (timeIn 0x18 c) ≡ true
+  unfolding timeIn zulu full
+  full-time =
+      let century-few : valueOf (getD c 0 0) (getD c 1 0) ≤ 99 = omega (arith, l .first .high, l .second .high) in
+      let rest-few : valueOf (getD c 2 0) (getD c 3 0) ≤ 99 = omega (arith, tens .high, ones .high) in
+      simp (eq-eqb _ _ long, eq-eqb _ _ zulu-last, long-read c (omega arith) (pair-told _ _ (l .first) (l .second)) century-few (pair-told _ _ tens ones) rest-few)
+      (rw (← late-enough last-ten (ten-left c 4 (omega arith)) full full-late) (any-year u last-ten (ten-left c 4 (omega arith)) at-last full full-few))
 
 -- the clock
 module _

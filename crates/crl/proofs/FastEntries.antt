@@ -22,7 +22,7 @@ use Rattle.times.specs.Times.{timeAt, timeTag}
 use Rattle.crl.specs.declared.entries.Entry.the-variants.{Bare, Extended}
 use Rattle.crl.specs.Entries.{entryOf, extended, shaped, timely, calm}
 use Rattle.crl.specs.Listed.{lists, someLists}
-use Rattle.crl.specs.FastEntries.{utcAt, Mild, Opening, Usual, Another}
+use Rattle.crl.specs.FastEntries.{stampAt, Mild, Opening, Usual, Another}
 
 -- an element with a header of two octets that stands at `at` and ends at r
 pub record Short (s : List ℕ) (at end tag r : ℕ) : Type 0 where
@@ -126,8 +126,8 @@ own-size : (at n : ℕ) → at + 4 + n - at - 4 ≡ n
 own-size at n = omega arith
 
 -- tag and length in one number
-pub header-told : {a b r : ℕ} → a < 256 → r ≡ ((0 * 256 + 0) * 256 + b) * 256 + a → r ≡ 0x0d17 → (a ≡ 0x17) × (b ≡ 13)
-header-told h e f = (omega arith, omega arith)
+pub header-told : {a b p q r k : ℕ} → a < 256 → p < 256 → r ≡ ((0 * 256 + 0) * 256 + b) * 256 + a → k ≡ ((0 * 256 + 0) * 256 + q) * 256 + p → r ≡ k → (a ≡ p) × (b ≡ q)
+header-told h g e f is = (omega arith, omega arith)
 
 pub left-told : (size at end : ℕ) → at + 4 ≤ end → leb size (end - at - 2) ≡ true → at + 2 + size ≤ end
 left-told size at end h e = omega (arith, h, leb-true size (end - at - 2) e)
@@ -148,25 +148,24 @@ module _ {s : List ℕ} {at end : ℕ} (o : Opening s at end) where
       (omega (arith, three, h, o .brief)) (omega (arith, three, h)))
       (omega arith)
 
-  -- with the UTCTime after the serial, which ends with the entry or stands before extensions
+  -- with the time after the serial, which ends with the entry or stands before extensions
   module _
-      (tag : getD s (at + 4 + getD s (at + 3) 0) 0 ≡ 0x17)
-      (size : getD s (at + 4 + getD s (at + 3) 0 + 1) 0 ≡ 13) where
-    utc : at + 4 + getD s (at + 3) 0 + 15 ≤ at + 2 + getD s (at + 1) 0
-        → foundAt s (at + 4 + getD s (at + 3) 0) (at + 2 + getD s (at + 1) 0) ≡ One (utcAt (at + 4 + getD s (at + 3) 0))
-    unfolding identifierGood
-    utc h =
+      {tag octets : ℕ} (timed : timeTag tag ≡ true) (good : identifierGood tag ≡ true) (few : octets < 128)
+      (first : getD s (at + 4 + getD s (at + 3) 0) 0 ≡ tag)
+      (second : getD s (at + 4 + getD s (at + 3) 0 + 1) 0 ≡ octets) where
+    stamp : at + 4 + getD s (at + 3) 0 + 2 + octets ≤ at + 2 + getD s (at + 1) 0
+        → foundAt s (at + 4 + getD s (at + 3) 0) (at + 2 + getD s (at + 1) 0) ≡ One (stampAt tag octets (at + 4 + getD s (at + 3) 0))
+    stamp h =
         let inside : at + 2 + getD s (at + 1) 0 ≤ length s = omega (arith, o .fits, o .inside) in
-        let is : at + 4 + getD s (at + 3) 0 + 15 ≡ at + 4 + getD s (at + 3) 0 + 2 + 13 = omega arith in
-        header-found s (at + 4 + getD s (at + 3) 0) (at + 2 + getD s (at + 1) 0) 0x17 13 (at + 4 + getD s (at + 3) 0 + 15) (omega arith) is h inside refl tag size
+        header-found s (at + 4 + getD s (at + 3) 0) (at + 2 + getD s (at + 1) 0) tag octets (at + 4 + getD s (at + 3) 0 + 2 + octets) few refl h inside good first second
 
-    pub opened-bare : getD s (at + 1) 0 ≡ getD s (at + 3) 0 + 17 → Usual s at end (utcAt (at + 4 + getD s (at + 3) 0))
-    unfolding timeTag
-    opened-bare long = bare-usual opened (serial-first (omega (arith, long))) (utc (omega (arith, long))) refl refl (omega (arith, long))
+    pub opened-bare : getD s (at + 1) 0 ≡ getD s (at + 3) 0 + 2 + (octets + 2) → Usual s at end (stampAt tag octets (at + 4 + getD s (at + 3) 0))
+    opened-bare long = bare-usual opened (serial-first (omega (arith, long))) (stamp (omega (arith, long))) timed refl (omega (arith, long))
 
-    pub opened-mild : Mild s (at + 4 + getD s (at + 3) 0 + 15) (at + 2 + getD s (at + 1) 0) → Usual s at end (utcAt (at + 4 + getD s (at + 3) 0))
-    unfolding timeTag
-    opened-mild m = mild-usual opened (serial-first (omega (arith, m .low))) (utc (omega (arith, m .low))) refl refl m
+    pub opened-mild : Mild s (at + 4 + getD s (at + 3) 0 + (octets + 2)) (at + 2 + getD s (at + 1) 0) → Usual s at end (stampAt tag octets (at + 4 + getD s (at + 3) 0))
+    opened-mild m =
+        let from : at + 4 + getD s (at + 3) 0 + (octets + 2) ≡ at + 4 + getD s (at + 3) 0 + 2 + octets = omega arith in
+        mild-usual opened (serial-first (omega (arith, m .low))) (stamp (omega (arith, m .low))) timed refl (rw from at m)
 
   -- with another serial
   module _ (room : getD s (at + 3) 0 + 2 ≤ getD s (at + 1) 0) {serial : List ℕ} where

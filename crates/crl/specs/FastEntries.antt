@@ -1,20 +1,21 @@
--- What the fast path tells of an entry. No public promise cites this.
+-- What is told of an entry, by the fast path and by the other. No public promise cites this.
 use Prim.Native.Nat.{ℕ, _+_, _-_, _<_, _≤_}
 use mathlib.Core.Bool.{true, false}
 use mathlib.Core.List.{List}
 use mathlib.Core.Path.{_≡_}
 use lib.ListN.{length, getD}
 use Rattle.elements.specs.declared.elements.Element.{Element}
-use Rattle.elements.specs.declared.elements.Found.the-variants.{One}
+use Rattle.elements.specs.declared.elements.Found.the-variants.{One, Missing}
 use Rattle.elements.specs.Elements.{foundAt, membersOf}
 use Rattle.extensions.specs.Extensions.{extensionsShaped, criticalOf}
 use Rattle.times.specs.Times.{timeOf}
+use Rattle.crl.specs.declared.entries.Taken.{Taken}
 use Rattle.crl.specs.Entries.{entryOf, shaped, isTime, timely, calm}
 use Rattle.crl.specs.Listed.{lists, someLists}
 
--- the UTCTime of 13 octets at an offset
-abbrev pub utcAt : ℕ → Element
-utcAt at = record { tag = 0x17; at = at; contents = at + 2; end = at + 15 }
+-- the time at an offset that has that tag and so many octets, and a length in the short form
+abbrev pub stampAt : ℕ → ℕ → ℕ → Element
+stampAt tag octets at = record { tag = tag; at = at; contents = at + 2; end = at + 2 + octets }
 
 -- a SEQUENCE with a length in the short form stands at `at`, and an INTEGER opens it
 pub record Opening (s : List ℕ) (at end : ℕ) : Type 0 where
@@ -52,6 +53,20 @@ pub record Usual (s : List ℕ) (at end : ℕ) (time : Element) : Type 0 where
   pub fit : shaped (entryOf s entry) ≡ true
   pub timed : timely s (entryOf s entry) ≡ isTime (timeOf s time)
   pub calmed : calm (entryOf s entry) ≡ true
+
+-- an element stands at `at`, and this is what is to be said of it as an entry
+pub record TakenAs (s : List ℕ) (at end : ℕ) (t : Taken) : Type 0 where
+  pub entry : Element
+  pub found : foundAt s at end ≡ One entry
+  pub ends : entry .end ≡ t .next
+  pub fit : t .shaped ≡ shaped (entryOf s entry)
+  pub timed : t .timely ≡ timely s (entryOf s entry)
+  pub calmed : t .calm ≡ calm (entryOf s entry)
+
+-- what is taken at `at`: an element, or none
+pub record Takes (s : List ℕ) (at end : ℕ) (t : Taken) : Type 0 where
+  pub some : t .found ≡ true → TakenAs s at end t
+  pub none : t .found ≡ false → foundAt s at end ≡ Missing
 
 -- the entry that stands at `at` ends at r, and has another serial
 pub record Another (s : List ℕ) (at end : ℕ) (serial : List ℕ) (r : ℕ) : Type 0 where

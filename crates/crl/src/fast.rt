@@ -1,4 +1,4 @@
-// The fast path for a UTCTime, which takes its octets eight and four at a time.
+// The fast path for a time, which takes its octets eight and four at a time.
 use calendar::month_length;
 ghost use mathlib.Core.Path.{_≡_};
 ghost use mathlib.Core.Bool.{true};
@@ -6,14 +6,50 @@ ghost use Prim.Native.Nat.{_+_, _*_, _≤_};
 ghost use lib.ListN.{length};
 ghost use Rattle.calendar.specs.Days.{monthLength};
 ghost use Rattle.crl.specs.Entries.{isTime};
-ghost use Rattle.crl.specs.FastTimes.{UsualDate};
+ghost use Rattle.crl.specs.FastTimes.{UsualDate, UsualTime, Later};
 ghost use Rattle.times.specs.Times.{timeIn};
+
+// Whether 15 octets are a GeneralizedTime with a day that every year has; false where it does not tell.
+pub(crate) fn usual_full(c: &[u8]) -> bool
+    requires { ⌜ length (now c) ≡ 15 ⌝ }
+    ensures { λ r. ⌜ (r ≡ true → isTime (timeIn 0x18 (now (c .entry))) ≡ true) ⌝ }
+{
+    if !later(c[0], c[1], c[2]) {
+        return false;
+    }
+    usual_utc(&c[2..15])
+}
+
+// Whether the first three octets of a GeneralizedTime start a year from 2050 on.
+fn later(a: u8, b: u8, c: u8) -> bool
+    ensures { λ r. ⌜ (r ≡ true → Later a b c) ⌝ }
+{
+    if a < 50 {
+        return false;
+    }
+    if 57 < a {
+        return false;
+    }
+    if b < 48 {
+        return false;
+    }
+    if 57 < b {
+        return false;
+    }
+    if 50 < a {
+        return true;
+    }
+    if 48 < b {
+        return true;
+    }
+    53 <= c
+}
 
 // Whether 13 octets are a UTCTime with a day that every year has; false where it does not tell. Minute and second are
 // tested as the date is, and their tens are held to 5 by adding 10.
 pub(crate) fn usual_utc(c: &[u8]) -> bool
     requires { ⌜ length (now c) ≡ 13 ⌝ }
-    ensures { λ r. ⌜ (r ≡ true → isTime (timeIn 0x17 (now (c .entry))) ≡ true) ⌝ }
+    ensures { λ r. ⌜ (r ≡ true → UsualTime (now (c .entry))) ⌝ }
 {
     if !usual_date(c) {
         return false;

@@ -6,6 +6,8 @@ mod own;
 mod reasons;
 mod rules;
 mod shapes;
+mod stamps;
+mod usual;
 
 use calendar::Difference;
 use calendar::day_difference;

@@ -1,5 +1,4 @@
 -- Both tests passed are what is told.
-use native.Mathlib.Omega.{arith}
 use borrow.Author.Needs.{needs}
 use borrow.Author.Tests.{leb-true}
 use Rattle.crl.proofs.Digits.{never}
