@@ -1,6 +1,7 @@
 pub mod Entries
 pub mod Shape
 pub mod Rules
+pub mod Own
 pub mod Answer
 pub mod Listed
 pub mod FastEntries

@@ -4,8 +4,8 @@ use native.Mathlib.Omega.{arith}
 use Rattle.crl.proofs.Digits.{never}
 use Rattle.crl.proofs.FastEntries.{left-told}
 use borrow.Author.Needs.{needs}
-use Rattle.crl.proofs.entries.opens.Statement.{statement}
-use Rattle.crl.proofs.entries.opens.Tie as tie
+use Rattle.crl.proofs.usual.opens.Statement.{statement}
+use Rattle.crl.proofs.usual.opens.Tie as tie
 
 returns : tie.Need-returns
 returns c = λ no. never no

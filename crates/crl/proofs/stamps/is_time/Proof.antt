@@ -2,8 +2,8 @@
 use mathlib.Core.Path.{sym, _∙_}
 use borrow.Author.Needs.{needs}
 use Rattle.crl.specs.Entries.{isTime}
-use Rattle.crl.proofs.entries.is_time.Statement.{statement}
-use Rattle.crl.proofs.entries.is_time.Tie as tie
+use Rattle.crl.proofs.stamps.is_time.Statement.{statement}
+use Rattle.crl.proofs.stamps.is_time.Tie as tie
 
 returns : tie.Need-returns
 unfolding isTime

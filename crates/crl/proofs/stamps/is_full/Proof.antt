@@ -3,15 +3,15 @@ use mathlib.Core.Path.{sym}
 use Rattle.elements.specs.Elements.{contentsOf}
 use Rattle.times.specs.Times.{timeOf}
 use borrow.Author.Needs.{needs}
-use Rattle.crl.proofs.entries.is_utc.Statement.{statement}
-use Rattle.crl.proofs.entries.is_utc.Tie as tie
+use Rattle.crl.proofs.stamps.is_full.Statement.{statement}
+use Rattle.crl.proofs.stamps.is_full.Tie as tie
 
 returns : tie.Need-returns
 unfolding timeOf contentsOf
-returns c = sym (c .before .usual-utc .ensures (c .if1 .taken))
+returns c = sym (c .before .usual-full .ensures (c .if1 .taken))
 
-pub is-utc-spec : {M : Type 1} → statement M
-is-utc-spec =
+pub is-full-spec : {M : Type 1} → statement M
+is-full-spec =
     tie.close
     (tie.spec
     (λ c. search needs)
