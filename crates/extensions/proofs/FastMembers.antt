@@ -1,11 +1,11 @@
 -- An extension whose headers have two octets each is what the fast path tells.
-use Prim.Native.Nat.{ℕ, _+_, _-_, _<_, _≤_}
+use Prim.Native.Nat.{ℕ, _+_, _-_, _<_}
 use mathlib.Core.Path.{_≡_, refl, sym, ap, _∙_}
-use mathlib.Core.Bool.{Bool, true, false}
+use mathlib.Core.Bool.{true, false}
 use mathlib.Core.List.{List, [], _∷_}
 use native.Mathlib.Omega.{arith}
 use borrow.Author.Tests.{eq-eqb}
-use lib.ListN.{length, getD, take, drop, length-drop}
+use lib.ListN.{getD, take, drop, length-drop}
 use lib.Seq.{length-take-le, getD-take, getD-drop}
 use Rattle.der.specs.Heading.{identifierGood}
 use Rattle.elements.specs.declared.elements.Element.{Element}
@@ -13,7 +13,6 @@ use Rattle.elements.specs.declared.elements.Found.the-variants.{One}
 use Rattle.elements.specs.Elements.{foundAt, withTag, foundTagged, onFound, contentsOf}
 use Rattle.elements.specs.Short.{shortEnd}
 use Rattle.elements.proofs.Shorts.{brief, short-found, short-within, short-inside}
-use Rattle.extensions.specs.declared.Extension.{Extension}
 use Rattle.extensions.specs.declared.Extension.the-variants.{Is, Absent}
 use Rattle.extensions.specs.Extensions.{present, holdingOf, extensionOf, refusedCritical, oidOf}
 use Rattle.extensions.specs.Fast.{Member, Plain}

@@ -9,7 +9,7 @@ use lib.Dec.{eqb}
 use Rattle.octets.specs.Alike.{alike}
 use Rattle.elements.specs.declared.elements.Element.{Element}
 use Rattle.elements.specs.declared.elements.Found.the-variants.{One, Missing}
-use Rattle.elements.specs.Elements.{foundAt, membersOf, contentsOf}
+use Rattle.elements.specs.Elements.{foundAt, contentsOf}
 use Rattle.elements.proofs.Members.{members-none, members-more}
 use Rattle.extensions.specs.declared.Extension.{Extension}
 use Rattle.extensions.specs.declared.Extension.the-variants.{Is, Absent}

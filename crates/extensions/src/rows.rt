@@ -30,7 +30,7 @@ pub(crate) fn row_of(item: &[u8], oid: Element) -> Row
     }
 }
 
-// The number of the last eight octets.
+// The number of the last eight octets, or of all where there are fewer.
 fn key_of(octets: &[u8]) -> u64
     ensures { λ r. ⌜ r ≡ keyFrom 0 (now (octets .entry)) ⌝ }
 {
@@ -43,7 +43,7 @@ fn key_of(octets: &[u8]) -> u64
     key
 }
 
-// Whether two OIDs whose last octets are equal are equal.
+// Whether two OIDs are equal. The octets are compared only where the numbers of the first of them are equal.
 pub(crate) fn equal_rows(item: &[u8], one: Row, other: Row) -> bool
     requires { ⌜ Numbered (now item) one × Numbered (now item) other ⌝ }
     ensures { λ r. ⌜ r ≡ alike (rowOid (now (item .entry)) one) (rowOid (now (item .entry)) other) ⌝ }

@@ -9,7 +9,7 @@ ghost use mathlib.Core.Path.{_≡_};
 ghost use Rattle.elements.specs.Elements.{inside};
 ghost use Rattle.extensions.specs.Strange.{strangeOids, twiceIn, Compared};
 
-// Whether one stands twice. Each round compares as many as its table has room for with all that follow.
+// Whether one stands twice: round by round, until none is left.
 pub(crate) fn doubled(item: &[u8], extensions: Element) -> bool
     ensures { λ r. ⌜ r ≡ twiceIn (strangeOids (now (item .entry)) (inside (now (item .entry)) extensions)) ⌝ }
 {
@@ -27,6 +27,7 @@ pub struct Round {
     pub rest: usize,
 }
 
+// Each OID is compared with those in the table, by a number of its octets first. The table takes the first 64 of them.
 fn compared(item: &[u8], from: usize, end: usize) -> Round
     ensures { λ r. ⌜ Compared (now (item .entry)) from end r ⌝ }
 {
