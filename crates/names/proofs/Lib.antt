@@ -1,3 +1,4 @@
 pub mod Sets
 pub mod Held
 pub mod FastSets
+pub mod FirstSet
