@@ -2,3 +2,4 @@ pub mod Sets
 pub mod Held
 pub mod FastSets
 pub mod FirstSet
+pub mod Moved
