@@ -8,3 +8,4 @@ pub mod FastEntries
 pub mod FastTimes
 pub mod Age
 pub mod Meets
+pub mod Country

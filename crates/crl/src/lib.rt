@@ -1,4 +1,5 @@
 // Whether an item is a CRL of the profile, its fields, whether it lists a serial, and its age.
+mod countries;
 mod entries;
 mod fast;
 mod listing;
@@ -29,6 +30,7 @@ use times::moment;
 ghost use mathlib.Core.Path.{_≡_};
 ghost use Rattle.crl.specs.Age.{ageOf};
 ghost use Rattle.crl.specs.Answer.{fieldsOf, profileOf, judgedOf};
+pub use countries::country;
 pub use listing::listed;
 
 // Both updates as YYYYMMDDHHMMSS, the issuer's letters, the number of entries, offset and length of the issuer with its

@@ -1,3 +1,5 @@
 pub mod Sets
 pub mod Held
 pub mod FastSets
+pub mod FirstSet
+pub mod Moved
