@@ -1,18 +1,18 @@
 -- An extension whose headers have two octets each is what the fast path tells.
-use Prim.Native.Nat.{ℕ, _+_, _-_, _<_}
+use Prim.Native.Nat.{ℕ, _+_, _-_, _<_, _≤_}
 use mathlib.Core.Path.{_≡_, refl, sym, ap, _∙_}
 use mathlib.Core.Bool.{true, false}
 use mathlib.Core.List.{List, [], _∷_}
 use native.Mathlib.Omega.{arith}
 use borrow.Author.Tests.{eq-eqb}
-use lib.ListN.{getD, take, drop, length-drop}
+use lib.ListN.{length, getD, take, drop, length-drop}
 use lib.Seq.{length-take-le, getD-take, getD-drop}
 use Rattle.der.specs.Heading.{identifierGood}
 use Rattle.elements.specs.declared.elements.Element.{Element}
 use Rattle.elements.specs.declared.elements.Found.the-variants.{One}
 use Rattle.elements.specs.Elements.{foundAt, withTag, foundTagged, onFound, contentsOf}
 use Rattle.elements.specs.Short.{shortEnd}
-use Rattle.elements.proofs.Shorts.{brief, short-found, short-within, short-inside}
+use Rattle.elements.proofs.Shorts.{brief, short-there, short-told, short-found, short-within, short-inside}
 use Rattle.extensions.specs.declared.Extension.the-variants.{Is, Absent}
 use Rattle.extensions.specs.Extensions.{present, holdingOf, extensionOf, refusedCritical, oidOf}
 use Rattle.extensions.specs.Fast.{Member, Plain}
@@ -68,7 +68,7 @@ module _ (s : List ℕ) (from stop : ℕ) {end next : ℕ} (whole : 0 < end) (he
       → Member s from stop end (Is (brief 0x06 (from + 2) next) true (brief 0x04 from' end))
   member-critical one flag set last = record { e = brief 0x30 from end; found = there; ends = refl; is = brief-critical s (brief 0x30 from end) refl some oid one flag set last }
 
-  pub plain-member : end ≡ shortEnd s next end 0x04 → Plain s from stop end
+  plain-member : end ≡ shortEnd s next end 0x04 → Plain s from stop end
   unfolding present refusedCritical
   plain-member last =
       let m = member-uncritical last in
@@ -100,3 +100,26 @@ module _ (s : List ℕ) (from stop : ℕ) {end next : ℕ} (whole : 0 < end) (he
               (λ critical value. rw (with-slot (contentsOf s (brief 0x06 (from + 2) next)) 23 k l (ap (λ (o : List ℕ). alike o (oidOf k)) three-octets ∙ slot)))
               (rw (short-found s (from + 2) end 0x06 refl some oid));
         }
+
+-- an element with a short header, by its octets
+short-at :
+    (s : List ℕ) (from end tag second size : ℕ) → end ≤ length s → getD s from 0 ≡ tag → second ≡ from + 1 → getD s second 0 ≡ size
+    → size < 128 → from + 2 + size ≤ end → from + 2 + size ≡ shortEnd s from end tag
+short-at s from end tag second size inside same next is short fits =
+    let q : getD s (from + 1) 0 ≡ size = ap (λ (n : ℕ). getD s n 0) (sym next) ∙ is in
+    rw q at (short-there s from end tag inside (omega arith) same (rw q short) (rw q fits))
+
+module _ (s : List ℕ) (from stop : ℕ) {end size : ℕ} (whole : 0 < end) (here : end ≡ shortEnd s from stop 0x30) where
+  pub plain-octets :
+      6 ≤ end - from → getD s (from + 2) 0 ≡ 0x06 → getD s (from + 3) 0 ≡ size → size ≤ end - from - 6 → getD s (from + 4 + size) 0 ≡ 0x04
+      → getD s (from + 4 + size + 1) 0 ≡ end - (from + 4 + size) - 2 → Plain s from stop end
+  plain-octets six tag is fits value last =
+      let t = short-told s from stop 0x30 (rw (sym here) whole) in
+      let inside : end ≤ length s = omega (arith, here, t .fits, t .inside) in
+      let least : end < from + 130 = omega (arith, here, t .ends, t .short) in
+      let oid : from + 4 + size ≡ from + 2 + 2 + size = omega arith in
+      let filled : end ≡ from + 4 + size + 2 + (end - (from + 4 + size) - 2) = omega (arith, six, fits) in
+      let second : from + 3 ≡ from + 2 + 1 = omega arith in
+      plain-member s from stop {next = from + 4 + size} whole here (omega arith)
+      (oid ∙ short-at s (from + 2) end 0x06 (from + 3) size inside tag second is (omega (arith, six, fits, least)) (omega (arith, six, fits)))
+      (filled ∙ short-at s (from + 4 + size) end 0x04 (from + 4 + size + 1) (end - (from + 4 + size) - 2) inside value refl last (omega (arith, six, fits, least)) (omega (arith, filled)))

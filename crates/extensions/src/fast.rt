@@ -74,11 +74,21 @@ pub(crate) fn plain_end(item: &[u8], from: usize, stop: usize) -> usize
     if end == 0 {
         return 0;
     }
-    let next = short_end(item, from + 2, end, 0x06);
-    if next == 0 {
+    if end - from < 6 {
         return 0;
     }
-    if short_end(item, next, end, 0x04) != end {
+    if item[from + 2] != 0x06 {
+        return 0;
+    }
+    let size = item[from + 3] as usize;
+    if end - from - 6 < size {
+        return 0;
+    }
+    let value = from + 4 + size;
+    if item[value] != 0x04 {
+        return 0;
+    }
+    if item[value + 1] as usize != end - value - 2 {
         return 0;
     }
     end
