@@ -1,4 +1,4 @@
--- A reason code alone is a list of one extension, which is not critical.
+-- A reason code alone is a list of one extension, which is not critical; and a list may hold none.
 use Prim.Native.Nat.{ℕ, _+_, _*_, _-_, _<_, _≤_}
 use mathlib.Core.Bool.{false}
 use mathlib.Core.List.{List, [], _∷_}
@@ -29,12 +29,24 @@ four-told {a} {b} {c} {d} p q u v ha hb hc hp hq hu is so =
     let (c1, d1) = apart d c v u hc hu more in
     (a1, b1, c1, d1)
 
-none-after : (s : List ℕ) (end : ℕ) → foundAt s end end ≡ Missing
-none-after s end = go (foundAt s end end) refl
+none-after : (s : List ℕ) (at end : ℕ) → end ≤ at → foundAt s at end ≡ Missing
+none-after s at end past = go (foundAt s at end) refl
   where
-    go : (f : Found) → foundAt s end end ≡ f → f ≡ Missing
+    go : (f : Found) → foundAt s at end ≡ f → f ≡ Missing
     go Missing h = refl
-    go (One e) h = absurd (omega (arith, found-within s end end h))
+    go (One e) h = absurd (omega (arith, past, found-within s at end h))
+
+-- a list of none
+pub empty-mild : (s : List ℕ) (from end : ℕ) → end ≤ length s → end ≡ from + 2 → getD s from 0 ≡ 0x30 → getD s (from + 1) 0 ≡ 0 → Mild s from end
+unfolding identifierGood extensionsShaped criticalOf inside allShaped someCritical
+empty-mild s from end fits long first second =
+    let none = members-none s (from + 2) end (none-after s (from + 2) end (omega (arith, long))) in
+    record {
+      low = omega (arith, long);
+      found = header-found s from end 0x30 0 end (omega arith) (omega (arith, long)) (omega arith) fits refl first second;
+      fit = rw none;
+      calm = rw none;
+    }
 
 module _ (s : List ℕ) (from end : ℕ) (fits : end ≤ length s) (long : end ≡ from + 14) (r : Reason (take (end - from) (drop from s))) where
   octet : (i : ℕ) (at : ℕ) {n : ℕ} → i < 14 → getD (take (end - from) (drop from s)) i 0 ≡ n → at ≡ from + i → getD s at 0 ≡ n
@@ -57,7 +69,7 @@ module _ (s : List ℕ) (from end : ℕ) (fits : end ≤ length s) (long : end �
   members =
       members-more s (from + 2) end (member .found)
       ∙ ap (λ (n : ℕ). member .e ∷ membersOf s n end) (sym (member .ends))
-      ∙ ap (_∷_ (member .e)) (members-none s end end (none-after s end))
+      ∙ ap (_∷_ (member .e)) (members-none s end end (none-after s end end (omega arith)))
 
   pub reason-mild : Mild s from end
   unfolding identifierGood extensionsShaped criticalOf inside allShaped someCritical present refusedCritical

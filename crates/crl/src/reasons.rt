@@ -1,4 +1,4 @@
-// The fast path for the extensions of an entry: most often a reason code alone.
+// The fast path for the extensions of an entry: most often a reason code alone, or none.
 use crate::fast::four;
 use elements::Element;
 use elements::short_end;
@@ -19,6 +19,9 @@ pub(crate) fn calm_list(item: &[u8], from: usize, end: usize) -> bool
         if is_reason(&item[from..end]) {
             return true;
         }
+    }
+    if end == from + 2 {
+        return four(item[from], item[from + 1], 0, 0) == 0x0030;
     }
     if short_end(item, from, end, 0x30) != end {
         return false;
