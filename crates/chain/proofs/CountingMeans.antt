@@ -27,7 +27,7 @@ use Rattle.chain.proofs.Booleans.{false-true, first, second, middle, ch
 use Rattle.chain.proofs.PlacesMean.{length-items, item-told}
 use Rattle.chain.proofs.RowReadings.{currentOf, anchorOf, Reading}
 use Rattle.chain.proofs.NearRows.{Told, Based, row-read-near}
-use Rattle.chain.proofs.StandingMeans.{standing-anchor, standing-list, certificate-row, list-row}
+use Rattle.chain.proofs.StandingMeans.{standing-anchor, standing-list, list-row}
 use Rattle.chain.proofs.ItemsTold.{kind-told, anchor-told, current-told, certificate-told, list-told}
 use Rattle.chain.proofs.Homes.{home, isOpen, certificate-there, certificate-home, list-home, wanted-asked, letters-are}
 

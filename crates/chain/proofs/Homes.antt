@@ -7,8 +7,7 @@ use mathlib.Core.List.{List}
 use native.Mathlib.Omega.{arith}
 use borrow.Author.Tests.{eqb-true, eqb-false, ne-eqb}
 use lib.Dec.{eqb}
-use Rattle.names.specs.declared.Letters.the-variants.{Two}
-use Rattle.names.proofs.Moved.{NameAt, same-letters}
+use Rattle.names.proofs.SameNames.{same-letters}
 use Rattle.certificate.specs.declared.Fields as certificates
 use Rattle.certificate.specs.declared.Judged.{Judged}
 use Rattle.certificate.specs.declared.Judged.the-variants.{Passed, Refused}
@@ -20,10 +19,9 @@ use Rattle.crl.specs.Answer as lists
 use Rattle.octets.specs.Alike.{alike}
 use Rattle.octets.proofs.Likeness.{alike-is}
 use Rattle.parts.proofs.Issuers.{certificate-country, crl-country, certificate-names, crl-name}
-use Rattle.image.specs.Items.{Item}
 use Rattle.image.specs.Index.{entryIn, itemsIn, entryCount}
-use Rattle.chain.specs.Items.{itemAt, onCertificate, certificateAt, onList, listAt, partOf}
-use Rattle.chain.specs.Usable.{valid, usableAnchor, sameCountry, covers}
+use Rattle.chain.specs.Items.{onCertificate, certificateAt, onList, listAt, partOf}
+use Rattle.chain.specs.Usable.{covers}
 use Rattle.chain.specs.Steps.{hasKind, fits, goodStep}
 use Rattle.chain.specs.Rows.{bytesAt}
 use Rattle.chain.specs.Near.{isNear}

@@ -16,10 +16,10 @@ use Rattle.chain.specs.Steps.{hasKind}
 use Rattle.chain.specs.Table.{verdictIn}
 use Rattle.chain.specs.Near.{isNear}
 use Rattle.chain.specs.Rows.{rowAt, spokenBelow, signedOf, roleBy, roleOf, roleIn, Roles}
-use Rattle.chain.proofs.Booleans.{false-true, and-false, first, middle}
+use Rattle.chain.proofs.Booleans.{false-true, and-false, middle}
 use Rattle.chain.proofs.RowReadings.{validOf}
 use Rattle.chain.specs.Home.{wantedOf}
-use Rattle.chain.proofs.Homes.{home, inside, isOpen, wanted-signed}
+use Rattle.chain.proofs.Homes.{home, inside, isOpen, wanted-home}
 use Rattle.chain.proofs.NearRows.{Told, Based}
 use Rattle.chain.proofs.StandingMeans.{standing-signed, certificate-row}
 use Rattle.chain.proofs.ItemsTold.{kind-told, valid-told}
@@ -98,16 +98,18 @@ Known a b s table moment near roles = (p : ℕ) → p < entryCount s → Role s 
 
 -- tests in another order, of which one holds where another does
 arranged :
-    (given n w h k v q x : Bool) → given ≡ ((n && w) && (k && v)) → (k ≡ true → w ≡ true) → (given ≡ true → q ≡ (h && x))
+    (given n w h k v q x : Bool) → given ≡ ((n && w) && (k && v)) → (h ≡ true → w ≡ true) → (given ≡ true → q ≡ (h && x))
     → (given && q) ≡ ((n && h) && (k && (v && x)))
-arranged given true w h true v q x e f g = go w (f refl) v e
-  where
-    go : (w : Bool) → w ≡ true → (v : Bool) → given ≡ (w && v) → (given && q) ≡ (h && (v && x))
-    go true t true p = rw p (g p)
-    go true t false p = rw p (sym (and-false h))
-    go false t v p = false-true t
-arranged given true w h false v q x e f g = rw (e, and-false w) (sym (and-false h))
 arranged given false w h k v q x e f g = rw e
+arranged true true w false k v q x e f g = g refl
+arranged false true w false k v q x e f g = refl
+arranged given true w true k v q x e f g = go w (f refl) k v e
+  where
+    go : (w : Bool) → w ≡ true → (k v : Bool) → given ≡ (w && (k && v)) → (given && q) ≡ (k && (v && x))
+    go true t true true p = rw p (g p)
+    go true t true false p = rw p
+    go true t false v p = rw p
+    go false t k v p = false-true t
 
 module _ (a b : ℕ) (s table : List ℕ) (moment : ℕ) (near : List ℕ) (rows : List (List ℕ)) (told : Told a b moment s (entryCount s) near rows) (based : Based s (entryCount s) near) (counting : List ℕ) (counts : Counts a b s table moment counting) where
   -- a standing of 2 or 3 that the CRLs leave is a usable link or signer that is near and of the country
@@ -121,14 +123,11 @@ module _ (a b : ℕ) (s table : List ℕ) (moment : ℕ) (near : List ℕ) (rows
       (arranged (eqb (rowAt rows p .standing) k) (isNear near p) (wantedOf a b s (entryIn s p)) (home a b s p) (eqb (entryIn s p .kind) k)
       (validOf moment s (entryIn s p)) (eqb (spokenBelow s rows counting (rowAt rows p) (entryCount s)) 1) _
       (standing-signed (row-reading a b s table moment near rows told based p h) k l m)
-      (λ e. unasked (eqb-true (entryIn s p .kind) k e))
+      (wanted-home a b s p)
       (λ e. spoken-means a b s table moment near rows told based counting counts p h (no-list e) (own (eqb-true (rowAt rows p .standing) k e))))
     where
       own : rowAt rows p .standing ≡ k → Certificate s rows p
       own e = certificate-row (row-reading a b s table moment near rows told based p h) (omega arith) (omega arith)
-
-      unasked : entryIn s p .kind ≡ k → wantedOf a b s (entryIn s p) ≡ true
-      unasked e = wanted-signed a b s p (omega arith) (omega arith)
 
       no-list : eqb (rowAt rows p .standing) k ≡ true → eqb (entryIn s p .kind) 4 ≡ false
       no-list e =

@@ -3,3 +3,4 @@ pub mod Held
 pub mod FastSets
 pub mod FirstSet
 pub mod Moved
+pub mod SameNames

@@ -1,7 +1,7 @@
 -- An item that passes has the letters that it reports as its country: the steps to its issuer are the first of its shape.
 use Prim.Native.Nat.{ℕ, _-_}
 use mathlib.Core.Path.{_≡_, refl, sym, ap, subst, _∙_}
-use mathlib.Core.Bool.{Bool, true, false}
+use mathlib.Core.Bool.{Bool, true}
 use mathlib.Core.List.{List}
 use native.Mathlib.Omega.{arith}
 use borrow.Author.Tests.{eqb-true}
@@ -9,7 +9,7 @@ use lib.Dec.{eqb}
 use lib.ListN.{length}
 use Rattle.elements.specs.declared.elements.Element.{Element}
 use Rattle.elements.specs.declared.elements.Found.{Found}
-use Rattle.elements.specs.declared.elements.Found.the-variants.{One, Missing}
+use Rattle.elements.specs.declared.elements.Found.the-variants.{One}
 use Rattle.elements.specs.declared.envelopes.Envelope.{Envelope}
 use Rattle.elements.specs.declared.envelopes.Envelope.the-variants as envelope
 use Rattle.elements.specs.Elements.{foundTagged, onFound}
@@ -23,7 +23,7 @@ use Rattle.names.specs.declared.Name.the-variants.{Holds}
 use Rattle.names.specs.Names.{nameOf, firstLetter, secondLetter, lettersOf}
 use Rattle.names.specs.Country.{countryIn}
 use Rattle.names.proofs.FirstSet.{country-letters}
-use Rattle.names.proofs.Moved.{NameAt}
+use Rattle.names.proofs.SameNames.{NameAt}
 use Rattle.times.specs.Times.{timeAt}
 use Rattle.certificate.specs.declared.Fields as certificate
 use Rattle.certificate.specs.declared.Judged.the-variants as judged
