@@ -4,3 +4,4 @@ pub mod Values
 pub mod Rules
 pub mod Answer
 pub mod Meets
+pub mod Country

@@ -1,4 +1,5 @@
 // Whether an item is a certificate of the profile, and its fields.
+mod countries;
 mod keys;
 mod rules;
 mod shapes;
@@ -21,6 +22,7 @@ use shapes::parts_of;
 use times::moment;
 ghost use mathlib.Core.Path.{_≡_};
 ghost use Rattle.certificate.specs.Answer.{keyAt, keyLength, fieldsOf, profileOf, judgedOf};
+pub use countries::country;
 
 // Start and end as YYYYMMDDHHMMSS, the issuer's letters, offset and length of issuer, subject and key with their
 // headers, and of the contents of the serial and the key identifiers, 0 and 0 where one is absent.

@@ -4,7 +4,7 @@ use mathlib.Core.Path.{_≡_, refl, sym, _∙_}
 use mathlib.Core.Bool.{Bool, true, false, cond}
 use mathlib.Core.List.{List}
 use native.Mathlib.Omega.{arith}
-use borrow.Author.Tests.{ltb-true}
+use borrow.Author.Tests.{ltb-true, eqb-true}
 use lib.Dec.{ltb, eqb}
 use lib.ListN.{length}
 use Rattle.refusal.specs.declared.Refusal.{Refusal}
@@ -35,25 +35,27 @@ all-four :
     (asked.Refused refusal.Argument))
     (asked.Refused refusal.Argument)
     ≡ asked.Over n
-    → (m ≡ n) × (c ≡ true)
+    → (m ≡ n) × (c ≡ true) × (d ≡ true)
 all-four false b c d e = absurd (not-over e)
 all-four true false c d e = absurd (not-over e)
 all-four true true false d e = absurd (not-over e)
 all-four true true true false e = absurd (not-over e)
-all-four true true true true e = (cc, refl)
+all-four true true true true e = (cc, refl, refl)
 
 module _ (s table : List ℕ) (moment target : ℕ) where
-  pub asked-over : {n : ℕ} → askedOf s table moment target ≡ asked.Over n → (n ≡ entryCount s) × (n ≤ 96) × (target < n)
+  pub asked-over :
+      {n : ℕ} → askedOf s table moment target ≡ asked.Over n
+      → (n ≡ entryCount s) × (n ≤ 96) × (target < n) × (entryIn s target .kind ≡ 3)
   unfolding askedOf onImage
   asked-over {n} = go (openedOf s) refl
     where
-      go : (o : Opened) → openedOf s ≡ o → onImage s table moment target o ≡ asked.Over n → (n ≡ entryCount s) × (n ≤ 96) × (target < n)
+      go : (o : Opened) → openedOf s ≡ o → onImage s table moment target o ≡ asked.Over n → (n ≡ entryCount s) × (n ≤ 96) × (target < n) × (entryIn s target .kind ≡ 3)
       go (opened.Refused why) e f = absurd (not-over f)
       go (opened.Image m day) e f =
           let both = all-four (tableGood m table) (realMoment 1950 2099 moment) (ltb target m) (eqb (entryIn s target .kind) 3) f in
           let o = opened-image s m day e in
           let below = ltb-true target m (both .1) in
-          (sym (both .0) ∙ o .0, omega (arith, o .1, both .0), omega (arith, both .0))
+          (sym (both .0) ∙ o .0, omega (arith, o .1, both .0), omega (arith, both .0), eqb-true _ _ (both .2))
 
   pub answering :
       {n : ℕ} {f : Found} {r : Answer} → askedOf s table moment target ≡ asked.Over n

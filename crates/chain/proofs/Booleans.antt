@@ -57,10 +57,3 @@ pub but-last : (a b c d : Bool) → (a && (b && (c && d))) ≡ true → (a && (b
 but-last true true c d e = first c d e
 but-last true false c d e = e
 but-last false b c d e = e
-
--- the same tests in another order
-pub reordered : (v k m o : Bool) → (k ≡ true → o ≡ m) → cond v (cond k m false) false ≡ (k && (o && v))
-reordered true true m o f = rw (f refl) (swapped m true)
-reordered false true m o f = swapped o false
-reordered true false m o f = refl
-reordered false false m o f = refl

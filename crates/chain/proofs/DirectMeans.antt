@@ -14,12 +14,13 @@ use Rattle.graph.specs.Chains.{Graph, Onward, ends, goes, Chain, chain, NotLate
 use Rattle.graph.specs.Answer.{Answered, found}
 use Rattle.image.specs.Index.{itemsIn, entryCount}
 use Rattle.chain.specs.declared.opened.Row.{Row}
-use Rattle.chain.specs.Near.{isNear}
 use Rattle.chain.specs.Steps.{goodStep, chains}
 use Rattle.chain.specs.Table.{verdictIn}
 use Rattle.chain.specs.Rows.{stepOf, Direct}
 use Rattle.chain.specs.Answer.{goodChains}
-use Rattle.chain.proofs.Booleans.{false-true, second}
+use Rattle.chain.proofs.Booleans.{false-true, second, both-true}
+use Rattle.chain.proofs.Homes.{inside, step-home}
+use Rattle.chain.proofs.CountingMeans.{anchor-kind, always-near}
 use Rattle.chain.proofs.Cells.{below-or-not}
 use Rattle.chain.proofs.PlacesMean.{length-items}
 use Rattle.chain.proofs.StepsMean.{step-told}
@@ -29,19 +30,19 @@ longer : {g : Graph} {target u : ℕ} {c : List ℕ} → Onward g target u c →
 longer (ends m signer step) = omega arith
 longer (goes m link step rest) = omega arith
 
-module _ (s table : List ℕ) (moment target n : ℕ) (equal : n ≡ entryCount s) {round : ℕ} {near : List ℕ} {rows : List (List ℕ)} {counting roles : List ℕ} (r : Round s table moment target round near rows counting roles) (here : target < n) (three : getD roles target 0 ≡ 3) where
+module _ (a b : ℕ) (s table : List ℕ) (moment target n : ℕ) (equal : n ≡ entryCount s) {round : ℕ} {near : List ℕ} {rows : List (List ℕ)} {counting roles : List ℕ} (r : Round a b s table moment target round near rows counting roles) (there : target < n) (three : getD roles target 0 ≡ 3) where
   -- what the tables tell of a step from an anchor
   from-anchor :
       (u : ℕ) → u < n → eqb (getD roles u 0) 1 ≡ true
       → stepOf s n table rows roles u target ≡ goodStep (itemsIn s) (verdictIn (entryCount s) table) u target
   from-anchor u h one =
       rw equal
-      (step-told s table moment near rows (r .told) (r .based) roles (r .known) u target (rw equal at h) (rw equal at here)
+      (step-told a b s table moment near rows (r .told) (r .based) roles (r .known) u target (rw equal at h) (rw equal at there)
       (inl one) (inr (eq-eqb _ _ three)))
 
-  inside : (u : ℕ) → u < goodChains s table moment .places → u < n
+  within : (u : ℕ) → u < goodChains s table moment .places → u < n
   unfolding chains
-  inside u h = rw (equal, ← length-items s) h
+  within u h = rw (equal, ← length-items s) h
 
   outside : (u : ℕ) → u < n → u < goodChains s table moment .places
   unfolding chains
@@ -52,7 +53,10 @@ module _ (s table : List ℕ) (moment target n : ℕ) (equal : n ≡ entryCount 
     later : (w : ℕ) → w < n → goodChains s table moment .anchor w ≡ true → goodChains s table moment .step w target ≡ true → d .from ≤ w
     unfolding chains
     later w h anchor step =
-        let one : eqb (getD roles w 0) 1 ≡ true = r .known w (rw equal at h) .anchor ∙ anchor in
+        let here : w < entryCount s = rw equal at h in
+        let nearby = always-near a b s table moment near rows (r .told) (r .based) w here (inl (anchor-kind s moment w here anchor)) in
+        let country = step-home a b s (verdictIn (entryCount s) table) w target here (rw equal at there) step (r .country) in
+        let one : eqb (getD roles w 0) 1 ≡ true = r .known w here .anchor ∙ both-true _ _ (both-true _ _ nearby country) anchor in
         ⊎-elim
         (λ (k : w < d .from). false-true (sym (d .first w k (eqb-true _ _ one)) ∙ from-anchor w h one ∙ step))
         (λ (k : d .from ≤ w). k)
@@ -64,8 +68,8 @@ module _ (s table : List ℕ) (moment target n : ℕ) (equal : n ≡ entryCount 
         let one : eqb (getD roles (d .from) 0) 1 ≡ true = eq-eqb _ _ (d .anchor) in
         found (d .from ∷ target ∷ [])
         (record {
-          good = chain {u = d .from} (outside _ (d .inside)) (sym (r .known (d .from) (rw equal at (d .inside)) .anchor) ∙ one)
-              (ends (outside _ here) (second (isNear near target) (goodChains s table moment .signer target) (sym (r .known target (rw equal at here) .signer) ∙ eq-eqb _ _ three))
+          good = chain {u = d .from} (outside _ (d .inside)) (second (inside a b s near (d .from)) _ (sym (r .known (d .from) (rw equal at (d .inside)) .anchor) ∙ one))
+              (ends (outside _ there) (second (inside a b s near target) (goodChains s table moment .signer target) (sym (r .known target (rw equal at there) .signer) ∙ eq-eqb _ _ three))
               (sym (from-anchor (d .from) (d .inside) one) ∙ d .good));
           least = least;
         })
@@ -74,5 +78,5 @@ module _ (s table : List ℕ) (moment target n : ℕ) (equal : n ≡ entryCount 
         least : (e : List ℕ) → Chain (goodChains s table moment) target e → (2 < length e) ⊎ ((2 ≡ length e) × NotLater (d .from ∷ target ∷ []) e)
         least e (chain {u = w} l anchor (ends m signer step)) =
             ⊎-elim (λ (k : d .from ≡ w). inr (refl, rw k (same (same done)))) (λ (k : d .from < w). inr (refl, less k))
-            (eq-or-lt-of-le (later w (inside w l) anchor step))
+            (eq-or-lt-of-le (later w (within w l) anchor step))
         least e (chain l anchor (goes m link step rest)) = inl (let k = longer rest in omega (arith, k))

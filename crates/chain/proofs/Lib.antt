@@ -8,6 +8,7 @@ pub mod DirectMeans
 pub mod FirstRound
 pub mod ImageOpened
 pub mod ItemsTold
+pub mod Homes
 pub mod Layers
 pub mod Meaning
 pub mod NearRows

@@ -1,7 +1,7 @@
 -- From a round to the next: what is near stays so, and the links that sign it are so too.
 use Prim.Native.Nat.{ℕ, _+_, _<_, _≤_}
-use mathlib.Core.Path.{_≡_, refl, sym, ap, _∙_}
-use mathlib.Core.Bool.{Bool, true, false, cond}
+use mathlib.Core.Path.{_≡_, refl, sym, _∙_}
+use mathlib.Core.Bool.{Bool, true, false}
 use mathlib.Core.List.{List}
 use mathlib.Core.Logic.{inl, ⊎-elim}
 use native.Mathlib.Omega.{arith}
@@ -16,7 +16,8 @@ use Rattle.chain.specs.declared.opened.Row.{Row}
 use Rattle.chain.specs.Near.{isNear, ledOf, Wider}
 use Rattle.chain.specs.Steps.{hasKind, chains}
 use Rattle.chain.specs.Table.{verdictIn}
-use Rattle.chain.specs.Rows.{blank, rowOf, Opens, Roles, Searched}
+use Rattle.chain.specs.Rows.{Roles, Searched}
+use Rattle.chain.specs.Home.{Opens}
 use Rattle.chain.specs.Answer.{goodChains}
 use Rattle.chain.proofs.Booleans.{false-true, first, both-true}
 use Rattle.chain.proofs.PlacesMean.{length-items}
@@ -25,7 +26,7 @@ use Rattle.chain.proofs.NearRows.{Told, told-next}
 use Rattle.chain.proofs.RolesMean.{roles-mean}
 use Rattle.chain.proofs.Transfer.{AllNear, done, more}
 use Rattle.chain.proofs.Theorems.{step-verified}
-use Rattle.chain.proofs.RoundsHold.{Round, answer-by}
+use Rattle.chain.proofs.RoundsHold.{Round, way-home, answer-by}
 
 -- the kinds and verdicts that a good chain has
 module _ (s table : List ℕ) (moment : ℕ) where
@@ -53,7 +54,7 @@ led-signer : (role : ℕ) → eqb role 3 ≡ true → ledOf role ≡ true
 unfolding ledOf
 led-signer role three = rw (eqb-true role 3 three)
 
-module _ (s table : List ℕ) (moment target n : ℕ) (same : n ≡ entryCount s) {round : ℕ} {near : List ℕ} {rows : List (List ℕ)} {counting roles : List ℕ} (r : Round s table moment target round near rows counting roles) {wider : List ℕ} (w : Wider n table (round + 1) roles near wider) where
+module _ (a b : ℕ) (s table : List ℕ) (moment target n : ℕ) (same : n ≡ entryCount s) {round : ℕ} {near : List ℕ} {rows : List (List ℕ)} {counting roles : List ℕ} (r : Round a b s table moment target round near rows counting roles) {wider : List ℕ} (w : Wider n table (round + 1) roles near wider) where
   kept : (p : ℕ) → p < entryCount s → isNear near p ≡ true → isNear wider p ≡ true
   unfolding isNear
   kept p h e = ⊎-elim (λ k. eq-eqb (getD wider p 0) 1 k) (λ k. rw k e) (w .layer .kept p (rw (← same) at h))
@@ -88,13 +89,13 @@ module _ (s table : List ℕ) (moment target n : ℕ) (same : n ≡ entryCount s
   unfolding chains
   signs {v} h two (ends m signer step) (more n done) =
       let here = in-items s table moment target m in
-      let role = r .known target here .signer ∙ both-true _ _ n signer in
+      let role = r .known target here .signer ∙ both-true _ _ (both-true _ _ n (r .country)) signer in
       marks v h two
       (w .layer .signers v target (rw (← same) at h) (rw (← same) at here) (led-signer (getD roles target 0) role)
       (rw (← same) at (step-verdict s table moment v target step)))
   signs {v} h two (goes {v = x} m link step rest) (more n others) =
       let here = in-items s table moment x m in
-      let role = r .known x here .link ∙ both-true _ _ n link in
+      let role = r .known x here .link ∙ both-true _ _ (both-true _ _ n (way-home a b s table moment target (r .country) here rest)) link in
       marks v h two
       (w .layer .signers v x (rw (← same) at h) (rw (← same) at here) (led-link (getD roles x 0) role)
       (rw (← same) at (step-verdict s table moment v x step)))
@@ -110,7 +111,7 @@ module _ (s table : List ℕ) (moment target n : ℕ) (same : n ≡ entryCount s
       {f : Found} → n ≤ 96 → Searched s n table rows roles target f
       → ((p : ℕ) → p < n → getD near p 0 ≡ getD wider p 0) → Answered (goodChains s table moment) target f
   unfolding isNear
-  closed-answer few found unchanged = answer-by s table moment target n same r few found (λ u c o. inl (all o))
+  closed-answer few found unchanged = answer-by a b s table moment target n same r few found (λ u c o. inl (all o))
     where
       all : {u : ℕ} {c : List ℕ} → Onward (goodChains s table moment) target u c → AllNear (isNear near) c
       all (ends m signer step) = more {v = target} (r .end) done
@@ -136,21 +137,19 @@ module _ (s table : List ℕ) (moment target n : ℕ) (same : n ≡ entryCount s
       more (signs here (link-kind s table moment x here link) rest all) (all-kept rest all)
 
   pub next-round :
-      {opened : List (List ℕ)} {after : List ℕ} → target < n → Opens moment s n near wider rows opened
-      → Roles s n near opened counting roles after → Round s table moment target (round + 1) wider opened counting after
+      {opened : List (List ℕ)} {after : List ℕ} → target < n → Opens moment a b s n near wider rows opened
+      → Roles s n near opened counting roles after → Round a b s table moment target (round + 1) wider opened counting after
   next-round {opened} {after} h opens is =
-      let told : Told moment s (entryCount s) wider opened =
-      rw same at (told-next moment s n near wider rows opened
-      (λ p k e. r .told p (rw same at k) ∙ ap (λ (b : Bool). cond b (rowOf moment s (entryIn s p)) blank) e)
-      (λ p k e.
-      r .told p (rw same at k) ∙ ap (λ (b : Bool). cond b (rowOf moment s (entryIn s p)) blank) (far p (rw same at k) e)) opens) in
+      let told : Told a b moment s (entryCount s) wider opened =
+      told-next a b moment s (entryCount s) near wider rows opened (r .told) kept (rw same at opens) in
       record {
         told = told;
         based = λ p k e. r .based p k (far p k e);
         waiting = wider-waiting;
         counts = r .counts;
-        known = roles-mean s table moment wider opened told (λ p k e. r .based p k (far p k e)) counting (r .counts) near roles after (rw same at is)
+        known = roles-mean a b s table moment wider opened told (λ p k e. r .based p k (far p k e)) counting (r .counts) near roles after (rw same at is)
             (λ p k e. rw (kept p k e) (rw e at (r .known p k)));
+        country = r .country;
         end = kept target (rw same at h) (r .end);
         reach = λ o few. ⊎-elim (λ l. reach-more o (omega arith)) (λ l. reach-last l o) few;
       }

@@ -10,7 +10,7 @@ use borrow.Author.Tests.{eqb-true, eqb-false, leb-true}
 use lib.Dec.{eqb, leb}
 use lib.ListN.{length, getD}
 use Rattle.graph.specs.declared.Found.{Found}
-use Rattle.graph.specs.Chains.{Onward}
+use Rattle.graph.specs.Chains.{Onward, ends, goes}
 use Rattle.graph.proofs.Targets.{chain-target}
 use Rattle.graph.specs.Answer.{NoChain, Answered, none}
 use Rattle.image.specs.Index.{entryIn, entryCount}
@@ -19,12 +19,15 @@ use Rattle.chain.specs.Near.{isNear}
 use Rattle.chain.specs.Steps.{chains}
 use Rattle.chain.specs.Rows.{Searched, enoughOf}
 use Rattle.chain.specs.Answer.{goodChains}
-use Rattle.chain.proofs.Booleans.{false-true}
+use Rattle.chain.proofs.Booleans.{false-true, both-true}
 use Rattle.chain.proofs.Cells.{below-or-not}
+use Rattle.chain.specs.Table.{verdictIn}
+use Rattle.chain.proofs.PlacesMean.{length-items}
+use Rattle.chain.proofs.Homes.{home, inside, step-home}
 use Rattle.chain.proofs.NearRows.{Told, Based}
-use Rattle.chain.proofs.CountingMeans.{Counts}
+use Rattle.chain.proofs.CountingMeans.{Counts, anchor-kind, always-near}
 use Rattle.chain.proofs.RolesMean.{Known}
-use Rattle.chain.proofs.Transfer.{AllNear, NearOrLonger, answer-out}
+use Rattle.chain.proofs.Transfer.{AllNear, done, more, NearOrLonger, answer-out}
 use Rattle.chain.proofs.Meaning.{tables-part}
 
 -- a chain that settles a round, and in the last round each does
@@ -46,29 +49,62 @@ unsettled round length e four = false-true (sym e ∙ rw four)
 pub unasked : {round : ℕ} {asked : Bool} → (round ≡ 4 → asked ≡ true) → asked ≡ false → round ≡ 4 → ⊥
 unasked last e four = false-true (sym e ∙ last four)
 
-module _ (s table : List ℕ) (moment target round : ℕ) (near : List ℕ) (rows : List (List ℕ)) (counting roles : List ℕ) where
+-- of a way on to a target of the country all places are of it, and so is where it starts
+module _ (a b : ℕ) (s table : List ℕ) (moment target : ℕ) (there : home a b s target ≡ true) where
+  in-items : (v : ℕ) → v < goodChains s table moment .places → v < entryCount s
+  unfolding chains
+  in-items v h = rw (length-items s) at h
+
+  stays : (u v : ℕ) → u < entryCount s → v < entryCount s → goodChains s table moment .step u v ≡ true → home a b s v ≡ true → home a b s u ≡ true
+  unfolding chains
+  stays u v hu hv step h = step-home a b s (verdictIn (entryCount s) table) u v hu hv step h
+
+  pub way-home : {u : ℕ} {c : List ℕ} → u < entryCount s → Onward (goodChains s table moment) target u c → home a b s u ≡ true
+  way-home {u} h (ends m signer step) = stays u target h (in-items target m) step there
+  way-home {u} h (goes {v = v} m link step rest) = stays u v h (in-items v m) step (way-home (in-items v m) rest)
+
+  -- so what is near of it is near and of the country
+  pub all-inside :
+      (near : List ℕ) {u : ℕ} {c : List ℕ} → Onward (goodChains s table moment) target u c → AllNear (isNear near) c
+      → AllNear (inside a b s near) c
+  all-inside near (ends m signer step) (more n done) = more (both-true _ _ n there) done
+  all-inside near (goes {v = v} m link step rest) (more n others) = more (both-true _ _ n (way-home (in-items v m) rest)) (all-inside near rest others)
+
+module _ (a b : ℕ) (s table : List ℕ) (moment target round : ℕ) (near : List ℕ) (rows : List (List ℕ)) (counting roles : List ℕ) where
   -- the tables tell what is near, and so is each way on to the target of at most a place more than rounds were done, in the
   -- last round each way
   pub record Round : Type 0 where
-    pub told : Told moment s (entryCount s) near rows
+    pub told : Told a b moment s (entryCount s) near rows
     pub based : Based s (entryCount s) near
-    pub counts : Counts s table moment counting
-    pub known : Known s table moment near roles
+    pub counts : Counts a b s table moment counting
+    pub known : Known a b s table moment near roles
+    pub country : home a b s target ≡ true
     pub end : isNear near target ≡ true
     pub waiting : (p : ℕ) → p < entryCount s → isNear near p ≡ false → entryIn s p .kind ≡ 2 → getD near p 0 ≡ 2
     pub reach :
         {u : ℕ} {c : List ℕ} → Onward (goodChains s table moment) target u c → (length c ≤ round + 1) ⊎ (round ≡ 4)
         → AllNear (isNear near) c
 
-module _ (s table : List ℕ) (moment target n : ℕ) (same : n ≡ entryCount s) {round : ℕ} {near : List ℕ} {rows : List (List ℕ)} {counting roles : List ℕ} (r : Round s table moment target round near rows counting roles) where
+module _ (a b : ℕ) (s table : List ℕ) (moment target n : ℕ) (same : n ≡ entryCount s) {round : ℕ} {near : List ℕ} {rows : List (List ℕ)} {counting roles : List ℕ} (r : Round a b s table moment target round near rows counting roles) where
   -- what the tables answer, where each way on to the target is near or no shorter than what is found
   pub answer-by :
       {f : Found} → n ≤ 96 → Searched s n table rows roles target f
-      → NearOrLonger (isNear near) (goodChains s table moment) target f → Answered (goodChains s table moment) target f
-  answer-by few found ways =
+      → ((u : ℕ) (c : List ℕ) → Onward (goodChains s table moment) target u c
+      → AllNear (isNear near) c ⊎ ((f .length ≡ 0 → ⊥) × (f .length ≤ length c)))
+      → Answered (goodChains s table moment) target f
+  unfolding chains
+  answer-by {f} few found ways =
       answer-out
-      (tables-part s table moment near rows roles (found .steps) (rw same at few) (r .told) (r .based) (r .known) (rw same at (found .matched)))
-      ways (rw same at (found .answer))
+      (tables-part a b s table moment near rows roles (found .steps) (rw same at few) (r .told) (r .based) (r .known) (rw same at (found .matched)))
+      within (rw same at (found .answer))
+    where
+      within : NearOrLonger (inside a b s near) (goodChains s table moment) target f
+      within u c l anchor o =
+          let here : u < entryCount s = rw (length-items s) at l in
+          let nearby = always-near a b s table moment near rows (r .told) (r .based) u here (inl (anchor-kind s moment u here anchor)) in
+          ⊎-elim
+          (λ m. inl (more {v = u} (both-true _ _ nearby (way-home a b s table moment target (r .country) here o)) (all-inside a b s table moment target (r .country) near o m)))
+          inr (ways u c o)
 
   -- a chain that is short enough, or any in the last round, is the answer
   pub round-answer :
@@ -90,4 +126,6 @@ module _ (s table : List ℕ) (moment target n : ℕ) (same : n ≡ entryCount s
   unfolding chains
   no-signer {f} h not-three empty =
       let known = r .known target (rw same at h) .signer in
-      none (λ c e. not-three (eqb-true (getD roles target 0) 3 (known ∙ rw (r .end) (chain-target e .1)))) empty
+      none
+      (λ c e. not-three (eqb-true (getD roles target 0) 3 (known ∙ both-true _ _ (both-true _ _ (r .end) (r .country)) (chain-target e .1))))
+      empty

@@ -1,7 +1,7 @@
 -- One law for each answer of the definitions over rows: what they come to under the tests that lead there.
 use Prim.Native.Nat.{ℕ, zero, suc, _+_, _*_, _<_, _≤_}
 use mathlib.Core.Path.{_≡_, refl, sym, ap, _∙_}
-use mathlib.Core.Bool.{Bool, true, false, cond, _||_}
+use mathlib.Core.Bool.{Bool, true, false, _||_}
 use mathlib.Core.List.{List, [], _∷_}
 use mathlib.Core.Logic.{⊎-elim}
 use native.Mathlib.Nat.{eq-or-lt-of-le}
@@ -19,7 +19,8 @@ use Rattle.image.specs.Index.{entryIn}
 use Rattle.chain.specs.declared.opened.Row.{Row}
 use Rattle.chain.specs.Items.{someBelow}
 use Rattle.chain.specs.Near.{isNear, ledOf, freshOf}
-use Rattle.chain.specs.Rows.{blank, flag, vouchesOf, rowFrom, rowAt, vouchedBy, countedOf, pieceOf, coversOf, listsOf, spokenOf, spokenBelow, signedOf, roleBy, roleOf, roleIn, rowOf, rowIn, fitsOf, matchedOf, leadsOf, stepOf}
+use Rattle.chain.specs.Rows.{blank, flag, rowFrom, rowAt, vouchedBy, countedOf, pieceOf, coversOf, listsOf, spokenOf, spokenBelow, signedOf, roleBy, roleOf, roleIn, rowOf, fitsOf, matchedOf, leadsOf, stepOf}
+use Rattle.chain.specs.Home.{wantedOf, rowIn}
 use Rattle.chain.specs.Table.{verdictIn}
 
 -- the rows of a table of nothing but 0
@@ -34,11 +35,11 @@ pub record Rewritten (f : ℕ → Row) (old rows : List (List ℕ)) (p : ℕ) : 
   pub before : (c : ℕ) → c < p → rowAt rows c ≡ f c
   pub behind : (c : ℕ) → p ≤ c → rowAt rows c ≡ rowAt old c
 
-set-here : (rows : List (List ℕ)) (p : ℕ) (cells : List ℕ) → p < length rows → rowAt (set rows p cells) p ≡ rowFrom cells
+pub set-here : (rows : List (List ℕ)) (p : ℕ) (cells : List ℕ) → p < length rows → rowAt (set rows p cells) p ≡ rowFrom cells
 unfolding rowAt
 set-here rows p cells room = ap rowFrom (getD-set-same rows p cells [] room)
 
-set-there : (rows : List (List ℕ)) (p : ℕ) (cells : List ℕ) (c : ℕ) → (c ≡ p → ⊥) → rowAt (set rows p cells) c ≡ rowAt rows c
+pub set-there : (rows : List (List ℕ)) (p : ℕ) (cells : List ℕ) (c : ℕ) → (c ≡ p → ⊥) → rowAt (set rows p cells) c ≡ rowAt rows c
 unfolding rowAt
 set-there rows p cells c h = ap rowFrom (getD-set-other rows p c cells [] h)
 
@@ -67,10 +68,6 @@ module _ {f : ℕ → Row} {old rows : List (List ℕ)} {p : ℕ} where
       least : (c : ℕ) → c < p + 1 → c ≤ p
       least c h = omega arith
 
-cond-false : (b : Bool) → cond b false false ≡ false
-cond-false true = refl
-cond-false false = refl
-
 pub flag-true : {value : ℕ} (b : Bool) → value ≡ flag b → value ≡ 1 → b ≡ true
 unfolding flag
 flag-true true e f = refl
@@ -84,20 +81,6 @@ flag-false false e f = refl
 pub leads-anchor : {role : ℕ} → role ≡ 1 → leadsOf role ≡ true
 unfolding leadsOf
 leads-anchor e = rw e
-
-module _ (a l : Row) where
-  pub vouches-unfit : eqb (a .standing) 1 ≡ false → vouchesOf a l ≡ false
-  unfolding vouchesOf
-  vouches-unfit e = rw e
-
-  pub vouches-first : eqb (a .standing) 1 ≡ true → eqb (a .first) (l .first) ≡ false → vouchesOf a l ≡ false
-  unfolding vouchesOf
-  vouches-first e f = rw (e, f)
-
-  pub vouches-second :
-      eqb (a .standing) 1 ≡ true → eqb (a .first) (l .first) ≡ true → vouchesOf a l ≡ eqb (a .second) (l .second)
-  unfolding vouchesOf
-  vouches-second e f = rw (e, f)
 
 module _ (row : Row) (spoken : ℕ) where
   pub role-unspoken : signedOf row ≡ true → eqb spoken 1 ≡ false → roleBy row spoken ≡ 0
@@ -183,55 +166,59 @@ module _ (s : List ℕ) (u v : Row) (role : ℕ) where
   unfolding flag matchedOf
   matched-unfit e f = rw (e, f)
 
--- one place more
+-- a test that holds of one place holds of some
+pub some-there : (n : ℕ) (test : ℕ → Bool) (i : ℕ) → i < n → test i ≡ true → someBelow n test ≡ true
+unfolding someBelow
+some-there zero test i h e = absurd (omega arith)
+some-there (suc n) test i h e =
+    ⊎-elim (λ (q : i ≡ n). rw (← q, e)) (λ (q : i < n). rw (some-there n test i q e) (go (test n))) (eq-or-lt-of-le (least h))
+  where
+    least : i < suc n → i ≤ n
+    least k = omega arith
+
+    go : (b : Bool) → (b || true) ≡ true
+    go true = refl
+    go false = refl
+
+-- and one that holds of none holds of none of the places so far
+pub some-none : (n : ℕ) (test : ℕ → Bool) → ((i : ℕ) → i < n → test i ≡ false) → someBelow n test ≡ false
+unfolding someBelow
+some-none zero test e = refl
+some-none (suc n) test e = rw (e n (omega arith)) (some-none n test (λ i h. e i (omega arith)))
+
 module _ (n : ℕ) (table : List ℕ) (rows : List (List ℕ)) (list : ℕ) where
-  pub vouched-none : flag (someBelow 0 (vouchedBy n table rows list)) ≡ 0
-  unfolding flag someBelow
-  vouched-none = refl
+  -- an anchor with verdict 1 for the CRL vouches
+  pub vouched-there :
+      (anchor : ℕ) {standing octet : ℕ} → anchor < n → standing ≡ rowAt rows anchor .standing → standing ≡ 1
+      → octet ≡ getD table (anchor * n + list) 0 → octet ≡ 1 → 1 ≡ flag (someBelow n (vouchedBy n table rows list))
+  unfolding vouchedBy verdictIn flag
+  vouched-there anchor h e one f same =
+      let is : vouchedBy n table rows list anchor ≡ true = rw (eq-eqb _ _ (sym e ∙ one)) (eq-eqb _ _ (sym f ∙ same)) in
+      rw (some-there n (vouchedBy n table rows list) anchor h is)
 
-  flagged : (b some : Bool) → cond b 1 (flag some) ≡ flag (b || some)
-  unfolding flag
-  flagged true some = refl
-  flagged false some = refl
-
-  -- an anchor with verdict 1 for the CRL is asked
-  pub vouched-asked :
-      (anchor : ℕ) {before after octet : ℕ} {a l : Row} → a ≡ rowAt rows anchor → l ≡ rowAt rows list
-      → before ≡ flag (someBelow anchor (vouchedBy n table rows list)) → octet ≡ getD table (anchor * n + list) 0 → octet ≡ 1
-      → after ≡ cond (vouchesOf a l) 1 before → after ≡ flag (someBelow (anchor + 1) (vouchedBy n table rows list))
-  unfolding someBelow vouchedBy verdictIn
-  vouched-asked anchor e f g h one k =
-      let yes-1 : eqb (getD table (anchor * n + list) 0) 1 ≡ true = eq-eqb _ _ (sym h ∙ one) in
-      rw (k, e, f, g, add-one anchor, yes-1) (flagged (vouchesOf (rowAt rows anchor) (rowAt rows list)) (someBelow anchor (vouchedBy n table rows list)))
-
-  -- another is passed over
-  pub vouched-passed :
-      (anchor : ℕ) {before octet : ℕ} → before ≡ flag (someBelow anchor (vouchedBy n table rows list))
-      → octet ≡ getD table (anchor * n + list) 0 → (octet ≡ 1 → ⊥)
-      → before ≡ flag (someBelow (anchor + 1) (vouchedBy n table rows list))
-  unfolding someBelow vouchedBy verdictIn
-  vouched-passed anchor g h not-one =
-      let not-1 : eqb (getD table (anchor * n + list) 0) 1 ≡ false = ne-eqb _ _ (λ e. not-one (h ∙ e)) in
-      rw (add-one anchor, not-1) g
-
-  -- and one that is no usable anchor
   pub vouched-unfit :
-      (anchor : ℕ) {before standing : ℕ} → before ≡ flag (someBelow anchor (vouchedBy n table rows list))
-      → standing ≡ rowAt rows anchor .standing → (standing ≡ 1 → ⊥) → before ≡ flag (someBelow (anchor + 1) (vouchedBy n table rows list))
-  unfolding someBelow vouchedBy
-  vouched-unfit anchor g h not-one =
-      let none : vouchesOf (rowAt rows anchor) (rowAt rows list) ≡ false =
-      vouches-unfit (rowAt rows anchor) (rowAt rows list) (ne-eqb _ _ (λ e. not-one (h ∙ e))) in
-      rw (add-one anchor, none, cond-false (verdictIn n table anchor list)) g
+      (anchor : ℕ) {standing : ℕ} → standing ≡ rowAt rows anchor .standing → (standing ≡ 1 → ⊥) → vouchedBy n table rows list anchor ≡ false
+  unfolding vouchedBy
+  vouched-unfit anchor e not-one = rw (ne-eqb _ _ (λ z. not-one (e ∙ z)))
 
-  -- all anchors are asked
+  pub vouched-passed :
+      (anchor : ℕ) {standing octet : ℕ} → standing ≡ rowAt rows anchor .standing → standing ≡ 1
+      → octet ≡ getD table (anchor * n + list) 0 → (octet ≡ 1 → ⊥) → vouchedBy n table rows list anchor ≡ false
+  unfolding vouchedBy verdictIn
+  vouched-passed anchor e one f other = rw (eq-eqb _ _ (sym e ∙ one)) (ne-eqb _ _ (λ z. other (f ∙ z)))
+
+  pub vouched-none : ((i : ℕ) → i < n → vouchedBy n table rows list i ≡ false) → 0 ≡ flag (someBelow n (vouchedBy n table rows list))
+  unfolding flag
+  vouched-none e = rw (some-none n (vouchedBy n table rows list) e)
+
+  -- a CRL, and what is none
   pub counted-all :
-      {anchor vouched standing : ℕ} → anchor ≡ n → standing ≡ rowAt rows list .standing → standing ≡ 4
-      → vouched ≡ flag (someBelow anchor (vouchedBy n table rows list)) → vouched ≡ flag (countedOf n table rows list)
+      {vouched standing : ℕ} → standing ≡ rowAt rows list .standing → standing ≡ 4
+      → vouched ≡ flag (someBelow n (vouchedBy n table rows list)) → vouched ≡ flag (countedOf n table rows list)
   unfolding countedOf
-  counted-all all e four f =
+  counted-all e four f =
       let is-4 : eqb (rowAt rows list .standing) 4 ≡ true = eq-eqb _ _ (sym e ∙ four) in
-      rw is-4 (rw all at f)
+      rw is-4 f
 
   pub counted-other : {standing : ℕ} → standing ≡ rowAt rows list .standing → (standing ≡ 4 → ⊥) → 0 ≡ flag (countedOf n table rows list)
   unfolding countedOf flag
@@ -287,14 +274,24 @@ module _ (s : List ℕ) (n : ℕ) (before : List ℕ) (rows : List (List ℕ)) (
   unfolding roleIn isNear roleOf
   role-untold {own} e not-one unsigned g h = rw (ne-eqb _ _ not-one, ← e, unsigned) (h ∙ ap (roleBy own) g)
 
-module _ (moment : ℕ) (s before near : List ℕ) (rows : List (List ℕ)) (p : ℕ) where
+module _ (moment a b : ℕ) (s before near : List ℕ) (rows : List (List ℕ)) (p : ℕ) where
   pub row-fresh :
       {row : Row} {entry : IndexEntry} → freshOf (getD before p 0) (getD near p 0) ≡ true → entry ≡ entryIn s p
-      → row ≡ rowOf moment s entry → row ≡ rowIn moment s before near rows p
+      → wantedOf a b s entry ≡ true → row ≡ rowOf moment s entry → row ≡ rowIn moment a b s before near rows p
   unfolding rowIn
-  row-fresh e f h = rw (e, ← f) h
+  row-fresh e f w h =
+      let is : wantedOf a b s (entryIn s p) ≡ true = ap (wantedOf a b s) (sym f) ∙ w in
+      rw (e, is) (h ∙ ap (rowOf moment s) f)
 
-  pub row-stays : freshOf (getD before p 0) (getD near p 0) ≡ false → rowAt rows p ≡ rowIn moment s before near rows p
+  pub row-shut :
+      {entry : IndexEntry} → freshOf (getD before p 0) (getD near p 0) ≡ true → entry ≡ entryIn s p → wantedOf a b s entry ≡ false
+      → rowAt rows p ≡ rowIn moment a b s before near rows p
+  unfolding rowIn
+  row-shut e f w =
+      let is : wantedOf a b s (entryIn s p) ≡ false = ap (wantedOf a b s) (sym f) ∙ w in
+      rw (e, is)
+
+  pub row-stays : freshOf (getD before p 0) (getD near p 0) ≡ false → rowAt rows p ≡ rowIn moment a b s before near rows p
   unfolding rowIn
   row-stays e = rw e
 

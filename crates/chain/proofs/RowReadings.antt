@@ -1,5 +1,5 @@
 -- A row is that of a certificate, that of a CRL, or blank, and each says what its item passed, since a row is made by these tests.
--- A place that is not near has a blank row, whatever its item.
+-- A place that is shut has a blank row, whatever its item.
 use Prim.Native.Nat.{ℕ, _≤_}
 use mathlib.Core.Path.{_≡_, refl}
 use mathlib.Core.Bool.{Bool, true, false, cond, _&&_}
@@ -34,16 +34,16 @@ currentOf moment s e = onList (lists.judgedOf (bytesAt s e)) λ f. within (f .«
 unfoldable pub anchorOf : ℕ → List ℕ → IndexEntry → Bool
 anchorOf moment s e = eqb (e .kind) 1 && (eqb (e .flags) 1 && validOf moment s e)
 
-pub data Reading (moment : ℕ) (s : List ℕ) (e : IndexEntry) (near : Bool) (row : Row) : Type 0 where
+pub data Reading (moment : ℕ) (s : List ℕ) (e : IndexEntry) (there : Bool) (row : Row) : Type 0 where
   certificate :
-      (f : certificates.Fields) → near ≡ true → judgedOf (bytesAt s e) (e .kind) ≡ Passed f → validOf moment s e ≡ true → 1 ≤ e .kind → e .kind ≤ 3
-      → (e .kind ≡ 1 → e .flags ≡ 1) → row ≡ certificateTold e f → Reading moment s e near row
+      (f : certificates.Fields) → there ≡ true → judgedOf (bytesAt s e) (e .kind) ≡ Passed f → validOf moment s e ≡ true → 1 ≤ e .kind → e .kind ≤ 3
+      → (e .kind ≡ 1 → e .flags ≡ 1) → row ≡ certificateTold e f → Reading moment s e there row
   list :
-      (f : crls.Fields) → e .kind ≡ 4 → lists.judgedOf (bytesAt s e) ≡ list-judged.Passed f → currentOf moment s e ≡ true
-      → row ≡ listTold e f → Reading moment s e near row
+      (f : crls.Fields) → there ≡ true → e .kind ≡ 4 → lists.judgedOf (bytesAt s e) ≡ list-judged.Passed f → currentOf moment s e ≡ true
+      → row ≡ listTold e f → Reading moment s e there row
   neither :
-      anchorOf moment s e ≡ false → ((k : ℕ) → 2 ≤ k → k ≤ 3 → (near && (eqb (e .kind) k && validOf moment s e)) ≡ false)
-      → (eqb (e .kind) 4 && currentOf moment s e) ≡ false → row ≡ blank → Reading moment s e near row
+      (there && anchorOf moment s e) ≡ false → ((k : ℕ) → 2 ≤ k → k ≤ 3 → (there && (eqb (e .kind) k && validOf moment s e)) ≡ false)
+      → (there && (eqb (e .kind) 4 && currentOf moment s e)) ≡ false → row ≡ blank → Reading moment s e there row
 
 -- only the roles 1 to 3 pass
 role-bounds : (bytes : List ℕ) (k : ℕ) (f : certificates.Fields) → judgedOf bytes k ≡ Passed f → (1 ≤ k) × (k ≤ 3)
@@ -93,7 +93,7 @@ module _ (moment : ℕ) (s : List ℕ) (e : IndexEntry) where
       go :
           (b : Bool) → within (f .«this_update») (f .«next_update») moment ≡ b
           → Reading moment s e true (cond b (listTold e f) blank)
-      go true w = list f four j (rw (j, w)) refl
+      go true w = list f refl four j (rw (j, w)) refl
       go false w = stale (rw (j, w)) four
 
   -- a disabled anchor
@@ -118,7 +118,6 @@ module _ (moment : ℕ) (s : List ℕ) (e : IndexEntry) where
       go false four true one false on = disabled (eqb-true (e .kind) 1 one) on
       go false four false one c on = on-certificate _ refl four (λ k. absurd (eqb-false (e .kind) 1 one k))
 
-  -- neither an anchor nor a CRL, and not opened
-  pub unopened : eqb (e .kind) 1 ≡ false → eqb (e .kind) 4 ≡ false → Reading moment s e false blank
-  unfolding anchorOf
-  unopened one four = neither (rw one) (λ k l h. refl) (rw four) refl
+  -- what is shut
+  pub unopened : Reading moment s e false blank
+  unopened = neither refl (λ k l h. refl) refl refl

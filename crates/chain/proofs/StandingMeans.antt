@@ -27,56 +27,56 @@ with-one : (a b : Bool) → b ≡ true → a ≡ (a && b)
 with-one true b t = sym t
 with-one false b t = refl
 
-module _ {moment : ℕ} {s : List ℕ} {e : IndexEntry} {near : Bool} {row : Row} where
-  -- standing 1 is a usable anchor
-  pub standing-anchor : Reading moment s e near row → eqb (row .standing) 1 ≡ anchorOf moment s e
+module _ {moment : ℕ} {s : List ℕ} {e : IndexEntry} {there : Bool} {row : Row} where
+  -- standing 1 is a usable anchor that is opened
+  pub standing-anchor : Reading moment s e there row → eqb (row .standing) 1 ≡ (there && anchorOf moment s e)
   unfolding anchorOf blank
   standing-anchor (certificate f n j v lo hi on h) =
-      rw h
+      rw (h, n)
       (with-true (eqb (e .kind) 1) (eqb (e .flags) 1) (validOf moment s e)
       (λ k. eq-eqb (e .flags) 1 (on (eqb-true (e .kind) 1 k))) v)
-  standing-anchor (list f four j v h) = rw (h, four)
+  standing-anchor (list f n four j v h) = rw (h, four) (sym (and-false there))
   standing-anchor (neither a b c h) = rw h (sym a)
 
-  -- standings 2 and 3 are those kinds, near, passing and within their times
+  -- standings 2 and 3 are those kinds, opened, passing and within their times
   pub standing-signed :
-      Reading moment s e near row → (k : ℕ) → 2 ≤ k → k ≤ 3 → eqb (row .standing) k ≡ (near && (eqb (e .kind) k && validOf moment s e))
+      Reading moment s e there row → (k : ℕ) → 2 ≤ k → k ≤ 3 → eqb (row .standing) k ≡ (there && (eqb (e .kind) k && validOf moment s e))
   unfolding blank
   standing-signed (certificate f n j v lo hi on h) k l m = rw (h, n) (with-one (eqb (e .kind) k) (validOf moment s e) v)
-  standing-signed (list f four j v h) k l m =
+  standing-signed (list f n four j v h) k l m =
       let other : eqb 4 k ≡ false = ne-eqb 4 k (λ z. omega arith) in
-      rw (h, four, other) (sym (and-false near))
+      rw (h, four, other) (sym (and-false there))
   standing-signed (neither a b c h) k l m =
       let other : eqb 0 k ≡ false = ne-eqb 0 k (λ z. omega arith) in
       rw (h, other) (sym (b k l m))
 
-  -- standing 4 is a CRL, passing and within its times
-  pub standing-list : Reading moment s e near row → eqb (row .standing) 4 ≡ (eqb (e .kind) 4 && currentOf moment s e)
+  -- standing 4 is a CRL, opened, passing and within its times
+  pub standing-list : Reading moment s e there row → eqb (row .standing) 4 ≡ (there && (eqb (e .kind) 4 && currentOf moment s e))
   unfolding blank
   standing-list (certificate f n j v lo hi on h) =
       let other : eqb (e .kind) 4 ≡ false = ne-eqb (e .kind) 4 (λ z. omega arith) in
-      rw (h, other)
-  standing-list (list f four j v h) = rw (h, v, four)
+      rw (h, other) (sym (and-false there))
+  standing-list (list f n four j v h) = rw (h, n, v, four)
   standing-list (neither a b c h) = rw h (sym c)
 
   -- the row of a certificate
   pub certificate-row :
-      Reading moment s e near row → 1 ≤ row .standing → row .standing ≤ 3
+      Reading moment s e there row → 1 ≤ row .standing → row .standing ≤ 3
       → (f : certificates.Fields) × (judgedOf (bytesAt s e) (e .kind) ≡ Passed f) × (row ≡ certificateTold e f)
   unfolding blank
   certificate-row (certificate f n j v lo hi on h) l m = (f, j, h)
-  certificate-row (list f four j v h) l m =
+  certificate-row (list f n four j v h) l m =
       absurd (let z : row .standing ≡ 4 = ap (λ (r : Row). r .standing) h in omega arith)
   certificate-row (neither a b c h) l m =
       absurd (let z : row .standing ≡ 0 = ap (λ (r : Row). r .standing) h in omega arith)
 
   -- the row of a CRL
   pub list-row :
-      Reading moment s e near row → row .standing ≡ 4
+      Reading moment s e there row → row .standing ≡ 4
       → (f : crls.Fields) × (lists.judgedOf (bytesAt s e) ≡ list-judged.Passed f) × (row ≡ listTold e f)
   unfolding blank
   list-row (certificate f n j v lo hi on h) l =
       absurd (let z : row .standing ≡ e .kind = ap (λ (r : Row). r .standing) h in omega arith)
-  list-row (list f four j v h) l = (f, j, h)
+  list-row (list f n four j v h) l = (f, j, h)
   list-row (neither a b c h) l =
       absurd (let z : row .standing ≡ 0 = ap (λ (r : Row). r .standing) h in omega arith)

@@ -12,11 +12,11 @@ use Rattle.graph.specs.Chains.{Graph, Onward, ends, goes, Chain, chain}
 use Rattle.graph.specs.Answer.{Answered, found, none}
 use Rattle.chain.proofs.Booleans.{second, both-true}
 
--- the same places and anchors, of the links and signers those that are near, and the same steps from an anchor or a link to a
--- link or a signer
+-- the same places, of the anchors, links and signers those that are near, and the same steps from an anchor or a link to a link or a
+-- signer
 pub record Part (near : ℕ → Bool) (g h : Graph) : Type 0 where
   pub places : g .places ≡ h .places
-  pub anchor : (u : ℕ) → u < g .places → g .anchor u ≡ h .anchor u
+  pub anchor : (u : ℕ) → u < g .places → g .anchor u ≡ (near u && h .anchor u)
   pub link : (u : ℕ) → u < g .places → g .link u ≡ (near u && h .link u)
   pub signer : (u : ℕ) → u < g .places → g .signer u ≡ (near u && h .signer u)
   pub step :
@@ -27,10 +27,11 @@ pub data AllNear (near : ℕ → Bool) : List ℕ → Type 0 where
   done : AllNear near []
   more : {v : ℕ} {rest : List ℕ} → near v ≡ true → AllNear near rest → AllNear near (v ∷ rest)
 
--- each way on to the target is near, or a chain is found that is no longer than it
+-- each way from an anchor on to the target is near, or a chain is found that is no longer than it
 abbrev pub NearOrLonger : (ℕ → Bool) → Graph → ℕ → Found → Type 0
 NearOrLonger near h t r =
-    (u : ℕ) (c : List ℕ) → Onward h t u c → AllNear near c ⊎ ((r .length ≡ 0 → ⊥) × (r .length ≤ length c))
+    (u : ℕ) (c : List ℕ) → u < h .places → h .anchor u ≡ true → Onward h t u c
+    → AllNear near (u ∷ c) ⊎ ((r .length ≡ 0 → ⊥) × (r .length ≤ length c))
 
 module _ {near : ℕ → Bool} {g h : Graph} (a : Part near g h) {t : ℕ} where
   outward : {u : ℕ} {c : List ℕ} → u < g .places → (g .anchor u ≡ true) ⊎ (g .link u ≡ true) → Onward g t u c → Onward h t u c
@@ -44,7 +45,7 @@ module _ {near : ℕ → Bool} {g h : Graph} (a : Part near g h) {t : ℕ} where
   -- a chain of what is near is one of the whole
   pub chain-out : {c : List ℕ} → Chain g t c → Chain h t c
   chain-out (chain {u = u} l anchor rest) =
-      chain {u = u} (omega (arith, a .places)) (sym (a .anchor u l) ∙ anchor) (outward l (inl anchor) rest)
+      chain {u = u} (omega (arith, a .places)) (second (near u) (h .anchor u) (sym (a .anchor u l) ∙ anchor)) (outward l (inl anchor) rest)
 
   inward :
       {u : ℕ} {c : List ℕ} → u < g .places → (g .anchor u ≡ true) ⊎ (g .link u ≡ true) → AllNear near c → Onward h t u c
@@ -63,9 +64,13 @@ module _ {near : ℕ → Bool} {g h : Graph} (a : Part near g h) {t : ℕ} where
       (r : Found) {d : List ℕ} → NearOrLonger near h t r → Chain h t d
       → Chain g t d ⊎ ((r .length ≡ 0 → ⊥) × (r .length < length d))
   chain-in r ways (chain {u = u} {rest = c} l anchor rest) =
-      let here : u < g .places = omega (arith, a .places) in
-      let is : g .anchor u ≡ true = a .anchor u here ∙ anchor in
-      ⊎-elim (λ n. inl (chain {u = u} here is (inward here (inl is) n rest))) (λ k. inr (k .0, omega (arith, k .1))) (ways u c rest)
+      ⊎-elim (λ n. inl (within n)) (λ k. inr (k .0, omega (arith, k .1))) (ways u c l anchor rest)
+    where
+      within : AllNear near (u ∷ c) → Chain g t (u ∷ c)
+      within (more n others) =
+          let here : u < g .places = omega (arith, a .places) in
+          let is : g .anchor u ≡ true = a .anchor u here ∙ both-true (near u) (h .anchor u) n anchor in
+          chain {u = u} here is (inward here (inl is) others rest)
 
   pub answer-out : {r : Found} → NearOrLonger near h t r → Answered g t r → Answered h t r
   answer-out {r} ways (found c b l p) =

@@ -4,5 +4,6 @@ pub mod Steps
 pub mod Table
 pub mod Near
 pub mod Rows
+pub mod Home
 pub mod Answer
 pub mod Demand

@@ -20,10 +20,9 @@ use Rattle.graph.specs.Chains.{graphOf}
 use Rattle.graph.specs.declared.Found.{Found}
 use Rattle.graph.specs.Answer.{Answered}
 use Rattle.image.specs.declared.IndexEntry.{IndexEntry}
-use Rattle.image.specs.Index.{entryIn}
 use Rattle.chain.specs.declared.opened.Row.{Row}
 use Rattle.chain.specs.Items.{someBelow, within}
-use Rattle.chain.specs.Near.{isNear, ledOf, freshOf}
+use Rattle.chain.specs.Near.{isNear, ledOf}
 use Rattle.chain.specs.Table.{verdictIn}
 
 -- a row from its numbers, in the order of its fields; numbers that are left out are 0
@@ -92,26 +91,13 @@ rowOf moment s e =
 unfoldable pub rowAt : List (List ℕ) → ℕ → Row
 rowAt rows place = rowFrom (getD rows place [])
 
--- the row of a place that was not near before, any other as it was
-unfoldable pub rowIn : ℕ → List ℕ → List ℕ → List ℕ → List (List ℕ) → ℕ → Row
-rowIn moment s before near rows p =
-    cond (freshOf (getD before p 0) (getD near p 0)) (rowOf moment s (entryIn s p)) (rowAt rows p)
-
-abbrev pub Opens : ℕ → List ℕ → ℕ → List ℕ → List ℕ → List (List ℕ) → List (List ℕ) → Type 0
-Opens moment s n before near rows more = (p : ℕ) → p < n → rowAt more p ≡ rowIn moment s before near rows p
-
 -- 1 for what is so
 unfoldable pub flag : Bool → ℕ
 flag so = cond so 1 0
 
--- a usable anchor of a CRL's country
-unfoldable pub vouchesOf : Row → Row → Bool
-vouchesOf anchor list =
-    cond (eqb (anchor .standing) 1) (cond (eqb (anchor .first) (list .first)) (eqb (anchor .second) (list .second)) false) false
-
--- an anchor that has verdict 1 for a CRL
+-- a usable anchor that has verdict 1 for a CRL
 unfoldable pub vouchedBy : ℕ → List ℕ → List (List ℕ) → ℕ → ℕ → Bool
-vouchedBy n table rows list anchor = cond (verdictIn n table anchor list) (vouchesOf (rowAt rows anchor) (rowAt rows list)) false
+vouchedBy n table rows list anchor = cond (eqb (rowAt rows anchor .standing) 1) (verdictIn n table anchor list) false
 
 unfoldable pub countedOf : ℕ → List ℕ → List (List ℕ) → ℕ → Bool
 countedOf n table rows list = cond (eqb (rowAt rows list .standing) 4) (someBelow n (vouchedBy n table rows list)) false

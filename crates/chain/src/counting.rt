@@ -1,15 +1,13 @@
 // Which CRLs count.
-use crate::opened::Row;
-use crate::opened::row_at;
 use crate::opened::standing_at;
 use octets::octet;
 ghost use mathlib.Core.Path.{_≡_};
-ghost use mathlib.Core.Bool.{cond};
-ghost use Prim.Native.Nat.{_≤_};
+ghost use Prim.Native.Nat.{_≤_, _<_};
 ghost use lib.ListN.{getD};
-ghost use Rattle.chain.specs.Rows.{vouchesOf, Counted};
+ghost use Rattle.chain.specs.Items.{someBelow};
+ghost use Rattle.chain.specs.Rows.{flag, vouchedBy, Counted};
 
-// 1 for each CRL that some usable anchor of its country has verdict 1 for.
+// 1 for each CRL that some usable anchor has verdict 1 for, all of one country.
 pub(crate) fn counting_lists(table: &[u8], places: usize, rows: &[[usize; 17]; 96]) -> [u8; 96]
     requires { ⌜ places ≤ 96 ⌝ }
     ensures { λ r. ⌜ Counted places (now (table .entry)) (now (rows .entry)) r ⌝ }
@@ -18,43 +16,26 @@ pub(crate) fn counting_lists(table: &[u8], places: usize, rows: &[[usize; 17]; 9
     let mut list = 0;
     while list < places {
         if standing_at(rows, list) == 4 {
-            let own = row_at(rows, list);
-            let mut vouched = 0;
-            let mut anchor = 0;
-            while anchor < places {
-                if standing_at(rows, anchor) == 1 {
-                    if octet(table, anchor * places + list) == 1 {
-                        vouched = vouched_by(row_at(rows, anchor), own, vouched);
-                    }
-                }
-                anchor += 1;
-            }
-            counting[list] = vouched;
+            counting[list] = vouched(table, places, rows, list);
         }
         list += 1;
     }
     counting
 }
 
-// 1 where an anchor before or this one vouches.
-fn vouched_by(anchor: Row, list: Row, before: u8) -> u8
-    ensures { λ r. ⌜ r ≡ cond (vouchesOf anchor list) 1 before ⌝ }
+// 1 where some usable anchor has verdict 1 for the place.
+fn vouched(table: &[u8], places: usize, rows: &[[usize; 17]; 96], list: usize) -> u8
+    requires { ⌜ (places ≤ 96) × (list < places) ⌝ }
+    ensures { λ r. ⌜ r ≡ flag (someBelow places (vouchedBy places (now (table .entry)) (now (rows .entry)) list)) ⌝ }
 {
-    if vouches(anchor, list) {
-        return 1;
+    let mut anchor = 0;
+    while anchor < places {
+        if standing_at(rows, anchor) == 1 {
+            if octet(table, anchor * places + list) == 1 {
+                return 1;
+            }
+        }
+        anchor += 1;
     }
-    before
-}
-
-// A usable anchor of the CRL's country.
-fn vouches(anchor: Row, list: Row) -> bool
-    ensures { λ r. ⌜ r ≡ vouchesOf anchor list ⌝ }
-{
-    if anchor.standing != 1 {
-        return false;
-    }
-    if anchor.first != list.first {
-        return false;
-    }
-    anchor.second == list.second
+    0
 }

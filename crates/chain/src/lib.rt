@@ -3,6 +3,7 @@ mod anchors;
 mod asking;
 mod certificates;
 mod counting;
+mod countries;
 mod lists;
 mod matching;
 mod near;

@@ -7,22 +7,23 @@ use crate::near::LAST;
 use crate::near::near_first;
 use crate::near::near_next;
 use crate::near::unchanged;
+use crate::opening::open_item;
 use crate::opening::open_items;
 use crate::roles::roles_of;
 use graph::Found;
 use graph::chain_to;
 use graph::no_chain;
+use image::entry_in;
 ghost use mathlib.Core.Path.{_≡_};
 ghost use mathlib.Core.Bool.{true};
 ghost use Prim.Native.Nat.{_≤_, _<_};
+ghost use lib.ListN.{getD};
 ghost use Rattle.chain.specs.Answer.{goodChains};
-ghost use Rattle.chain.specs.Rows.{Searched, enoughOf};
+ghost use Rattle.chain.specs.Rows.{rowFrom, rowOf, Searched, enoughOf};
 ghost use Rattle.graph.specs.Answer as search;
-ghost use Rattle.image.specs.Index.{entryCount};
+ghost use Rattle.image.specs.Index.{entryCount, entryIn};
 
-// Round 0 opens anchors, CRLs and the target, and each round goes a link further back from the target. So a round knows all
-// good chains of at most two places more than its number, and the last round all: a chain found that is as short is the best.
-// In round 0 these are the steps from an anchor to the target. Where no round could open more, all good chains are known too.
+// The target is opened first: where it cannot stand in a chain there is none.
 pub(crate) fn chain_among(
     image: &[u8],
     table: &[u8],
@@ -30,13 +31,48 @@ pub(crate) fn chain_among(
     moment: u64,
     target: usize,
 ) -> Found
-    requires { ⌜ (places ≡ entryCount (now image)) × (places ≤ 96) × (target < places) ⌝ }
+    requires { ⌜ (places ≡ entryCount (now image)) × (places ≤ 96) × (target < places) × (entryIn (now image) target .kind ≡ 3) ⌝ }
+    ensures { λ r. ⌜ search.Answered (goodChains (now (image .entry)) (now (table .entry)) moment) target r ⌝ }
+{
+    let signer = open_item(image, entry_in(image, target), moment);
+    if signer[0] == 0 {
+        return no_chain();
+    }
+    chain_home(image, table, places, moment, target, signer)
+}
+
+// Round 0 opens the anchors and CRLs of the target's country, and each round goes a link further back from the target. So a round
+// knows all good chains of at most two places more than its number, and the last round all: a chain found that is as short is the
+// best. In round 0 these are the steps from an anchor to the target. Where no round could open more, all good chains are known too.
+fn chain_home(
+    image: &[u8],
+    table: &[u8],
+    places: usize,
+    moment: u64,
+    target: usize,
+    signer: [usize; 17],
+) -> Found
+    requires { ⌜ (places ≡ entryCount (now image)) × (places ≤ 96) × (target < places) × (entryIn (now image) target .kind ≡ 3) × (rowFrom signer ≡ rowOf moment (now image) (entryIn (now image) target)) × (getD signer 0 0 ≡ 0 → ⊥) ⌝ }
     ensures { λ r. ⌜ search.Answered (goodChains (now (image .entry)) (now (table .entry)) moment) target r ⌝ }
 {
     let nothing = [0u8; 96];
+    let first = signer[1];
+    let second = signer[2];
     let mut rows = [[0usize; 17]; 96];
+    rows[target] = signer;
+    let mut opened = [0u8; 96];
+    opened[target] = 1;
     let mut near = near_first(image, places, target);
-    open_items(image, places, moment, nothing, near, &mut rows);
+    open_items(
+        image,
+        places,
+        moment,
+        first,
+        second,
+        opened,
+        near,
+        &mut rows,
+    );
     let counting = counting_lists(table, places, &rows);
     let mut roles = roles_of(image, places, nothing, &rows, counting, nothing);
     if roles[target] != 3 {
@@ -54,7 +90,7 @@ pub(crate) fn chain_among(
         if unchanged(places, near, wider) {
             return searched(image, table, places, &rows, roles, target);
         }
-        open_items(image, places, moment, near, wider, &mut rows);
+        open_items(image, places, moment, first, second, near, wider, &mut rows);
         let known = roles_of(image, places, near, &rows, counting, roles);
         if worthwhile(image, table, places, round, &rows, known) {
             let found = searched(image, table, places, &rows, known, target);

@@ -5,6 +5,7 @@ use mathlib.Core.List.{List, [], _∷_}
 use mathlib.Core.Path.{_≡_, sym, _∙_}
 use Rattle.refusal.specs.declared.Refusal.the-variants.{Profile}
 use Rattle.elements.specs.declared.elements.Element.{Element}
+use Rattle.extensions.specs.Extensions.{extensionsShaped}
 use Rattle.refusal.specs.Rules.{firstBroken}
 use Rattle.refusal.proofs.Order as order
 use Rattle.crl.specs.declared.entries.Survey.{Survey}
@@ -16,7 +17,7 @@ use Rattle.crl.specs.declared.shapes.Shape.{Shape}
 use Rattle.crl.specs.declared.shapes.Shape.the-variants.{Parts, Broken}
 use Rattle.crl.specs.declared.Judged.{Judged}
 use Rattle.crl.specs.declared.Judged.the-variants.{Refused}
-use Rattle.crl.specs.Shape.{onFront, onSurvey}
+use Rattle.crl.specs.Shape.{onFront, onSurvey, onParts, partsOf, layoutOf}
 use Rattle.crl.specs.Answer.{onShape}
 
 module _ {f : Front} (next : Element → Element → Element → Element → Element → Shape) where
@@ -36,6 +37,20 @@ module _ {f : Survey} (next : ℕ → Bool → Bool → Shape) where
   pub survey-there : {count : ℕ} {times quiet : Bool} {r : Shape} → f ≡ survey.Entries count times quiet → r ≡ next count times quiet → r ≡ onSurvey f next
   unfolding onSurvey
   survey-there h g = rw h g
+
+module _ (s : List ℕ) where
+  pub laid-none : partsOf s ≡ Broken → layoutOf s ≡ Broken
+  unfolding layoutOf onParts
+  laid-none h = rw h
+
+  module _ {l : Layout} (h : partsOf s ≡ Parts l) where
+    pub laid-bad : extensionsShaped s (l .extensions) ≡ false → layoutOf s ≡ Broken
+    unfolding layoutOf onParts
+    laid-bad g = rw (h, g)
+
+    pub laid-good : extensionsShaped s (l .extensions) ≡ true → layoutOf s ≡ Parts l
+    unfolding layoutOf onParts
+    laid-good g = rw (h, g)
 
 module _ {f : Shape} (next : Layout → Judged) where
   pub shape-missing : f ≡ Broken → Refused (Profile 1) ≡ onShape f next

@@ -1,11 +1,12 @@
--- What the fast path for a UTCTime tells: digits in their ranges are a time.
+-- What the fast path for a time tells: digits in their ranges are a time.
 use Prim.Native.Nat.{ℕ, zero, suc, _+_, _*_, _-_, _/_, _%_, _<_, _≤_}
 use mathlib.Core.Bool.{true, false}
 use mathlib.Core.List.{List, [], _∷_}
+use mathlib.Core.Logic.{_⊎_, ⊎-elim}
 use mathlib.Core.Path.{_≡_, refl, ap, ap₂, sym, _∙_}
 use native.Mathlib.Omega.{arith}
-use borrow.Author.Tests.{eq-eqb, eqb-true, eqb-false, ltb-true, ltb-false}
-use lib.Dec.{eqb, ltb}
+use borrow.Author.Tests.{eq-eqb, eqb-true, eqb-false, ltb-true, ltb-false, leb-true, leb-false}
+use lib.Dec.{eqb, ltb, leb}
 use lib.Bits.{bitAnd}
 use lib.ListN.{length, getD, take, drop}
 use lib.Seq.{getD-take, getD-drop}
@@ -14,12 +15,12 @@ use Rattle.times.specs.declared.Time.the-variants.{Moment}
 use Rattle.times.specs.Pairs.{Digit, Pair}
 use Rattle.times.specs.Times.{figures, realNumber, inCentury, zulu, timeIn}
 use Rattle.times.proofs.Moments.{one-real}
-use Rattle.times.proofs.Years.{short-read, in-two-thousands, in-nineteen-hundreds, ten-left}
+use Rattle.times.proofs.Years.{short-read, long-read, in-two-thousands, in-nineteen-hundreds, late-enough, ten-left}
 use Rattle.calendar.specs.Days.{leap, monthLength}
-use Rattle.calendar.proofs.Days.{by-test, length-two, length-rule, february-leap, february-common}
+use Rattle.calendar.proofs.Days.{by-test, length-two, length-rule, length-none, february-leap, february-common}
 use Rattle.crl.specs.Entries.{isTime}
-use Rattle.crl.specs.FastTimes.{valueOf, UsualDate}
-use Rattle.crl.proofs.Words.{word, Each, ands, upper, below, plus, word-plus, each, word-most, takeOff, word-off, pairsOf, word-pairs, word-tail, word-third, word-fifth}
+use Rattle.crl.specs.FastTimes.{valueOf, UsualDate, UsualClock, UsualTime, Later}
+use Rattle.crl.proofs.Words.{word, Each, ands, upper, below, plus, word-plus, word-most, takeOff, word-off, word-pairs, word-tail, word-third, word-fifth, word-seventh}
 
 pub never : {A : Type 0} → false ≡ true → A
 never e = absurd (let z : _≡_ {A = ℕ} 0 1 = cc in omega arith)
@@ -93,6 +94,11 @@ module _ (v0 v1 v2 v3 v4 v5 v6 v7 : ℕ) (few : Each (λ o. o ≤ 99) (eight v0 
       let (w0, (w1, (w2, (w3, (w4, (w5, (w6, (w7, end)))))))) = few in
       word-fifth v0 v1 v2 v3 v4 _ (omega (arith, w0)) (omega (arith, w1)) (omega (arith, w2)) (omega (arith, w3)) (omega (arith, w4))
 
+  pub seventh : word (eight v0 v1 v2 v3 v4 v5 v6 v7) / 0x1000000000000 % 256 ≡ v6
+  seventh =
+      let (w0, (w1, (w2, (w3, (w4, (w5, (w6, (w7, end)))))))) = few in
+      word-seventh v0 v1 v2 v3 v4 v5 v6 _ (omega (arith, w0)) (omega (arith, w1)) (omega (arith, w2)) (omega (arith, w3)) (omega (arith, w4)) (omega (arith, w5)) (omega (arith, w6))
+
 -- digits and the pairs that are made of them
 module _ (a b c d e f g h : ℕ) (ds : Each Digit (eight a b c d e f g h)) where
   abbrev pairs : List ℕ
@@ -115,19 +121,54 @@ pos : (n : ℕ) → (n ≡ 0 → ⊥) → 1 ≤ n
 pos zero h = absurd (h refl)
 pos (suc n) h = omega arith
 
+month-least : (y m : ℕ) → 1 ≤ m → m ≤ 12 → 28 ≤ monthLength y m
+month-least y m low high =
+    by-test (eqb m 2)
+    (λ g. by-test (leap y) (λ e. omega (arith, length-two y m (eqb-true m 2 g), february-leap y e)) (λ e. omega (arith, length-two y m (eqb-true m 2 g), february-common y e)))
+    (λ g. omega (arith, length-rule y m low high (eqb-false m 2 g)))
+
+-- year 1 is no leap year, so another has no fewer days
+common-least : (y m : ℕ) → 1 ≤ m → m ≤ 12 → monthLength 1 m ≤ monthLength y m
+unfolding leap
+common-least y m low high =
+    by-test (eqb m 2)
+    (λ g. omega (arith, month-least y m low high, length-two 1 m (eqb-true m 2 g), february-common 1 refl))
+    (λ g. omega (arith, length-rule y m low high (eqb-false m 2 g), length-rule 1 m low high (eqb-false m 2 g)))
+
+-- month, day and hour in their ranges
+abbrev Ranged : ℕ → ℕ → ℕ → Type 0
+Ranged month day hour = (month ≤ 12) × (day ≤ monthLength 1 month) × (hour ≤ 23)
+
+-- by the bits, with a day to 28, or each by itself
+by-bits : {month day hour : ℕ} → 1 ≤ month → (month ≤ 12) × (day ≤ 28) × (hour ≤ 23) → Ranged month day hour
+by-bits {month} low (m, d, h) = (m, omega (arith, d, month-least 1 month low m), h)
+
+by-length : {month day hour : ℕ} → 1 ≤ day → (day ≤ monthLength 1 month) × (hour ≤ 23) → Ranged month day hour
+by-length {month} low (d, h) =
+    by-test (leb month 12) (λ g. (leb-true month 12 g, d, h)) (λ g. absurd (omega (arith, low, d, length-none 1 month (leb-false month 12 g))))
+
+-- what is tested of the pairs: the bits, or each by itself
+abbrev pub HeldTo : ℕ → Type 0
+HeldTo p =
+    (bitAnd (p + 0x0068006300730000) 0x0080008000800080 ≡ 0)
+    ⊎ ((p / 0x100000000 % 256 ≤ monthLength 1 (p / 0x10000 % 256)) × (p / 0x1000000000000 % 256 ≤ 23))
+
 abbrev pub dateOf : List ℕ → List ℕ
 dateOf c = eight (getD c 0 0) (getD c 1 0) (getD c 2 0) (getD c 3 0) (getD c 4 0) (getD c 5 0) (getD c 6 0) (getD c 7 0)
 
 module _
     (c : List ℕ) (ds : Each Digit (dateOf c)) (n p : ℕ) (is : n ≡ word (dateOf c))
     (made-so : p ≡ (n - 0x3030303030303030) * 10 + (n - 0x3030303030303030) / 256) where
-  pub usual-date : bitAnd (p + 0x0068006300730000) 0x0080008000800080 ≡ 0 → (p / 0x10000 % 256 ≡ 0 → ⊥) → (p / 0x100000000 % 256 ≡ 0 → ⊥) → UsualDate c
-  usual-date bits month day =
+  pub usual-date : HeldTo p → (p / 0x10000 % 256 ≡ 0 → ⊥) → (p / 0x100000000 % 256 ≡ 0 → ⊥) → UsualDate c
+  usual-date held month day =
       let few = pairs-few _ _ _ _ _ _ _ _ ds in
       let word-is = made-so ∙ pairs-made _ _ _ _ _ _ _ _ ds n is in
-      let (mo, d, h) = ranged _ _ _ _ _ _ _ _ few (rw word-is at bits) in
       let third-is = ap (λ (k : ℕ). k / 0x10000 % 256) word-is ∙ third _ _ _ _ _ _ _ _ few in
       let fifth-is = ap (λ (k : ℕ). k / 0x100000000 % 256) word-is ∙ fifth _ _ _ _ _ _ _ _ few in
+      let seventh-is = ap (λ (k : ℕ). k / 0x1000000000000 % 256) word-is ∙ seventh _ _ _ _ _ _ _ _ few in
+      let month-low = pos _ (λ z. month (third-is ∙ z)) in
+      let day-low = pos _ (λ z. day (fifth-is ∙ z)) in
+      let (mo, d, h) = ⊎-elim (λ bits. by-bits month-low (ranged _ _ _ _ _ _ _ _ few (rw word-is at bits))) (λ late. by-length day-low (rw (third-is, fifth-is, seventh-is) at late)) held in
       let (a1, (b1, (c1, (d1, (e1, (f1, (g1, (h1, end)))))))) = ds in
       record {
         year-tens = a1;
@@ -138,9 +179,9 @@ module _
         day-ones = f1;
         hour-tens = g1;
         hour-ones = h1;
-        month-low = pos _ (λ z. month (third-is ∙ z));
+        month-low = month-low;
         month-high = mo;
-        day-low = pos _ (λ z. day (fifth-is ∙ z));
+        day-low = day-low;
         day-high = d;
         hour-high = h;
       }
@@ -165,17 +206,8 @@ module _
 
     pub date-told : {p : ℕ} → bitAnd (x + y * 0x100000000 + 0x0606060606060606) 0xf0f0f0f0f0f0f0f0 ≡ 0x3030303030303030
         → p ≡ (x + y * 0x100000000 - 0x3030303030303030) * 10 + (x + y * 0x100000000 - 0x3030303030303030) / 256
-        → bitAnd (p + 0x0068006300730000) 0x0080008000800080 ≡ 0 → (p / 0x10000 % 256 ≡ 0 → ⊥) → (p / 0x100000000 % 256 ≡ 0 → ⊥) → UsualDate c
+        → HeldTo p → (p / 0x10000 % 256 ≡ 0 → ⊥) → (p / 0x100000000 % 256 ≡ 0 → ⊥) → UsualDate c
     date-told more p-is = usual-date c (digits _ _ _ _ _ _ _ _ date-uppers (rw date-is at more)) _ _ date-is p-is
-
--- minute and second
-pub record UsualClock (c : List ℕ) : Type 0 where
-  pub minute-tens : Digit (getD c 8 0)
-  pub minute-ones : Digit (getD c 9 0)
-  pub second-tens : Digit (getD c 10 0)
-  pub second-ones : Digit (getD c 11 0)
-  pub minute-high : valueOf (getD c 8 0) (getD c 9 0) ≤ 59
-  pub second-high : valueOf (getD c 10 0) (getD c 11 0) ≤ 59
 
 -- the four octets of minute and second
 abbrev pub clockOf : List ℕ → List ℕ
@@ -206,12 +238,6 @@ module _ (c : List ℕ) (u : Each Upper (clockOf c)) where
         second-high = omega (arith, c2 .1, d2 .1);
       }
 
-month-least : (y m : ℕ) → 1 ≤ m → m ≤ 12 → 28 ≤ monthLength y m
-month-least y m low high =
-    by-test (eqb m 2)
-    (λ g. by-test (leap y) (λ e. omega (arith, length-two y m (eqb-true m 2 g), february-leap y e)) (λ e. omega (arith, length-two y m (eqb-true m 2 g), february-common y e)))
-    (λ g. omega (arith, length-rule y m low high (eqb-false m 2 g)))
-
 pair-told : (a b : ℕ) → Digit a → Digit b → Pair a b (valueOf a b)
 pair-told a b da db = record { tens = λ h. da; ones = λ h. db; value = λ x y. refl }
 
@@ -219,47 +245,97 @@ real-time : {t : Time} {m : ℕ} → Moment m ≡ t → isTime t ≡ true
 unfolding isTime
 real-time e = rw (← e) refl
 
--- all of it together
-module _ (c : List ℕ) (long : length c ≡ 13) (date : UsualDate c) (clock : UsualClock c) where
-  abbrev ten : List ℕ
-  ten = take 10 (drop 2 c)
-
-  at-ten : (i : ℕ) → i < 10 → getD ten i 0 ≡ getD c (2 + i) 0
-  at-ten i h = getD-take 10 (drop 2 c) i 0 h ∙ getD-drop 2 c i 0
-
+-- ten digits after a year
+module _
+    {c : List ℕ} (u : UsualTime c) (ten : List ℕ) (long : length ten ≡ 10)
+    (at-ten : (i : ℕ) → i < 10 → getD ten i 0 ≡ getD c (2 + i) 0) where
   told : (i j : ℕ) → i < 10 → j < 10 → Digit (getD c (2 + i) 0) → Digit (getD c (2 + j) 0) → Pair (getD ten i 0) (getD ten j 0) (valueOf (getD c (2 + i) 0) (getD c (2 + j) 0))
   told i j hi hj di dj = rw (at-ten i hi, at-ten j hj) (pair-told _ _ di dj)
 
   any-year : (year : ℕ) → year ≤ 9999 → isTime (realNumber (figures year ten)) ≡ true
   any-year year few =
+      let date = u .date in
+      let clock = u .clock in
       real-time
-      (one-real year ten (ten-left c 2 (omega arith))
+      (one-real year ten long
       (told 0 1 (omega arith) (omega arith) (date .month-tens) (date .month-ones))
       (told 2 3 (omega arith) (omega arith) (date .day-tens) (date .day-ones))
       (told 4 5 (omega arith) (omega arith) (date .hour-tens) (date .hour-ones))
       (told 6 7 (omega arith) (omega arith) (clock .minute-tens) (clock .minute-ones))
       (told 8 9 (omega arith) (omega arith) (clock .second-tens) (clock .second-ones))
       few (date .month-high) (date .day-low)
-      (omega (arith, date .day-high, month-least year _ (date .month-low) (date .month-high)))
+      (omega (arith, date .day-high, common-least year _ (date .month-low) (date .month-high)))
       (date .hour-high) (clock .minute-high) (clock .second-high))
+
+-- a UTCTime
+module _ (c : List ℕ) (long : length c ≡ 13) (u : UsualTime c) where
+  abbrev ten : List ℕ
+  ten = take 10 (drop 2 c)
+
+  ten-is : (year : ℕ) → year ≤ 9999 → isTime (realNumber (figures year ten)) ≡ true
+  ten-is = any-year u ten (ten-left c 2 (omega arith)) (λ i h. getD-take 10 (drop 2 c) i 0 h ∙ getD-drop 2 c i 0)
 
   year : ℕ
   year = valueOf (getD c 0 0) (getD c 1 0)
 
   year-few : year ≤ 99
   unfolding year
-  year-few = omega (arith, date .year-tens .high, date .year-ones .high)
+  year-few = omega (arith, u .date .year-tens .high, u .date .year-ones .high)
 
   in-century : isTime (inCentury (figures year ten)) ≡ true
   in-century =
       by-test (ltb year 50)
-      (λ e. rw (← in-two-thousands ten (ten-left c 2 (omega arith)) year (ltb-true _ _ e)) (any-year (2000 + year) (omega (arith, year-few))))
-      (λ e. rw (← in-nineteen-hundreds ten (ten-left c 2 (omega arith)) year (ltb-false _ _ e)) (any-year (1900 + year) (omega (arith, year-few))))
+      (λ e. rw (← in-two-thousands ten (ten-left c 2 (omega arith)) year (ltb-true _ _ e)) (ten-is (2000 + year) (omega (arith, year-few))))
+      (λ e. rw (← in-nineteen-hundreds ten (ten-left c 2 (omega arith)) year (ltb-false _ _ e)) (ten-is (1900 + year) (omega (arith, year-few))))
 
-  pub utc-time : getD c 12 0 ≡ 90 → isTime (timeIn 0x17 c) ≡ true
+  pub utc-time : isTime (timeIn 0x17 c) ≡ true
   unfolding timeIn zulu year
-  utc-time last =
-      simp (eq-eqb _ _ long, eq-eqb _ _ last, short-read c (omega arith) (pair-told _ _ (date .year-tens) (date .year-ones)) year-few) in-century
+  utc-time =
+      simp (eq-eqb _ _ long, eq-eqb _ _ (u .last), short-read c (omega arith) (pair-told _ _ (u .date .year-tens) (u .date .year-ones)) year-few) in-century
+
+-- a GeneralizedTime, which has a century before the octets of a UTCTime
+module _ (c : List ℕ) (long : length c ≡ 15) (l : Later (getD c 0 0) (getD c 1 0) (getD c 2 0)) (u : UsualTime (take 13 (drop 2 c))) where
+  abbrev rest : List ℕ
+  rest = take 13 (drop 2 c)
+
+  abbrev last-ten : List ℕ
+  last-ten = take 10 (drop 4 c)
+
+  at-rest : (i : ℕ) → i < 13 → getD rest i 0 ≡ getD c (2 + i) 0
+  at-rest i h = getD-take 13 (drop 2 c) i 0 h ∙ getD-drop 2 c i 0
+
+  at-last : (i : ℕ) → i < 10 → getD last-ten i 0 ≡ getD rest (2 + i) 0
+  at-last i h =
+      let next : 4 + i ≡ 2 + (2 + i) = omega arith in
+      getD-take 10 (drop 4 c) i 0 h ∙ getD-drop 4 c i 0 ∙ ap (λ (k : ℕ). getD c k 0) next ∙ sym (at-rest (2 + i) (omega (arith, h)))
+
+  tens : Digit (getD c 2 0)
+  tens = rw (at-rest 0 (omega arith)) at (u .date .year-tens)
+
+  ones : Digit (getD c 3 0)
+  ones = rw (at-rest 1 (omega arith)) at (u .date .year-ones)
+
+  zulu-last : getD c 14 0 ≡ 90
+  zulu-last = sym (at-rest 12 (omega arith)) ∙ u .last
+
+  full : ℕ
+  full = valueOf (getD c 0 0) (getD c 1 0) * 100 + valueOf (getD c 2 0) (getD c 3 0)
+
+  full-few : full ≤ 9999
+  unfolding full
+  full-few = omega (arith, l .first .high, l .second .high, tens .high, ones .high)
+
+  full-late : 2050 ≤ full
+  unfolding full
+  full-late = omega (arith, l .from)
+
+  pub full-time : isTime (timeIn 0x18 c) ≡ true
+  unfolding timeIn zulu full
+  full-time =
+      let century-few : valueOf (getD c 0 0) (getD c 1 0) ≤ 99 = omega (arith, l .first .high, l .second .high) in
+      let rest-few : valueOf (getD c 2 0) (getD c 3 0) ≤ 99 = omega (arith, tens .high, ones .high) in
+      simp (eq-eqb _ _ long, eq-eqb _ _ zulu-last, long-read c (omega arith) (pair-told _ _ (l .first) (l .second)) century-few (pair-told _ _ tens ones) rest-few)
+      (rw (← late-enough last-ten (ten-left c 4 (omega arith)) full full-late) (any-year u last-ten (ten-left c 4 (omega arith)) at-last full full-few))
 
 -- the clock
 module _

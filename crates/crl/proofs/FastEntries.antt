@@ -5,9 +5,9 @@ use mathlib.Core.Bool.{true, false}
 use mathlib.Core.List.{List}
 use mathlib.Core.Path.{_≡_, refl, ap, sym, _∙_}
 use native.Mathlib.Omega.{arith}
-use borrow.Author.Tests.{eq-eqb, leb-true}
+use borrow.Author.Tests.{eq-eqb, ne-eqb, leb-true}
 use lib.Dec.{leb}
-use lib.ListN.{length, getD, take, drop, length-drop}
+use lib.ListN.{length, getD, drop, length-drop}
 use lib.Seq.{length-take-le, getD-take, getD-drop}
 use Rattle.der.specs.Heading.{identifierGood}
 use Rattle.elements.specs.declared.elements.Element.{Element}
@@ -19,9 +19,10 @@ use Rattle.octets.proofs.Likeness.{unequal-unlike, unlike-length}
 use Rattle.elements.proofs.Members.{tag-kept, found-within, members-more}
 use Rattle.elements.proofs.Shorts.{brief, short-there, short-told, short-found, short-within}
 use Rattle.times.specs.Times.{timeAt, timeTag}
-use Rattle.crl.specs.Entries.{entryOf}
+use Rattle.crl.specs.declared.entries.Entry.the-variants.{Bare, Extended}
+use Rattle.crl.specs.Entries.{entryOf, extended, shaped, timely, calm}
 use Rattle.crl.specs.Listed.{lists, someLists}
-use Rattle.crl.specs.FastEntries.{utcAt, Opening, Usual, Another}
+use Rattle.crl.specs.FastEntries.{stampAt, Mild, Opening, Usual, Another}
 
 -- an element with a header of two octets that stands at `at` and ends at r
 pub record Short (s : List ℕ) (at end tag r : ℕ) : Type 0 where
@@ -79,38 +80,54 @@ module _ {s : List ℕ} {at end : ℕ} {serial : List ℕ} {r : ℕ} (a : Anothe
   pub farther : end - r < end - at
   farther = omega (arith, a .ends, found-within s at end (a .found))
 
-utc-found : (s : List ℕ) (time : ℕ) → time + 15 ≤ length s → getD s time 0 ≡ 0x17 → getD s (time + 1) 0 ≡ 13
-    → foundAt s time (time + 15) ≡ One (utcAt time)
-unfolding identifierGood
-utc-found s time room tag size =
-    let end-is : time + 2 + getD s (time + 1) 0 ≡ time + 15 = omega (arith, size) in
-    let is = short-there s time (time + 15) 0x17 room (omega arith) tag (omega (arith, size)) (omega (arith, size)) in
-    short-found s time (time + 15) 0x17 refl (omega arith) (sym end-is ∙ is)
+-- a serial and a time: the whole of the entry, or followed by extensions of which none is critical
+module _
+    {s : List ℕ} {at end next time : ℕ} {t : Element}
+    (entry : Short s at end 0x30 next)
+    (first : Short s (at + 2) next 0x02 time)
+    (found : foundAt s time next ≡ One t)
+    (tag : timeTag (t .tag) ≡ true)
+    (long : next ≡ at + 2 + getD s (at + 1) 0) where
+  bare : t .end ≡ next → entryOf s (brief 0x30 at next) ≡ Bare (brief 0x02 (at + 2) time) t
+  unfolding entryOf foundTagged timeAt onFound
+  bare ends = simp (tag-kept 0x02 (first .found) refl, found, tag, eq-eqb (t .end) next ends)
 
--- a serial and a UTCTime that ends with the entry are the whole of it
-module _ {s : List ℕ} {at end time : ℕ} (tag : getD s time 0 ≡ 0x17) (size : getD s (time + 1) 0 ≡ 13) where
-  usual-at : Short s at end 0x30 (time + 15) → Short s (at + 2) (time + 15) 0x02 time → Usual s at end time
-  unfolding entryOf foundTagged timeAt timeTag onFound
-  usual-at entry first =
-      let room : time + 15 ≤ length s = omega (arith, entry .inside, entry .high) in
-      record {
-        room = room;
-        entry = record { tag = 0x30; at = at; contents = at + 2; end = time + 15 };
-        found = entry .found;
-        ends = refl;
-        serial = record { tag = 0x02; at = at + 2; contents = at + 2 + 2; end = time };
-        bare = simp (tag-kept 0x02 (first .found) refl, utc-found s time room tag size, eq-eqb (time + 15) (time + 15) refl);
-      }
+  milder : Mild s (t .end) next → entryOf s (brief 0x30 at next) ≡ Extended (brief 0x02 (at + 2) time) t false
+  unfolding entryOf extended foundTagged timeAt onFound
+  milder m =
+      let more : t .end ≡ next → ⊥ = λ e. omega (arith, m .low, e) in
+      simp (tag-kept 0x02 (first .found) refl, found, tag, ne-eqb (t .end) next more, tag-kept 0x30 (m .found) refl, eq-eqb next next refl, m .fit, m .calm)
 
-  pub usual : {next : ℕ} → next ≡ time + 15 → Short s at end 0x30 next → Short s (at + 2) next 0x02 time → Usual s at end time
-  usual long entry first = usual-at (rw long at entry) (rw long at first)
+  room : t .end ≤ length s
+  room = omega (arith, found-within s time next found)
+
+  pub bare-usual : t .end ≡ next → Usual s at end t
+  unfolding shaped timely calm
+  bare-usual e =
+      record { room = room; entry = brief 0x30 at next; found = entry .found; ends = long; fit = rw (bare e); timed = rw (bare e); calmed = rw (bare e) }
+
+  pub mild-usual : Mild s (t .end) next → Usual s at end t
+  unfolding shaped timely calm
+  mild-usual m =
+      record { room = room; entry = brief 0x30 at next; found = entry .found; ends = long; fit = rw (milder m); timed = rw (milder m); calmed = rw (milder m) }
+
+-- an element by the octets of its header
+module _ (s : List ℕ) (from end tag size r : ℕ) (few : size < 128) (is : r ≡ from + 2 + size) (fits : r ≤ end) (inside : end ≤ length s) where
+  pub header-end : getD s from 0 ≡ tag → getD s (from + 1) 0 ≡ size → r ≡ shortEnd s from end tag
+  header-end first second =
+      is
+      ∙ ap (λ (n : ℕ). from + 2 + n) (sym second)
+      ∙ short-there s from end tag inside (omega (arith, is, fits)) first (omega (arith, second, few)) (omega (arith, second, is, fits))
+
+  pub header-found : identifierGood tag ≡ true → getD s from 0 ≡ tag → getD s (from + 1) 0 ≡ size → foundAt s from end ≡ One (brief tag from r)
+  header-found good first second = short tag good (header-end first second) (omega (arith, is)) .found
 
 own-size : (at n : ℕ) → at + 4 + n - at - 4 ≡ n
 own-size at n = omega arith
 
 -- tag and length in one number
-pub header-told : {a b r : ℕ} → a < 256 → r ≡ ((0 * 256 + 0) * 256 + b) * 256 + a → r ≡ 0x0d17 → (a ≡ 0x17) × (b ≡ 13)
-header-told h e f = (omega arith, omega arith)
+pub header-told : {a b p q r k : ℕ} → a < 256 → p < 256 → r ≡ ((0 * 256 + 0) * 256 + b) * 256 + a → k ≡ ((0 * 256 + 0) * 256 + q) * 256 + p → r ≡ k → (a ≡ p) × (b ≡ q)
+header-told h g e f is = (omega arith, omega arith)
 
 pub left-told : (size at end : ℕ) → at + 4 ≤ end → leb size (end - at - 2) ≡ true → at + 2 + size ≤ end
 left-told size at end h e = omega (arith, h, leb-true size (end - at - 2) e)
@@ -131,10 +148,24 @@ module _ {s : List ℕ} {at end : ℕ} (o : Opening s at end) where
       (omega (arith, three, h, o .brief)) (omega (arith, three, h)))
       (omega arith)
 
-  -- with the UTCTime after the serial, which ends with the entry
-  pub opened-usual : getD s (at + 1) 0 ≡ getD s (at + 3) 0 + 17 → getD s (at + 4 + getD s (at + 3) 0) 0 ≡ 0x17 → getD s (at + 4 + getD s (at + 3) 0 + 1) 0 ≡ 13
-      → Usual s at end (at + 4 + getD s (at + 3) 0)
-  opened-usual long tag size = usual tag size (omega (arith, long)) opened (serial-first (omega (arith, long)))
+  -- with the time after the serial, which ends with the entry or stands before extensions
+  module _
+      {tag octets : ℕ} (timed : timeTag tag ≡ true) (good : identifierGood tag ≡ true) (few : octets < 128)
+      (first : getD s (at + 4 + getD s (at + 3) 0) 0 ≡ tag)
+      (second : getD s (at + 4 + getD s (at + 3) 0 + 1) 0 ≡ octets) where
+    stamp : at + 4 + getD s (at + 3) 0 + 2 + octets ≤ at + 2 + getD s (at + 1) 0
+        → foundAt s (at + 4 + getD s (at + 3) 0) (at + 2 + getD s (at + 1) 0) ≡ One (stampAt tag octets (at + 4 + getD s (at + 3) 0))
+    stamp h =
+        let inside : at + 2 + getD s (at + 1) 0 ≤ length s = omega (arith, o .fits, o .inside) in
+        header-found s (at + 4 + getD s (at + 3) 0) (at + 2 + getD s (at + 1) 0) tag octets (at + 4 + getD s (at + 3) 0 + 2 + octets) few refl h inside good first second
+
+    pub opened-bare : getD s (at + 1) 0 ≡ getD s (at + 3) 0 + 2 + (octets + 2) → Usual s at end (stampAt tag octets (at + 4 + getD s (at + 3) 0))
+    opened-bare long = bare-usual opened (serial-first (omega (arith, long))) (stamp (omega (arith, long))) timed refl (omega (arith, long))
+
+    pub opened-mild : Mild s (at + 4 + getD s (at + 3) 0 + (octets + 2)) (at + 2 + getD s (at + 1) 0) → Usual s at end (stampAt tag octets (at + 4 + getD s (at + 3) 0))
+    opened-mild m =
+        let from : at + 4 + getD s (at + 3) 0 + (octets + 2) ≡ at + 4 + getD s (at + 3) 0 + 2 + octets = omega arith in
+        mild-usual opened (serial-first (omega (arith, m .low))) (stamp (omega (arith, m .low))) timed refl (rw from at m)
 
   -- with another serial
   module _ (room : getD s (at + 3) 0 + 2 ≤ getD s (at + 1) 0) {serial : List ℕ} where

@@ -1,8 +1,10 @@
 pub mod Chains
 pub mod Surveys
+pub mod OwnExtensions
 pub mod Firsts
 pub mod Serials
 pub mod FastEntries
+pub mod ReasonCodes
 pub mod Words
 pub mod Digits
 pub mod Theorems

@@ -1,20 +1,20 @@
 -- The entries that are left, with what was found of those before them, come to what all of them come to.
 use Prim.Native.Nat.{ℕ, zero, suc, _+_, _-_, _<_, _≤_}
-use mathlib.Core.Bool.{Bool, true, false, cond, _&&_, not, and-true, and-assoc}
+use mathlib.Core.Bool.{Bool, true, false, cond, _&&_, and-true, and-assoc}
 use mathlib.Core.List.{List, [], _∷_}
-use mathlib.Core.Path.{_≡_, refl, ap, sym, _∙_}
+use mathlib.Core.Path.{_≡_, ap, sym, _∙_}
 use native.Mathlib.Omega.{arith}
-use lib.ListN.{length}
+use lib.ListN.{length, getD}
 use Rattle.elements.specs.declared.elements.Element.{Element}
 use Rattle.elements.specs.declared.elements.Found.{Found}
 use Rattle.elements.specs.declared.elements.Found.the-variants.{One, Missing}
 use Rattle.elements.specs.Elements.{foundAt, onFound, membersIn, membersOf}
 use Rattle.times.specs.Times.{timeOf}
 use Rattle.elements.proofs.Members.{found-within, members-none, members-more}
-use Rattle.crl.specs.declared.entries.Entry.the-variants.{Bare, Extended, Misshapen}
 use Rattle.crl.specs.declared.entries.Survey.{Survey}
 use Rattle.crl.specs.declared.entries.Survey.the-variants.{Entries, Shapeless}
-use Rattle.crl.specs.FastEntries.{utcAt, Usual}
+use Rattle.crl.specs.declared.entries.Taken.{Taken}
+use Rattle.crl.specs.FastEntries.{Usual, TakenAs}
 use Rattle.crl.specs.Entries.{entryOf, shaped, isTime, timely, calm, allShaped, allTimely, allCalm, surveyOf}
 
 -- there are no more members than octets
@@ -56,8 +56,8 @@ module _ (s : List ℕ) (count : ℕ) (times quiet : Bool) (at end : ℕ) where
       rw (members-none s at end h, none, and-true times, and-true quiet)
 
   module _ {e : Element} (h : foundAt s at end ≡ One e) where
-    pub survey-bad : entryOf s e ≡ Misshapen → surveyWith s count times quiet (membersOf s at end) ≡ Shapeless
-    unfolding surveyWith allShaped shaped
+    pub survey-bad : shaped (entryOf s e) ≡ false → surveyWith s count times quiet (membersOf s at end) ≡ Shapeless
+    unfolding surveyWith allShaped
     survey-bad g = rw (members-more s at end h, g)
 
     pub survey-on : {times' quiet' : Bool} → Adds s e times quiet times' quiet' → surveyWith s count times quiet (membersOf s at end) ≡ surveyWith s (count + 1) times' quiet' (membersOf s (e .end) end)
@@ -74,23 +74,37 @@ falls false h g = g
 pub stays : (mark : Bool) {good mark' : Bool} → good ≡ true → mark' ≡ mark → mark' ≡ (mark && good)
 stays mark h g = rw (g, h, and-true mark)
 
-module _ {s : List ℕ} {e serial time : Element} {times quiet times' quiet' : Bool} where
-  pub bare-adds : entryOf s e ≡ Bare serial time → times' ≡ (times && isTime (timeOf s time)) → quiet' ≡ quiet → Adds s e times quiet times' quiet'
-  unfolding shaped timely calm
-  bare-adds h t q = record { fit = rw h; timed = rw (h, t); calmed = rw (h, q, and-true quiet) }
-
-  pub extended-adds : {marked : Bool} → entryOf s e ≡ Extended serial time marked → times' ≡ (times && isTime (timeOf s time)) → quiet' ≡ (quiet && not marked) → Adds s e times quiet times' quiet'
-  unfolding shaped timely calm
-  extended-adds h t q = record { fit = rw h; timed = rw (h, t); calmed = rw (h, q) }
-
 -- a usual entry adds its time
-module _ {s : List ℕ} {at end r : ℕ} (u : Usual s at end r) where
-  pub usual-more : length (membersOf s at end) ≡ suc (length (membersOf s (r + 15) end))
+module _ {s : List ℕ} {at end : ℕ} {time : Element} (u : Usual s at end time) where
+  pub usual-within : at + 2 + getD s (at + 1) 0 ≤ length s
+  usual-within = omega (arith, u .ends, found-within s at end (u .found))
+
+  pub usual-more : length (membersOf s at end) ≡ suc (length (membersOf s (at + 2 + getD s (at + 1) 0) end))
   usual-more = rw (u .ends) at (ap length (members-more s at end (u .found)))
 
-  pub usual-less : end - (r + 15) < end - at
+  pub usual-less : end - (at + 2 + getD s (at + 1) 0) < end - at
   usual-less = omega (arith, u .ends, found-within s at end (u .found))
 
-  pub usual-on : (count : ℕ) (times quiet : Bool) {times' : Bool} → times' ≡ (times && isTime (timeOf s (utcAt r)))
-      → surveyWith s count times quiet (membersOf s at end) ≡ surveyWith s (count + 1) times' quiet (membersOf s (r + 15) end)
-  usual-on count times quiet t = rw (u .ends) at (survey-on s count times quiet at end (u .found) (bare-adds (u .bare) t refl))
+  pub usual-on : (count : ℕ) (times quiet : Bool) {times' : Bool} → times' ≡ (times && isTime (timeOf s time))
+      → surveyWith s count times quiet (membersOf s at end) ≡ surveyWith s (count + 1) times' quiet (membersOf s (at + 2 + getD s (at + 1) 0) end)
+  usual-on count times quiet {times'} t =
+      let adds : Adds s (u .entry) times quiet times' quiet = record { fit = u .fit; timed = rw (u .timed) t; calmed = rw (u .calmed, and-true quiet) } in
+      rw (u .ends) at (survey-on s count times quiet at end (u .found) adds)
+
+-- and so does any other
+module _ {s : List ℕ} {at end : ℕ} {t : Taken} (k : TakenAs s at end t) where
+  pub taken-more : length (membersOf s at end) ≡ suc (length (membersOf s (t .next) end))
+  taken-more = rw (k .ends) at (ap length (members-more s at end (k .found)))
+
+  pub taken-less : end - t .next < end - at
+  taken-less = omega (arith, k .ends, found-within s at end (k .found))
+
+  pub taken-bad : (count : ℕ) (times quiet : Bool) → t .shaped ≡ false → surveyWith s count times quiet (membersOf s at end) ≡ Shapeless
+  taken-bad count times quiet bad = survey-bad s count times quiet at end (k .found) (sym (k .fit) ∙ bad)
+
+  pub taken-on : (count : ℕ) (times quiet : Bool) → t .shaped ≡ true
+      → surveyWith s count times quiet (membersOf s at end) ≡ surveyWith s (count + 1) (times && t .timely) (quiet && t .calm) (membersOf s (t .next) end)
+  taken-on count times quiet good =
+      let adds : Adds s (k .entry) times quiet (times && t .timely) (quiet && t .calm) =
+      record { fit = sym (k .fit) ∙ good; timed = ap (λ (b : Bool). times && b) (k .timed); calmed = ap (λ (b : Bool). quiet && b) (k .calmed) } in
+      rw (k .ends) at (survey-on s count times quiet at end (k .found) adds)

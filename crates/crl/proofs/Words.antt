@@ -2,7 +2,7 @@
 use Prim.Native.Nat.{ℕ, _+_, _*_, _-_, _/_, _%_, _<_, _≤_}
 use mathlib.Core.Bool.{Bool, true, _&&_, and-eq-true-iff}
 use mathlib.Core.List.{List, [], _∷_}
-use mathlib.Core.Path.{_≡_, refl, sym, _∙_}
+use mathlib.Core.Path.{_≡_, sym, _∙_}
 use native.Mathlib.Nat.{mod-eq-of-lt}
 use native.Mathlib.Omega.{arith}
 use borrow.Author.Tests.{leb-true}
@@ -29,7 +29,7 @@ Ands (o ∷ os) [] es = Unit
 Ands (o ∷ os) (b ∷ bs) [] = Unit
 Ands (o ∷ os) (b ∷ bs) (e ∷ es) = (bitAnd o b ≡ e) × Ands os bs es
 
-apart : (x y e t : ℕ) → y < 256 → t < 256 → x * 256 + y ≡ e * 256 + t → (y ≡ t) × (x ≡ e)
+pub apart : (x y e t : ℕ) → y < 256 → t < 256 → x * 256 + y ≡ e * 256 + t → (y ≡ t) × (x ≡ e)
 apart x y e t few less is = (omega arith, omega arith)
 
 and-apart : (a b e r s t : ℕ) → r < 256 → s < 256 → t < 256 → bitAnd (a * 256 + r) (b * 256 + s) ≡ e * 256 + t → (bitAnd r s ≡ t) × (bitAnd a b ≡ e)
@@ -107,7 +107,7 @@ pub word-tail : (t : ℕ) (us : List ℕ) → t < 256 → word (t ∷ us) / 256 
 unfolding word
 word-tail t us h = omega arith
 
--- the third octet and the fifth
+-- the third octet, the fifth and the seventh
 pub word-third : (a b o : ℕ) (os : List ℕ) → a < 256 → b < 256 → o < 256 → word (a ∷ b ∷ o ∷ os) / 0x10000 % 256 ≡ o
 unfolding word
 word-third a b o os ha hb ho = omega arith
@@ -115,3 +115,8 @@ word-third a b o os ha hb ho = omega arith
 pub word-fifth : (a b c d o : ℕ) (os : List ℕ) → a < 256 → b < 256 → c < 256 → d < 256 → o < 256 → word (a ∷ b ∷ c ∷ d ∷ o ∷ os) / 0x100000000 % 256 ≡ o
 unfolding word
 word-fifth a b c d o os ha hb hc hd ho = omega arith
+
+pub word-seventh : (a b c d e f o : ℕ) (os : List ℕ) → a < 256 → b < 256 → c < 256 → d < 256 → e < 256 → f < 256 → o < 256
+    → word (a ∷ b ∷ c ∷ d ∷ e ∷ f ∷ o ∷ os) / 0x1000000000000 % 256 ≡ o
+unfolding word
+word-seventh a b c d e f o os ha hb hc hd he hf ho = omega arith

@@ -1,19 +1,21 @@
--- What the fast path tells of an entry. No public promise cites this.
+-- What is told of an entry, by the fast path and by the other. No public promise cites this.
 use Prim.Native.Nat.{ℕ, _+_, _-_, _<_, _≤_}
-use mathlib.Core.Bool.{false}
+use mathlib.Core.Bool.{true, false}
 use mathlib.Core.List.{List}
 use mathlib.Core.Path.{_≡_}
 use lib.ListN.{length, getD}
 use Rattle.elements.specs.declared.elements.Element.{Element}
-use Rattle.elements.specs.declared.elements.Found.the-variants.{One}
+use Rattle.elements.specs.declared.elements.Found.the-variants.{One, Missing}
 use Rattle.elements.specs.Elements.{foundAt, membersOf}
-use Rattle.crl.specs.declared.entries.Entry.the-variants.{Bare}
-use Rattle.crl.specs.Entries.{entryOf}
+use Rattle.extensions.specs.Extensions.{extensionsShaped, criticalOf}
+use Rattle.times.specs.Times.{timeOf}
+use Rattle.crl.specs.declared.entries.Taken.{Taken}
+use Rattle.crl.specs.Entries.{entryOf, shaped, isTime, timely, calm}
 use Rattle.crl.specs.Listed.{lists, someLists}
 
--- the UTCTime of 13 octets at an offset
-abbrev pub utcAt : ℕ → Element
-utcAt at = record { tag = 0x17; at = at; contents = at + 2; end = at + 15 }
+-- the time at an offset that has that tag and so many octets, and a length in the short form
+abbrev pub stampAt : ℕ → ℕ → ℕ → Element
+stampAt tag octets at = record { tag = tag; at = at; contents = at + 2; end = at + 2 + octets }
 
 -- a SEQUENCE with a length in the short form stands at `at`, and an INTEGER opens it
 pub record Opening (s : List ℕ) (at end : ℕ) : Type 0 where
@@ -24,14 +26,47 @@ pub record Opening (s : List ℕ) (at end : ℕ) : Type 0 where
   pub brief : getD s (at + 1) 0 < 128
   pub fits : at + 2 + getD s (at + 1) 0 ≤ end
 
--- the entry that stands at `at` is a serial and such a UTCTime, at r
-pub record Usual (s : List ℕ) (at end r : ℕ) : Type 0 where
-  pub room : r + 15 ≤ length s
+-- the SEQUENCE with a length in the short form from one offset to another
+abbrev pub sequenceAt : ℕ → ℕ → Element
+sequenceAt from end = record { tag = 0x30; at = from; contents = from + 2; end = end }
+
+-- such a SEQUENCE stands there, and holds extensions none of which is critical
+pub record Mild (s : List ℕ) (from end : ℕ) : Type 0 where
+  pub low : from + 2 ≤ end
+  pub found : foundAt s from end ≡ One (sequenceAt from end)
+  pub fit : extensionsShaped s (sequenceAt from end) ≡ true
+  pub calm : criticalOf s (sequenceAt from end) false ≡ false
+
+-- the headers of a list of one extension, of the OID 2.5.29.21, and of its OID and value
+pub record Reason (c : List ℕ) : Type 0 where
+  pub list : (getD c 0 0 ≡ 0x30) × (getD c 1 0 ≡ 12)
+  pub extension : (getD c 2 0 ≡ 0x30) × (getD c 3 0 ≡ 10)
+  pub oid : (getD c 4 0 ≡ 0x06) × (getD c 5 0 ≡ 3)
+  pub value : (getD c 9 0 ≡ 0x04) × (getD c 10 0 ≡ 3)
+
+-- the entry that stands at `at`, with a length in the short form, has such a time, and no critical extension
+pub record Usual (s : List ℕ) (at end : ℕ) (time : Element) : Type 0 where
+  pub room : time .end ≤ length s
   pub entry : Element
   pub found : foundAt s at end ≡ One entry
-  pub ends : entry .end ≡ r + 15
-  pub serial : Element
-  pub bare : entryOf s entry ≡ Bare serial (utcAt r)
+  pub ends : entry .end ≡ at + 2 + getD s (at + 1) 0
+  pub fit : shaped (entryOf s entry) ≡ true
+  pub timed : timely s (entryOf s entry) ≡ isTime (timeOf s time)
+  pub calmed : calm (entryOf s entry) ≡ true
+
+-- an element stands at `at`, and this is what is to be said of it as an entry
+pub record TakenAs (s : List ℕ) (at end : ℕ) (t : Taken) : Type 0 where
+  pub entry : Element
+  pub found : foundAt s at end ≡ One entry
+  pub ends : entry .end ≡ t .next
+  pub fit : t .shaped ≡ shaped (entryOf s entry)
+  pub timed : t .timely ≡ timely s (entryOf s entry)
+  pub calmed : t .calm ≡ calm (entryOf s entry)
+
+-- what is taken at `at`: an element, or none
+pub record Takes (s : List ℕ) (at end : ℕ) (t : Taken) : Type 0 where
+  pub some : t .found ≡ true → TakenAs s at end t
+  pub none : t .found ≡ false → foundAt s at end ≡ Missing
 
 -- the entry that stands at `at` ends at r, and has another serial
 pub record Another (s : List ℕ) (at end : ℕ) (serial : List ℕ) (r : ℕ) : Type 0 where

@@ -1,9 +1,11 @@
 pub mod Entries
 pub mod Shape
 pub mod Rules
+pub mod Own
 pub mod Answer
 pub mod Listed
 pub mod FastEntries
 pub mod FastTimes
 pub mod Age
 pub mod Meets
+pub mod Country

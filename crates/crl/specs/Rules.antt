@@ -6,6 +6,7 @@ use lib.Dec.{eqb}
 use Rattle.names.specs.declared.Letters.{Letters}
 use Rattle.names.specs.declared.Letters.the-variants.{Two, Unfit}
 use Rattle.octets.specs.Alike.{alike}
+use Rattle.elements.specs.declared.elements.Element.{Element}
 use Rattle.elements.specs.Elements.{wholeOf, contentsOf}
 use Rattle.extensions.specs.Extensions.{lookupOf, present, doubledOf, criticalOf}
 use Rattle.names.specs.Names.{lettersOf}
@@ -42,12 +43,17 @@ rule5 l r = inOrder (r .current) (r .coming) && l .timely
 unfoldable pub rule6 : Layout → Bool
 rule6 l = not (l .listing .there && eqb (l .count) 0)
 
--- 7: no OID twice, authorityKeyIdentifier (2.5.29.35) and cRLNumber (2.5.29.20) there
+-- authorityKeyIdentifier (2.5.29.35) is there
+unfoldable pub keyThere : List ℕ → Element → Bool
+keyThere s extensions = present (lookupOf s extensions (0x55 ∷ 0x1D ∷ 0x23 ∷ []))
+
+-- cRLNumber (2.5.29.20) is there
+unfoldable pub numberThere : List ℕ → Element → Bool
+numberThere s extensions = present (lookupOf s extensions (0x55 ∷ 0x1D ∷ 0x14 ∷ []))
+
+-- 7: no OID twice, authorityKeyIdentifier and cRLNumber there
 unfoldable pub rule7 : List ℕ → Layout → Bool
-rule7 s l =
-    not (doubledOf s (l .extensions))
-    && (present (lookupOf s (l .extensions) (0x55 ∷ 0x1D ∷ 0x23 ∷ []))
-    && present (lookupOf s (l .extensions) (0x55 ∷ 0x1D ∷ 0x14 ∷ [])))
+rule7 s l = not (doubledOf s (l .extensions)) && (keyThere s (l .extensions) && numberThere s (l .extensions))
 
 -- 8: nothing critical, in entries either
 unfoldable pub rule8 : List ℕ → Layout → Bool

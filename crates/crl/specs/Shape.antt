@@ -17,6 +17,7 @@ use Rattle.crl.specs.declared.entries.Survey.{Survey}
 use Rattle.crl.specs.declared.entries.Survey.the-variants as survey
 use Rattle.crl.specs.declared.shapes.Front.{Front}
 use Rattle.crl.specs.declared.shapes.Front.the-variants.{Opens, Frontless}
+use Rattle.crl.specs.declared.shapes.Layout.{Layout}
 use Rattle.crl.specs.declared.shapes.Listing.{Listing}
 use Rattle.crl.specs.declared.shapes.Shape.{Shape}
 use Rattle.crl.specs.declared.shapes.Shape.the-variants.{Parts, Broken}
@@ -41,21 +42,22 @@ frontOf s tbs =
     onFound (timeAt s (current .end) (tbs .end)) Frontless λ coming.
     Opens version inner issuer current coming
 
--- the last: A0 around one SEQUENCE of extensions
+-- the last: A0 around one SEQUENCE
 unfoldable pub lastOf : List ℕ → ℕ → ℕ → Found
 lastOf s from end =
-    onFound (foundTagged s from end 0xA0) Missing λ last.
-    cond (eqb (last .end) end)
-    (onFound (onlyOf s last 0x30) Missing λ extensions. cond (extensionsShaped s extensions) (One extensions) Missing)
-    Missing
+    onFound (foundTagged s from end 0xA0) Missing λ last. cond (eqb (last .end) end) (onlyOf s last 0x30) Missing
 
 unfoldable pub onFront : Front → (Element → Element → Element → Element → Element → Shape) → Shape
 onFront Frontless next = Broken
 onFront (Opens version inner issuer current coming) next = next version inner issuer current coming
 
+unfoldable pub onParts : Shape → (Layout → Shape) → Shape
+onParts Broken next = Broken
+onParts (Parts l) next = next l
+
 -- SEQUENCE of tbs, algorithm, BIT STRING; between the first members and the last an entry list may stand
-unfoldable pub layoutOf : List ℕ → Shape
-layoutOf s =
+unfoldable pub partsOf : List ℕ → Shape
+partsOf s =
     onEnvelope (envelopeOf s) Broken λ tbs outer.
     onFront (frontOf s tbs) λ version inner issuer current coming.
     onName (nameOf s issuer) Broken λ country.
@@ -76,3 +78,7 @@ layoutOf s =
       timely = timely;
       calm = calm;
     })
+
+-- rule 1: these parts, and extensions of their shape
+unfoldable pub layoutOf : List ℕ → Shape
+layoutOf s = onParts (partsOf s) λ l. cond (extensionsShaped s (l .extensions)) (Parts l) Broken

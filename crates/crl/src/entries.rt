@@ -1,21 +1,17 @@
 // Entries of a CRL, and what the rules ask of all of them, found in one pass.
-use crate::fast::four;
-use crate::fast::usual_utc;
+use crate::stamps::is_full;
+use crate::stamps::is_time;
+use crate::stamps::is_utc;
+use crate::usual::usual_time;
 use elements::Element;
 use elements::Found;
 use elements::element_at;
 use elements::element_tagged;
 use extensions::outline_of;
-use times::Time;
 use times::time_at;
-use times::time_of;
 ghost use mathlib.Core.Path.{_≡_};
-ghost use mathlib.Core.Bool.{true};
-ghost use Prim.Native.Nat.{_+_, _≤_, _<_};
-ghost use lib.ListN.{length};
-ghost use Rattle.crl.specs.Entries.{isTime, entryOf, surveyOf};
-ghost use Rattle.crl.specs.FastEntries.{utcAt, Usual, Opening};
-ghost use Rattle.times.specs.Times.{timeOf};
+ghost use Rattle.crl.specs.Entries.{entryOf, surveyOf};
+ghost use Rattle.crl.specs.FastEntries.{Takes};
 
 // An entry's serial and time, and whether one of its extensions is critical, where it has any.
 pub enum Entry {
@@ -41,6 +37,7 @@ pub enum Survey {
     Shapeless,
 }
 
+// Most entries are taken by the fast path, with a UTCTime or a GeneralizedTime.
 pub(crate) fn survey_of(item: &[u8], from: usize, end: usize) -> Survey
     ensures { λ r. ⌜ r ≡ surveyOf (now (item .entry)) from end ⌝ }
 {
@@ -49,90 +46,89 @@ pub(crate) fn survey_of(item: &[u8], from: usize, end: usize) -> Survey
     let mut calm = true;
     let mut at = from;
     loop {
-        let time = usual_time(item, at, end);
-        if 0 < time {
-            if !is_utc(item, time) {
+        let utc = usual_time(item, at, end, 0x17, 13);
+        if 0 < utc {
+            if !is_utc(item, utc) {
                 timely = false;
             }
             count += 1;
-            at = time + 15;
+            at = at + 2 + item[at + 1] as usize;
             continue;
         }
-        let Found::One(e) = element_at(item, at, end) else {
+        let full = usual_time(item, at, end, 0x18, 15);
+        if 0 < full {
+            timely = timely & is_full(item, full);
+            count += 1;
+            at = at + 2 + item[at + 1] as usize;
+            continue;
+        }
+        let taken = any_entry(item, at, end);
+        if !taken.found {
             return Survey::Entries {
                 count,
                 timely,
                 calm,
             };
-        };
-        match entry_of(item, e) {
-            Entry::Misshapen => return Survey::Shapeless,
-            Entry::Bare { serial: _, time } => {
-                if !is_time(item, time) {
-                    timely = false;
-                }
-            }
-            Entry::Extended {
-                serial: _,
-                time,
-                marked,
-            } => {
-                if !is_time(item, time) {
-                    timely = false;
-                }
-                if marked {
-                    calm = false;
-                }
-            }
         }
+        if !taken.shaped {
+            return Survey::Shapeless;
+        }
+        timely = timely & taken.timely;
+        calm = calm & taken.calm;
         count += 1;
-        at = e.end;
+        at = taken.next;
     }
 }
 
-// The offset of the time of the entry at `at` if the entry is a serial and a UTCTime of 13 octets, each length in the
-// short form; else 0.
-fn usual_time(item: &[u8], at: usize, end: usize) -> usize
-    ensures { λ r. ⌜ (0 < r → Usual (now (item .entry)) at end r) ⌝ }
-{
-    if !opens(item, at, end) {
-        return 0;
-    }
-    let size = item[at + 3] as usize;
-    if item[at + 1] as usize != size + 17 {
-        return 0;
-    }
-    let time = at + 4 + size;
-    if four(item[time], item[time + 1], 0, 0) != 0x0d17 {
-        return 0;
-    }
-    time
+// What is taken at an offset: whether there is an element, whether it is an entry, whether its time is one, whether none
+// of its extensions is critical, and the offset after it.
+pub struct Taken {
+    pub found: bool,
+    pub shaped: bool,
+    pub timely: bool,
+    pub calm: bool,
+    pub next: usize,
 }
 
-// Whether a SEQUENCE with a length in the short form stands at `at`, and an INTEGER opens it.
-pub(crate) fn opens(item: &[u8], at: usize, end: usize) -> bool
-    ensures { λ r. ⌜ (r ≡ true → Opening (now (item .entry)) at end) ⌝ }
+fn any_entry(item: &[u8], at: usize, end: usize) -> Taken
+    ensures { λ r. ⌜ Takes (now (item .entry)) at end r ⌝ }
 {
-    if item.len() < end {
-        return false;
+    let Found::One(e) = element_at(item, at, end) else {
+        return Taken {
+            found: false,
+            shaped: false,
+            timely: false,
+            calm: true,
+            next: at,
+        };
+    };
+    match entry_of(item, e) {
+        Entry::Misshapen => Taken {
+            found: true,
+            shaped: false,
+            timely: false,
+            calm: true,
+            next: e.end,
+        },
+        Entry::Bare { serial: _, time } => Taken {
+            found: true,
+            shaped: true,
+            timely: is_time(item, time),
+            calm: true,
+            next: e.end,
+        },
+        Entry::Extended {
+            serial: _,
+            time,
+            marked,
+        } => Taken {
+            found: true,
+            shaped: true,
+            timely: is_time(item, time),
+            calm: !marked,
+            next: e.end,
+        },
     }
-    if end < 4 {
-        return false;
-    }
-    if end - 4 < at {
-        return false;
-    }
-    if item[at] != 0x30 {
-        return false;
-    }
-    if item[at + 2] != 0x02 {
-        return false;
-    }
-    let size = item[at + 1] as usize;
-    if 128 <= size {
-        return false;
-    }
-    size <= end - at - 2
 }
 
 // SEQUENCE {INTEGER, time, optional SEQUENCE of extensions}.
@@ -166,32 +162,4 @@ fn entry_of(item: &[u8], e: Element) -> Entry
         };
     }
     Entry::Misshapen
-}
-
-// Whether the UTCTime of 13 octets at an offset is a time.
-fn is_utc(item: &[u8], at: usize) -> bool
-    requires { ⌜ at + 15 ≤ length (now item) ⌝ }
-    ensures { λ r. ⌜ r ≡ isTime (timeOf (now (item .entry)) (utcAt at)) ⌝ }
-{
-    let contents = at + 2;
-    let end = at + 15;
-    if usual_utc(&item[contents..end]) {
-        return true;
-    }
-    let e = Element {
-        tag: 0x17,
-        at,
-        contents,
-        end,
-    };
-    is_time(item, e)
-}
-
-fn is_time(item: &[u8], time: Element) -> bool
-    ensures { λ r. ⌜ r ≡ isTime (timeOf (now (item .entry)) time) ⌝ }
-{
-    match time_of(item, time) {
-        Time::Moment(_) => true,
-        Time::Untimely => false,
-    }
 }

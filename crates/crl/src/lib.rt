@@ -1,9 +1,14 @@
 // Whether an item is a CRL of the profile, its fields, whether it lists a serial, and its age.
+mod countries;
 mod entries;
 mod fast;
 mod listing;
+mod own;
+mod reasons;
 mod rules;
 mod shapes;
+mod stamps;
+mod usual;
 
 use calendar::Difference;
 use calendar::day_difference;
@@ -13,17 +18,19 @@ use der::walk;
 use names::first_letter;
 use names::second_letter;
 use octets::between;
+use own::own_of;
 use refusal::Refusal;
 use rules::Readings;
 use rules::readings_of;
 use rules::rules_2_to_8;
 use shapes::Layout;
 use shapes::Shape;
-use shapes::layout_of;
+use shapes::parts_of;
 use times::moment;
 ghost use mathlib.Core.Path.{_≡_};
 ghost use Rattle.crl.specs.Age.{ageOf};
 ghost use Rattle.crl.specs.Answer.{fieldsOf, profileOf, judgedOf};
+pub use countries::country;
 pub use listing::listed;
 
 // Both updates as YYYYMMDDHHMMSS, the issuer's letters, the number of entries, offset and length of the issuer with its
@@ -58,11 +65,16 @@ pub fn judge(item: &[u8]) -> Judged
 fn profile(item: &[u8]) -> Judged
     ensures { λ r. ⌜ r ≡ profileOf (now (item .entry)) ⌝ }
 {
-    let Shape::Parts(l) = layout_of(item) else {
+    let Shape::Parts(l) = parts_of(item) else {
         return Judged::Refused(Refusal::Profile { rule: 1 });
     };
+    let extensions = l.extensions;
+    let own = own_of(item, extensions);
+    if !own.shaped {
+        return Judged::Refused(Refusal::Profile { rule: 1 });
+    }
     let r = readings_of(item, l);
-    let rule = rules_2_to_8(item, l, r);
+    let rule = rules_2_to_8(item, l, r, own);
     if rule != 0 {
         return Judged::Refused(Refusal::Profile { rule });
     }

@@ -1,5 +1,5 @@
 // Whether a serial is listed.
-use crate::entries::opens;
+use crate::usual::opens;
 use elements::Element;
 use elements::Found;
 use elements::element_at;

@@ -1,21 +1,18 @@
 // Rules 2 to 8 of the CRL profile, each told by its number where it is the first that is broken.
+use crate::own::Own;
 use crate::shapes::Layout;
 use elements::holds;
 use elements::twins;
-use extensions::is_there;
-use extensions::lookup;
-use extensions::one_pass;
 use names::Letters;
 use names::letters_of;
 use times::Time;
 use times::in_order;
 use times::time_of;
 ghost use mathlib.Core.Path.{_≡_};
-ghost use mathlib.Core.Bool.{false};
 ghost use mathlib.Core.List.{List};
 ghost use Prim.Native.Nat.{ℕ};
-ghost use Rattle.extensions.specs.Extensions.{doubledOf, criticalOf};
 ghost use Rattle.refusal.specs.Rules.{firstBroken};
+ghost use Rattle.crl.specs.Own.{ownOf};
 ghost use Rattle.crl.specs.Rules.{readingsOf, rule4, rule5, rule6, rule7, rule8, rules2to8};
 
 // What several rules and the answer read, each once.
@@ -42,7 +39,8 @@ pub(crate) fn readings_of(item: &[u8], l: Layout) -> Readings
 }
 
 // The first of rules 2 to 8 that is broken, else 0.
-pub(crate) fn rules_2_to_8(item: &[u8], l: Layout, r: Readings) -> u64
+pub(crate) fn rules_2_to_8(item: &[u8], l: Layout, r: Readings, own: Own) -> u64
+    requires { ⌜ own ≡ ownOf (now item) (l .extensions) ⌝ }
     ensures { λ rule. ⌜ rule ≡ firstBroken 2 (rules2to8 (now (item .entry)) l r) ⌝ }
 {
     let version = l.version;
@@ -63,12 +61,10 @@ pub(crate) fn rules_2_to_8(item: &[u8], l: Layout, r: Readings) -> u64
     if !list_filled(l) {
         return 6;
     }
-    let extensions = l.extensions;
-    let seen = one_pass(item, extensions);
-    if !extensions_good(item, l, seen.doubled) {
+    if !extensions_good(own) {
         return 7;
     }
-    if !nothing_critical(l, seen.marked) {
+    if !nothing_critical(l, own) {
         return 8;
     }
     0
@@ -111,25 +107,23 @@ fn list_filled(l: Layout) -> bool
 }
 
 // 7: no OID twice, authorityKeyIdentifier and cRLNumber there.
-fn extensions_good(item: &[u8], l: Layout, doubled: bool) -> bool
-    requires { ⌜ doubled ≡ doubledOf (now item) (l .extensions) ⌝ }
-    ensures { λ r. ⌜ r ≡ rule7 (now (item .entry)) l ⌝ }
+fn extensions_good(own: Own) -> bool
+    ensures { λ r. ⌜ ((s : List ℕ) (l : Layout) → own ≡ ownOf s (l .extensions) → r ≡ rule7 s l) ⌝ }
 {
-    if doubled {
+    if own.doubled {
         return false;
     }
-    let extensions = l.extensions;
-    if !is_there(lookup(item, extensions, b"\x55\x1d\x23")) {
+    if !own.keyed {
         return false;
     }
-    is_there(lookup(item, extensions, b"\x55\x1d\x14"))
+    own.numbered
 }
 
 // 8: nothing critical, in entries either.
-fn nothing_critical(l: Layout, marked: bool) -> bool
-    ensures { λ r. ⌜ ((s : List ℕ) → marked ≡ criticalOf s (l .extensions) false → r ≡ rule8 s l) ⌝ }
+fn nothing_critical(l: Layout, own: Own) -> bool
+    ensures { λ r. ⌜ ((s : List ℕ) → own ≡ ownOf s (l .extensions) → r ≡ rule8 s l) ⌝ }
 {
-    if marked {
+    if own.marked {
         return false;
     }
     l.calm

@@ -7,13 +7,12 @@ use elements::Found;
 use elements::element_tagged;
 use elements::envelope_of;
 use elements::only_member;
-use extensions::outline_of;
 use names::Name;
 use names::Seen;
 use names::name_of;
 use times::time_at;
 ghost use mathlib.Core.Path.{_≡_};
-ghost use Rattle.crl.specs.Shape.{frontOf, lastOf, listingOf, layoutOf};
+ghost use Rattle.crl.specs.Shape.{frontOf, lastOf, listingOf, partsOf};
 
 // Whether the entry list is there, where its contents start and end, and the offset after it.
 pub struct Listing {
@@ -56,8 +55,9 @@ pub enum Front {
     Frontless,
 }
 
-pub(crate) fn layout_of(item: &[u8]) -> Shape
-    ensures { λ r. ⌜ r ≡ layoutOf (now (item .entry)) ⌝ }
+// All of rule 1 but the shape of the extensions.
+pub(crate) fn parts_of(item: &[u8]) -> Shape
+    ensures { λ r. ⌜ r ≡ partsOf (now (item .entry)) ⌝ }
 {
     let Envelope::Parts { tbs, algorithm } = envelope_of(item) else {
         return Shape::Broken;
@@ -133,7 +133,7 @@ fn front_of(item: &[u8], tbs: Element) -> Front
     }
 }
 
-// A0 around one SEQUENCE of extensions, which ends the tbs.
+// A0 around one SEQUENCE, which ends the tbs.
 fn last_of(item: &[u8], from: usize, end: usize) -> Found
     ensures { λ r. ⌜ r ≡ lastOf (now (item .entry)) from end ⌝ }
 {
@@ -143,14 +143,7 @@ fn last_of(item: &[u8], from: usize, end: usize) -> Found
     if last.end != end {
         return Found::Missing;
     }
-    let Found::One(extensions) = only_member(item, last, 0x30) else {
-        return Found::Missing;
-    };
-    let seen = outline_of(item, extensions);
-    if seen.shaped {
-        return Found::One(extensions);
-    }
-    Found::Missing
+    only_member(item, last, 0x30)
 }
 
 // Where the entry list stands, if it is there.

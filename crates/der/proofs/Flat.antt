@@ -1,9 +1,11 @@
 -- Elements with a length in the short form: leaves, lists of them, and the element that such a list fills.
-use Prim.Native.Nat.{ℕ, _+_, _-_, _*_, _≤_, _<_}
+use Prim.Native.Nat.{ℕ, _+_, _-_, _*_, _/_, _≤_, _<_}
 use mathlib.Core.Path.{_≡_, refl, sym, subst, _∙_}
 use mathlib.Core.Bool.{true, false}
 use mathlib.Core.List.{List}
+use mathlib.Core.Logic.{_⊎_, inl, inr}
 use native.Mathlib.Omega.{arith}
+use native.Mathlib.Nat.{eq-or-lt-of-le}
 use borrow.Author.Tests.{eq-eqb}
 use lib.ListN.{length, getD, take, drop}
 use lib.Seq.{getD-take, getD-drop}
@@ -12,7 +14,7 @@ use Rattle.der.specs.declared.walking.Walked.the-variants.{Passed}
 use Rattle.der.specs.Forms.{paper}
 use Rattle.der.specs.Heading.{identifierGood, headingOf, constructed}
 use Rattle.der.specs.Contents.{booleanGood, integerGood, bitStringGood, oidGood, contentsGood}
-use Rattle.der.specs.Fast.{stretch, Reads, Fills, Double, Unjudged, Leaf}
+use Rattle.der.specs.Fast.{stretch, Reads, Fills, Unjudged, Leaf}
 use Rattle.der.specs.Walk.{filled}
 use Rattle.der.proofs.Laws.{short-header}
 use Rattle.der.proofs.Bounds.{element-within}
@@ -81,36 +83,24 @@ module _ (s : List ℕ) (i e : ℕ) (two : i + 2 ≤ e) (inside : e ≤ length s
 pub fills-none : (s : List ℕ) (e depth count : ℕ) → e ≤ length s → Fills (stretch s e e) depth count count
 fills-none s e depth count inside = passes-none (stretch s e e) depth count (omega (arith, part-length s e e inside))
 
--- a SEQUENCE, and a SET that one fills, by the members of the SEQUENCE
-module _ (s : List ℕ) (i e after : ℕ) (two : i + 2 ≤ e) (inside : e ≤ length s) (ends : after ≡ i + 2 + getD s (i + 1) 0) (fits : after ≤ e) (short : getD s (i + 1) 0 < 128) where
-  module _ (depth count from read m : ℕ) (shallow : depth ≤ 14) (few : count < 4032) (f : (d : ℕ) → d ≤ 16 → Fills (stretch s from after) d read m) where
-    pub sequence-reads : getD s i 0 ≡ 48 → from ≡ i + 2 → read ≡ count + 1 → Reads (stretch s i e) depth count (2 + getD s (i + 1) 0) m
-    unfolding identifierGood constructed
-    sequence-reads tag starts counts =
-        node-reads s i e two inside ends fits short (rw tag refl) depth count (omega arith) (omega arith) (rw tag refl)
-        (subst (λ n. Fills (stretch s (i + 2) after) (depth + 1) n m) counts (subst (λ n. Fills (stretch s n after) (depth + 1) read m) starts (f (depth + 1) (omega arith))))
+-- a SEQUENCE or a SET
+list-tag : (tag : ℕ) → tag / 2 ≡ 24 → (identifierGood tag ≡ true) × (constructed tag ≡ true)
+unfolding identifierGood constructed
+list-tag tag h = let many : 48 ≤ tag = omega arith in go (eq-or-lt-of-le many)
+  where
+    go : (48 ≡ tag) ⊎ (48 < tag) → (identifierGood tag ≡ true) × (constructed tag ≡ true)
+    go (inl e) = let z : tag ≡ 48 = omega arith in rw z (refl, refl)
+    go (inr e) = let z : tag ≡ 49 = omega arith in rw z (refl, refl)
 
-    pub set-reads : Double s i → from ≡ i + 4 → read ≡ count + 2 → Reads (stretch s i e) depth count (2 + getD s (i + 1) 0) m
-    unfolding identifierGood constructed
-    set-reads d starts counts =
-        node-reads s i e two inside ends fits short (rw (d .outer) refl) depth count (omega arith) (omega arith) (rw (d .outer) refl)
-        (reads-on s (i + 2) after (omega (arith, d .fills)) (omega arith) (depth + 1) (count + 1) after m m (subst (λ n. Reads (stretch s (i + 2) after) (depth + 1) (count + 1) n m) (sym used) inner) (fills-none s after (depth + 1) m (omega arith)))
-      where
-        next : i + 2 + 1 ≡ i + 3
-        next = omega arith
+module _ (s : List ℕ) (i e : ℕ) (two : i + 2 ≤ e) (inside : e ≤ length s) (tag : getD s i 0 / 2 ≡ 24) (depth count m : ℕ) (shallow : depth ≤ 16) (few : count < 4096) where
+  -- by its members
+  pub list-reads : {after : ℕ} → after ≡ i + 2 + getD s (i + 1) 0 → after ≤ e → getD s (i + 1) 0 < 128 → Fills (stretch s (i + 2) after) (depth + 1) (count + 1) m → Reads (stretch s i e) depth count (2 + getD s (i + 1) 0) m
+  list-reads ends fits short =
+      let known = list-tag (getD s i 0) tag in
+      node-reads s i e two inside ends fits short (known .0) depth count shallow few (known .1)
 
-        size : getD s (i + 2 + 1) 0 ≡ getD s (i + 3) 0
-        size = rw next refl
-
-        used : after - (i + 2) ≡ 2 + getD s (i + 2 + 1) 0
-        used = rw size (omega (arith, d .fills))
-
-        members : Fills (stretch s (i + 2 + 2) after) (depth + 1 + 1) (count + 1 + 1) m
-        members =
-            let from-is : from ≡ i + 2 + 2 = omega arith in
-            let read-is : read ≡ count + 1 + 1 = omega arith in
-            subst (λ n. Fills (stretch s (i + 2 + 2) after) (depth + 1 + 1) n m) read-is (subst (λ n. Fills (stretch s n after) (depth + 1 + 1) read m) from-is (f (depth + 1 + 1) (omega arith)))
-
-        inner : Reads (stretch s (i + 2) after) (depth + 1) (count + 1) (2 + getD s (i + 2 + 1) 0) m
-        inner =
-            node-reads s (i + 2) after (omega (arith, d .fills)) (omega arith) {after = after} (rw size (omega (arith, d .fills))) (omega arith) (rw size (omega (arith, d .fills))) (rw (d .inner) refl) (depth + 1) (count + 1) (omega arith) (omega arith) (rw (d .inner) refl) members
+  -- one that ends a list
+  pub last-fills : i + 2 + getD s (i + 1) 0 ≡ e → getD s (i + 1) 0 < 128 → Fills (stretch s (i + 2) e) (depth + 1) (count + 1) m → Fills (stretch s i e) depth count m
+  last-fills ends short f =
+      let used : 2 + getD s (i + 1) 0 ≡ e - i = omega arith in
+      reads-on s i e two inside depth count e m m (subst (λ n. Reads (stretch s i e) depth count n m) used (list-reads (sym ends) (omega arith) short f)) (fills-none s e depth m inside)

@@ -1,6 +1,6 @@
 -- What the fast paths of the walk promise, of a stretch of octets that they read without telling a fault. No public promise
 -- cites this.
-use Prim.Native.Nat.{ℕ, _+_, _-_, _*_, _≤_}
+use Prim.Native.Nat.{ℕ, _+_, _-_, _*_, _/_, _≤_}
 use mathlib.Core.Bool.{true, false}
 use mathlib.Core.List.{List}
 use mathlib.Core.Path.{_≡_}
@@ -24,11 +24,10 @@ Reads s depth count used m = (base fuel : ℕ) → 2 * length s + 1 ≤ fuel →
 abbrev pub Fills : List ℕ → ℕ → ℕ → ℕ → Type 0
 Fills s depth count m = (base fuel : ℕ) → 2 * length s + 2 ≤ fuel → Passed m ≡ listAt fuel paper s base depth count
 
--- the headers of a SET and of a SEQUENCE that fills it
-pub record Double (s : List ℕ) (i : ℕ) : Type 0 where
-  pub outer : getD s i 0 ≡ 49
-  pub inner : getD s (i + 2) 0 ≡ 48
-  pub fills : getD s (i + 3) 0 + 2 ≡ getD s (i + 1) 0
+-- the header of a SEQUENCE or SET that ends at e
+pub record Last (s : List ℕ) (i e : ℕ) : Type 0 where
+  pub tag : getD s i 0 / 2 ≡ 24
+  pub ends : i + 2 + getD s (i + 1) 0 ≡ e
 
 -- an identifier of a primitive whose contents are not judged
 pub record Unjudged (tag : ℕ) : Type 0 where

@@ -9,7 +9,7 @@ ghost use mathlib.Core.Bool.{true, false};
 ghost use Prim.Native.Nat.{ℕ, _+_, _-_, _≤_, _<_};
 ghost use lib.ListN.{length, getD};
 ghost use Rattle.der.specs.Heading.{constructed};
-ghost use Rattle.der.specs.Fast.{stretch, Reads, Fills, Double, Unjudged, Leaf};
+ghost use Rattle.der.specs.Fast.{stretch, Reads, Fills, Last, Unjudged, Leaf};
 
 // The count of elements when the one at `at` has been read, if nothing is wrong with it and it is a primitive with a header of two
 // octets, or holds nothing but such; else 0.
@@ -22,13 +22,13 @@ pub(crate) fn fast_path(s: &[u8], at: usize, left: usize, count: usize) -> usize
         return 0;
     }
     if s[at] / 32 % 2 == 1 {
-        if left < 3 {
+        if left < 2 {
             return 0;
         }
         if 4032 <= count {
             return 0;
         }
-        return flat(s, at, end, count);
+        return flat(s, at, end, left, count);
     }
     if left == 0 {
         return 0;
@@ -88,57 +88,49 @@ fn judged(tag: u8, c: &[u8]) -> bool
     false
 }
 
-// The count of elements when the one at `i` has been read, if it is a SEQUENCE whose members are leaves, or a SET that one
-// such SEQUENCE fills; else 0.
-fn flat(s: &[u8], i: usize, end: usize, count: usize) -> usize
-    requires { ⌜ (i + 2 ≤ end) × (end ≤ length (now s)) × (length (now s) ≤ 16384) × (count < 4032) ⌝ }
-    ensures { λ r. ⌜ (0 < r → (depth : ℕ) → depth ≤ 14 → Reads (stretch (now (s .entry)) i end) depth count (2 + getD (now (s .entry)) (i + 1) 0) r) ⌝ }
+// The count of elements when the one at `i` has been read, if it is a SEQUENCE or SET whose members are leaves, but that the last
+// one may again be such an element; else 0.
+fn flat(s: &[u8], i: usize, end: usize, left: usize, count: usize) -> usize
+    requires { ⌜ (i + 2 ≤ end) × (end ≤ length (now s)) × (length (now s) ≤ 16384) × (2 ≤ left) × (left ≤ 16) × (count < 4032) ⌝ }
+    ensures { λ r. ⌜ (0 < r → Reads (stretch (now (s .entry)) i end) (17 - left) count (2 + getD (now (s .entry)) (i + 1) 0) r) ⌝ }
 {
-    let mut from = i + 2;
-    let mut read = count + 1;
-    if s[i] != 0x30 {
-        if !double(s, i, end) {
-            return 0;
-        }
-        from = i + 4;
-        read = count + 2;
+    if s[i] / 2 != 24 {
+        return 0;
     }
     let size = s[i + 1] as usize;
     if 128 <= size {
         return 0;
     }
-    let after = i + 2 + size;
+    let from = i + 2;
+    let after = from + size;
     if end < after {
         return 0;
     }
-    leaves(s, from, after, read)
+    leaves(s, from, after, left - 1, count + 1)
 }
 
-// Whether a SET starts at `i` that a SEQUENCE fills, by the first four octets.
-fn double(s: &[u8], i: usize, end: usize) -> bool
-    requires { ⌜ (i + 2 ≤ end) × (end ≤ length (now s)) × (length (now s) ≤ 16384) ⌝ }
-    ensures { λ r. ⌜ (r ≡ true → Double (now (s .entry)) i) ⌝ }
-{
-    if s[i] != 0x31 {
-        return false;
-    }
-    if end < i + 4 {
-        return false;
-    }
-    if s[i + 2] != 0x30 {
-        return false;
-    }
-    s[i + 3] as usize + 2 == s[i + 1] as usize
-}
-
-// The count of elements when those from `from` to `end` have been read, if each is a leaf; else 0.
-fn leaves(s: &[u8], from: usize, end: usize, count: usize) -> usize
-    requires { ⌜ (from ≤ end) × (end ≤ from + 127) × (end ≤ length (now s)) × (length (now s) ≤ 16384) × (count ≤ 4033) ⌝ }
-    ensures { λ r. ⌜ (0 < r → (depth : ℕ) → depth ≤ 16 → Fills (stretch (now (s .entry)) from end) depth count r) ⌝ }
+// The count of elements when those from `from` to `end` have been read, if each is a leaf, but the last; else 0. A SEQUENCE or SET that
+// ends where the list ends is read as the rest of the list, one deeper.
+fn leaves(s: &[u8], from: usize, end: usize, left: usize, count: usize) -> usize
+    requires { ⌜ (from ≤ end) × (end ≤ from + 127) × (end ≤ length (now s)) × (length (now s) ≤ 16384) × (1 ≤ left) × (left ≤ 16) × (count ≤ 4032) ⌝ }
+    ensures { λ r. ⌜ (0 < r → Fills (stretch (now (s .entry)) from end) (17 - left) count r) ⌝ }
 {
     let mut i = from;
     let mut read = count;
+    let mut deep = left;
     while i + 2 <= end {
+        if s[i] / 32 % 2 == 1 {
+            if !last(s, i, end) {
+                return 0;
+            }
+            if deep < 2 {
+                return 0;
+            }
+            deep -= 1;
+            read += 1;
+            i += 2;
+            continue;
+        }
         let after = leaf(s, i, end);
         if after == 0 {
             return 0;
@@ -150,6 +142,17 @@ fn leaves(s: &[u8], from: usize, end: usize, count: usize) -> usize
         return read;
     }
     0
+}
+
+// Whether the element at `i` is a SEQUENCE or SET that ends at `end`.
+fn last(s: &[u8], i: usize, end: usize) -> bool
+    requires { ⌜ (i + 2 ≤ end) × (end ≤ i + 127) × (end ≤ length (now s)) × (length (now s) ≤ 16384) ⌝ }
+    ensures { λ r. ⌜ (r ≡ true → Last (now (s .entry)) i end) ⌝ }
+{
+    if s[i] / 2 != 24 {
+        return false;
+    }
+    i + 2 + s[i + 1] as usize == end
 }
 
 // The end of the element at `i` if it is a primitive of the universal class and nothing is wrong with it, but that it may

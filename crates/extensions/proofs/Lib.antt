@@ -1,7 +1,10 @@
 pub mod Oids
 pub mod Places
 pub mod Slots
+pub mod Slotless
+pub mod Halves
 pub mod Strangers
+pub mod Tables
 pub mod Outlining
 pub mod Passing
 pub mod Theorems

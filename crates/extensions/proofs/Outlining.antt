@@ -1,5 +1,5 @@
 -- What a pass over extensions knows of their shape and of those that are critical, where the extensions from `at` on are left.
-use mathlib.Core.Path.{_≡_, refl, sym, _∙_}
+use mathlib.Core.Path.{_≡_, refl, sym, subst, _∙_}
 use mathlib.Core.Bool.{Bool, true, false, cond, _&&_, _||_}
 use mathlib.Core.List.{List}
 use Prim.Native.Nat.{ℕ}
@@ -8,7 +8,16 @@ use Rattle.elements.specs.declared.elements.Element.{Element}
 use Rattle.elements.specs.declared.elements.Found.the-variants.{One, Missing}
 use Rattle.elements.specs.Elements.{foundAt, membersOf, inside}
 use Rattle.elements.proofs.Members.{members-none, members-more}
+use Rattle.extensions.specs.Fast.{Plain}
 use Rattle.extensions.specs.Extensions.{extensionOf, present, allShaped, extensionsShaped, refusedCritical, someCritical, criticalOf}
+
+and-true : (t : Bool) → (t && true) ≡ t
+and-true true = refl
+and-true false = refl
+
+or-false : (t : Bool) → (t || false) ≡ t
+or-false true = refl
+or-false false = refl
 
 pub record Shaping (s : List ℕ) (x : Element) (shaped : Bool) (at : ℕ) : Type 0 where
   pub is : extensionsShaped s x ≡ (shaped && allShaped s (membersOf s at (x .end)))
@@ -33,19 +42,11 @@ module _ {s : List ℕ} {x : Element} {at : ℕ} where
   module _ (f : foundAt s at (x .end) ≡ Missing) where
     pub shape-end : {shaped : Bool} → Shaping s x shaped at → shaped ≡ extensionsShaped s x
     unfolding allShaped
-    shape-end {shaped} p = sym (p .is ∙ rw (members-none s at (x .end) f) (go shaped))
-      where
-        go : (t : Bool) → (t && true) ≡ t
-        go true = refl
-        go false = refl
+    shape-end {shaped} p = sym (p .is ∙ rw (members-none s at (x .end) f) (and-true shaped))
 
     pub mark-end : {allow flag : Bool} → Marking s x allow flag at → flag ≡ criticalOf s x allow
     unfolding someCritical
-    mark-end {allow} {flag} p = sym (p .is ∙ rw (members-none s at (x .end) f) (go flag))
-      where
-        go : (t : Bool) → (t || false) ≡ t
-        go true = refl
-        go false = refl
+    mark-end {allow} {flag} p = sym (p .is ∙ rw (members-none s at (x .end) f) (or-false flag))
 
   module _ {e : Element} {next : ℕ} (f : foundAt s at (x .end) ≡ One e) (ends : next ≡ e .end) where
     pub shape-on : {shaped there : Bool} → Shaping s x shaped at → there ≡ present (extensionOf s e) → Shaping s x (shaped && there) next
@@ -67,3 +68,11 @@ module _ {s : List ℕ} {x : Element} {at : ℕ} where
         go true b c = refl
         go false true c = refl
         go false false c = refl
+
+  -- a member that the fast path passes changes neither flag
+  module _ {next : ℕ} (m : Plain s at (x .end) next) where
+    pub shape-plain : {shaped : Bool} → Shaping s x shaped at → Shaping s x shaped next
+    shape-plain {shaped} p = subst (λ (t : Bool). Shaping s x t next) (and-true shaped) (shape-on (m .found) (m .ends) p (sym (m .there)))
+
+    pub mark-plain : {flag : Bool} → Marking s x false flag at → Marking s x false flag next
+    mark-plain {flag} p = subst (λ (t : Bool). Marking s x false t next) (or-false flag) (mark-on (m .found) (m .ends) p (sym (m .mild)))

@@ -14,9 +14,10 @@ use Rattle.extensions.specs.declared.Extension.the-variants.{Is, Absent}
 use Rattle.extensions.specs.declared.Held.{Held}
 use Rattle.elements.specs.Elements.{foundAt, inside}
 use Rattle.extensions.specs.Extensions.{extensionOf, present, extensionsShaped, doubledOf, refusedCritical, criticalOf, oidOf, heldOf, lookupOf, Slotted, Placed}
+use Rattle.extensions.specs.Strange.{strangeOids, strangeFrom, twiceIn}
 use Rattle.extensions.proofs.Outlining.{Shaping, Marking, shape-start, mark-start, shape-end, mark-end, shape-on, mark-on}
 use Rattle.extensions.proofs.Slots.{has-there, held-there, Open, open-start, open-none, open-set, open-left}
-use Rattle.extensions.proofs.Strangers.{Apart, apart-start, apart-none, apart-again, apart-new, apart-stranger, apart-absent}
+use Rattle.extensions.proofs.Strangers.{Apart, apart-start, apart-none, apart-few, apart-again, apart-new, apart-stranger, apart-absent}
 
 pub record Far (s : List ℕ) (x : Element) (shaped marked critical twice strange unsure : Bool) (slots : List Held) (at : ℕ) : Type 0 where
   pub shape : Shaping s x shaped at
@@ -50,9 +51,14 @@ module _ {s : List ℕ} {x : Element} {shaped marked critical twice strange unsu
     unfolding lookupOf inside
     end-placed = record { each = open-none (p .table) f }
 
+    -- what the OIDs without a slot decide
+    pub end-asked : twice ≡ false → twiceIn (strangeOids s (inside s x)) ≡ doubledOf s x
+    unfolding doubledOf inside strangeFrom
+    end-asked t = sym (apart-none (p .apart) f t)
+
     pub end-apart : twice ≡ false → unsure ≡ false → twice ≡ doubledOf s x
     unfolding doubledOf inside
-    end-apart t u = t ∙ sym (apart-none (p .apart) f t u)
+    end-apart t u = t ∙ sym (apart-none (p .apart) f t ∙ apart-few (p .apart) f u)
 
     pub end-twice : twice ≡ true → twice ≡ doubledOf s x
     unfolding doubledOf inside
@@ -73,7 +79,7 @@ module _ {s : List ℕ} {x : Element} {shaped marked critical twice strange unsu
         }
 
     pub far-new : {held : Held} → held ≡ heldOf (extensionOf s e) → slot < 23 → getD slots slot (heldOf Absent) .there ≡ false → Next twice strange unsure (set slots slot held)
-    far-new {held} new l g = far-next (open-set (p .table) f h new l g) (apart-new (p .apart) f h held there (p .table .long) l g)
+    far-new {held} new l g = far-next (open-set (p .table) f h new l g) (apart-new (p .apart) f h l held there (p .table .long) g)
       where
         there : held .there ≡ true
         there = ap (λ (f : Held). f .there) new ∙ held-there (extensionOf s e) (has-there s (oidOf slot) (extensionOf s e) (sym (h .each slot l) ∙ eq-eqb slot slot refl))
@@ -81,14 +87,14 @@ module _ {s : List ℕ} {x : Element} {shaped marked critical twice strange unsu
     pub far-again : slot < 23 → getD slots slot (heldOf Absent) .there ≡ true → Next true strange unsure slots
     far-again l n = far-next (open-left (p .table) f h (λ r. n)) (apart-again (p .apart) f h l n)
 
-    pub far-stranger : 23 ≤ slot → Next twice true (unsure || strange) slots
-    far-stranger l = far-next (open-left (p .table) f h (λ r. absurd (omega arith))) (apart-stranger (p .apart) f h l)
+    pub far-stranger : 23 ≤ slot → (slot ≡ 24 → ⊥) → Next twice true (unsure || strange) slots
+    far-stranger l n = far-next (open-left (p .table) f h (λ r. absurd (omega arith))) (apart-stranger (p .apart) f h l n)
 
     pub far-none : slot ≡ 24 → Next twice strange unsure slots
     unfolding present
     far-none q =
         far-next (open-left (p .table) f h (λ r. absurd (omega arith)))
-        (apart-absent (p .apart) f h (absent (extensionOf s e) (h .there ∙ rw (eq-eqb slot 24 q))))
+        (apart-absent (p .apart) f h (omega arith) (absent (extensionOf s e) (h .there ∙ rw (eq-eqb slot 24 q))))
       where
         absent : (y : Extension) → present y ≡ false → y ≡ Absent
         absent Absent z = refl

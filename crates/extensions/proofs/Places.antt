@@ -3,7 +3,7 @@
 use mathlib.Core.Path.{_≡_, refl, sym, subst, _∙_}
 use mathlib.Core.Bool.{Bool, true, false, cond}
 use mathlib.Core.List.{List, [], _∷_}
-use Prim.Native.Nat.{ℕ, zero, suc}
+use Prim.Native.Nat.{ℕ, zero, suc, _≤_}
 use native.Mathlib.Omega.{arith}
 use lib.ListN.{length}
 use Rattle.elements.specs.declared.elements.Element.{Element}
@@ -18,17 +18,17 @@ use Rattle.elements.proofs.Members.{on-missing, on-found, found-within}
 abbrev Leads : List ℕ → List ℕ → ℕ → List Element → Type 0
 Leads s oid end es = firstWith s oid es ≡ onFound (foundAt s (placeIn s oid es end) end) Absent (extensionOf s)
 
-module _ (s oid : List ℕ) (end : ℕ) where
-  beyond : foundAt s end end ≡ Missing
-  beyond = go (foundAt s end end) refl
-    where
-      go : (f : Found) → foundAt s end end ≡ f → f ≡ Missing
-      go Missing h = refl
-      go (One e) h = absurd (omega (arith, found-within s end end h))
+pub beyond : (s : List ℕ) {at end : ℕ} → end ≤ at → foundAt s at end ≡ Missing
+beyond s {at} {end} l = go (foundAt s at end) refl
+  where
+    go : (f : Found) → foundAt s at end ≡ f → f ≡ Missing
+    go Missing h = refl
+    go (One e) h = absurd (omega (arith, found-within s at end h))
 
+module _ (s oid : List ℕ) (end : ℕ) where
   leads-none : Leads s oid end []
   unfolding firstWith placeIn
-  leads-none = on-missing _ beyond
+  leads-none = on-missing _ (beyond s (omega arith))
 
   leads-more : (e : Element) (rest : List Element) → foundAt s (e .at) end ≡ One e → Leads s oid end rest → Leads s oid end (e ∷ rest)
   unfolding firstWith placeIn

@@ -17,7 +17,10 @@ use Rattle.octets.specs.Alike.{alike}
 use Rattle.elements.specs.Elements.{foundAt, membersOf, contentsOf}
 use Rattle.octets.proofs.Likeness.{alike-is, is-alike, unequal-unlike}
 use Rattle.elements.proofs.Members.{members-none, members-more}
-use Rattle.extensions.specs.Extensions.{extensionOf, hasOid, sameOids, standsIn, doubledIn, oidOf, heldOf, Slotted}
+use Rattle.extensions.specs.Extensions.{extensionOf, present, hasOid, sameOids, standsIn, doubledIn, oidOf, heldOf, Slotted}
+use Rattle.extensions.specs.Strange.{strangeFrom, isIn, twiceIn}
+use Rattle.extensions.proofs.Slotless.{strange-none, strange-absent, strange-skip, strange-met}
+use Rattle.extensions.proofs.Halves.{slotAnd, slotTwice, slot-and, stranger-and, split}
 
 -- the OIDs that were met, as a test; whether an extension has one of them, and those with its own
 module _ (s : List ℕ) (seen : List ℕ → Bool) where
@@ -63,22 +66,26 @@ module _ (s : List ℕ) (seen : List ℕ → Bool) where
       go false true false d = refl
       go false false c d = refl
 
-  -- whether one of those left has an OID that was met, or that stands twice among them
+  -- whether one of those left has an OID that was met, or a slot's OID that stands twice among them
   unfoldable pub left : List Element → Bool
-  left es = someKnown s seen es || doubledIn s es
+  left es = someKnown s seen es || slotTwice s es
 
-  left-more : (e : Element) (rest : List Element) → left (e ∷ rest) ≡ (known s seen (extensionOf s e) || (someKnown s (also s seen (extensionOf s e)) rest || doubledIn s rest))
-  unfolding left someKnown doubledIn
-  left-more e rest =
-      rw (some-also (extensionOf s e) rest)
-      (go (known s seen (extensionOf s e)) (someKnown s seen rest) (standsIn s (extensionOf s e) rest) (doubledIn s rest))
+  left-slot : (e : Element) (rest : List Element) → ((t : Bool) → slotAnd s (extensionOf s e) t ≡ t) → left (e ∷ rest) ≡ (known s seen (extensionOf s e) || (someKnown s (also s seen (extensionOf s e)) rest || slotTwice s rest))
+  unfolding left someKnown slotTwice
+  left-slot e rest h =
+      rw (h (standsIn s (extensionOf s e) rest), some-also (extensionOf s e) rest)
+      (go (known s seen (extensionOf s e)) (someKnown s seen rest) (standsIn s (extensionOf s e) rest) (slotTwice s rest))
     where
-      go : (k a b d : Bool) → ((k || a) || cond b true d) ≡ (k || ((b || a) || d))
+      go : (k a b d : Bool) → ((k || a) || (b || d)) ≡ (k || ((b || a) || d))
       go true a b d = refl
       go false true true d = refl
       go false true false d = refl
       go false false true d = refl
       go false false false d = refl
+
+  left-stranger : (e : Element) (rest : List Element) → ((t : Bool) → slotAnd s (extensionOf s e) t ≡ false) → known s seen (extensionOf s e) ≡ false → left (e ∷ rest) ≡ left rest
+  unfolding left someKnown slotTwice
+  left-stranger e rest h n = rw (h (standsIn s (extensionOf s e) rest), n)
 
   -- an extension by its OID
   module _ (o : List ℕ) where
@@ -108,118 +115,158 @@ module _ (s : List ℕ) (seen : List ℕ → Bool) where
   known-stranger (Is oid critical value) h n =
       n (contentsOf s oid) λ k l q. let z : true ≡ false = sym (is-alike _ _ q) ∙ h k l in let y : _≡_ {A = ℕ} 0 1 = cc in omega arith
 
--- The OIDs that were met before `at`. The slots tell which of theirs were met; where no stranger was, no other was. While
--- nothing was met twice and at most one stranger, what is left decides.
+-- the OID of an extension
+unfoldable ownOid : List ℕ → Extension → List ℕ
+ownOid s Absent = []
+ownOid s (Is oid critical value) = contentsOf s oid
+
+-- The OIDs with a slot that were met before `at`: the slots tell which. While none was met twice, what is left decides, and the
+-- OIDs without a slot: of those none was met, or one alone, or it is to be asked.
 pub record Apart (s : List ℕ) (from end : ℕ) (slots : List Held) (twice strange unsure : Bool) (at : ℕ) : Type 0 where
   pub seen : List ℕ → Bool
   pub filled : (k : ℕ) → k < 23 → seen (oidOf k) ≡ getD slots k (heldOf Absent) .there
-  pub others : strange ≡ false → (o : List ℕ) → ((k : ℕ) → k < 23 → o ≡ oidOf k → ⊥) → seen o ≡ false
+  pub others : (o : List ℕ) → ((k : ℕ) → k < 23 → o ≡ oidOf k → ⊥) → seen o ≡ false
   pub sound : left s seen (membersOf s at end) ≡ true → doubledIn s (membersOf s from end) ≡ true
   pub told : twice ≡ true → doubledIn s (membersOf s from end) ≡ true
-  pub whole : twice ≡ false → unsure ≡ false → doubledIn s (membersOf s from end) ≡ left s seen (membersOf s at end)
+  pub whole : twice ≡ false → doubledIn s (membersOf s from end) ≡ (left s seen (membersOf s at end) || twiceIn (strangeFrom s from end))
+  pub alone : List ℕ
+  pub none : strange ≡ false → strangeFrom s from end ≡ strangeFrom s at end
+  pub one : strange ≡ true → unsure ≡ false → strangeFrom s from end ≡ alone ∷ strangeFrom s at end
 
 pub apart-start : (s : List ℕ) (from end : ℕ) → Apart s from end (replicate 23 (heldOf Absent)) false false false from
-unfolding left heldOf
+unfolding left heldOf strangeFrom
 apart-start s from end =
     record {
       seen = λ o. false;
       filled = λ k l. rw (getD-replicate 23 k (heldOf Absent) (heldOf Absent) l);
-      others = λ t o n. refl;
-      sound = λ t. rw (none-known s (membersOf s from end)) at t;
+      others = λ o n. refl;
+      sound = λ t. let slot : slotTwice s (membersOf s from end) ≡ true = rw (none-known s (membersOf s from end)) at t in split s (membersOf s from end) ∙ rw slot;
       told = λ t. let y : _≡_ {A = ℕ} 0 1 = cc in absurd (omega arith);
-      whole = λ t u. rw (none-known s (membersOf s from end));
+      whole = λ t. rw (none-known s (membersOf s from end)) (split s (membersOf s from end));
+      alone = [];
+      none = λ t. refl;
+      one = λ t. let y : _≡_ {A = ℕ} 0 1 = cc in absurd (omega arith);
     }
 
 module _ {s : List ℕ} {from end at : ℕ} {slots : List Held} {twice strange unsure : Bool} (a : Apart s from end slots twice strange unsure at) where
-  pub apart-none : foundAt s at end ≡ Missing → twice ≡ false → unsure ≡ false → doubledIn s (membersOf s from end) ≡ false
-  unfolding left someKnown doubledIn
-  apart-none h t u = a .whole t u ∙ rw (members-none s at end h)
+  module _ (h : foundAt s at end ≡ Missing) where
+    pub apart-none : twice ≡ false → doubledIn s (membersOf s from end) ≡ twiceIn (strangeFrom s from end)
+    unfolding left someKnown slotTwice
+    apart-none t = a .whole t ∙ rw (members-none s at end h)
+
+    pub apart-few : unsure ≡ false → twiceIn (strangeFrom s from end) ≡ false
+    unfolding twiceIn isIn
+    apart-few u = go strange refl
+      where
+        go : (t : Bool) → strange ≡ t → twiceIn (strangeFrom s from end) ≡ false
+        go true q = rw (a .one q u, strange-none s at end h)
+        go false q = rw (a .none q, strange-none s at end h)
 
   module _ {e : Element} {slot : ℕ} (f : foundAt s at end ≡ One e) (h : Slotted s (extensionOf s e) slot) where
-    own : slot < 23 → hasOid s (oidOf slot) (extensionOf s e) ≡ true
-    own l = sym (h .each slot l) ∙ eq-eqb slot slot refl
+    -- an OID that has a slot
+    module _ (l : slot < 23) where
+      own : hasOid s (oidOf slot) (extensionOf s e) ≡ true
+      own = sym (h .each slot l) ∙ eq-eqb slot slot refl
 
-    known-slot : slot < 23 → known s (a .seen) (extensionOf s e) ≡ getD slots slot (heldOf Absent) .there
-    known-slot l = known-oid s (a .seen) (oidOf slot) (extensionOf s e) (own l) ∙ a .filled slot l
+      known-slot : known s (a .seen) (extensionOf s e) ≡ getD slots slot (heldOf Absent) .there
+      known-slot = known-oid s (a .seen) (oidOf slot) (extensionOf s e) own ∙ a .filled slot l
 
-    kept : (k : ℕ) → k < 23 → (slot ≡ k → ⊥) → also s (a .seen) (extensionOf s e) (oidOf k) ≡ getD slots k (heldOf Absent) .there
-    kept k l n = also-other s (a .seen) (oidOf k) (extensionOf s e) (sym (h .each k l) ∙ ne-eqb slot k n) ∙ a .filled k l
+      step : left s (a .seen) (membersOf s at end) ≡ (known s (a .seen) (extensionOf s e) || left s (also s (a .seen) (extensionOf s e)) (membersOf s (e .end) end))
+      unfolding left
+      step = ap (left s (a .seen)) (members-more s at end f) ∙ left-slot s (a .seen) e (membersOf s (e .end) end) (slot-and h l)
 
-    step : left s (a .seen) (membersOf s at end) ≡ (known s (a .seen) (extensionOf s e) || left s (also s (a .seen) (extensionOf s e)) (membersOf s (e .end) end))
-    unfolding left
-    step = ap (left s (a .seen)) (members-more s at end f) ∙ left-more s (a .seen) e (membersOf s (e .end) end)
+      skip : strangeFrom s at end ≡ strangeFrom s (e .end) end
+      skip = strange-skip s at end f refl h l
 
-    sound-next : left s (also s (a .seen) (extensionOf s e)) (membersOf s (e .end) end) ≡ true → doubledIn s (membersOf s from end) ≡ true
-    sound-next t = a .sound (step ∙ rw t (go (known s (a .seen) (extensionOf s e))))
-      where
-        go : (k : Bool) → (k || true) ≡ true
-        go true = refl
-        go false = refl
+      pub apart-new : (held : Held) → held .there ≡ true → length slots ≡ 23 → getD slots slot (heldOf Absent) .there ≡ false → Apart s from end (set slots slot held) twice strange unsure (e .end)
+      apart-new held new long g =
+          record {
+            seen = also s (a .seen) (extensionOf s e);
+            filled = λ k room. go k room (eqb slot k) refl;
+            others = λ o n.
+                also-other s (a .seen) o (extensionOf s e) (other-oid s (a .seen) o (extensionOf s e) (oidOf slot) own (n slot l)) ∙ a .others o n;
+            sound = λ t. a .sound (step ∙ rw t (or (known s (a .seen) (extensionOf s e))));
+            told = a .told;
+            whole = λ t. a .whole t ∙ rw (step, known-slot, g);
+            alone = a .alone;
+            none = λ t. a .none t ∙ skip;
+            one = λ t u. a .one t u ∙ ap (_∷_ (a .alone)) skip;
+          }
+        where
+          or : (k : Bool) → (k || true) ≡ true
+          or true = refl
+          or false = refl
 
-    whole-next : known s (a .seen) (extensionOf s e) ≡ false → twice ≡ false → unsure ≡ false → doubledIn s (membersOf s from end) ≡ left s (also s (a .seen) (extensionOf s e)) (membersOf s (e .end) end)
-    whole-next n t u = a .whole t u ∙ step ∙ rw n
+          here : also s (a .seen) (extensionOf s e) (oidOf slot) ≡ getD (set slots slot held) slot (heldOf Absent) .there
+          here =
+              let fits : slot < length slots = omega arith in
+              rw (getD-set-same slots slot held (heldOf Absent) fits) (also-oid s (a .seen) (oidOf slot) (extensionOf s e) own ∙ sym new)
 
-    pub apart-new : (held : Held) → held .there ≡ true → length slots ≡ 23 → slot < 23 → getD slots slot (heldOf Absent) .there ≡ false → Apart s from end (set slots slot held) twice strange unsure (e .end)
-    apart-new held new long l g =
-        record {
-          seen = also s (a .seen) (extensionOf s e);
-          filled = λ k room. go k room (eqb slot k) refl;
-          others = λ t o n.
-              also-other s (a .seen) o (extensionOf s e) (other-oid s (a .seen) o (extensionOf s e) (oidOf slot) (own l) (n slot l)) ∙ a .others t o n;
-          sound = sound-next;
-          told = a .told;
-          whole = whole-next (known-slot l ∙ g);
-        }
-      where
-        here : also s (a .seen) (extensionOf s e) (oidOf slot) ≡ getD (set slots slot held) slot (heldOf Absent) .there
-        here =
-            let fits : slot < length slots = omega arith in
-            rw (getD-set-same slots slot held (heldOf Absent) fits) (also-oid s (a .seen) (oidOf slot) (extensionOf s e) (own l) ∙ sym new)
+          kept : (k : ℕ) → k < 23 → (slot ≡ k → ⊥) → also s (a .seen) (extensionOf s e) (oidOf k) ≡ getD slots k (heldOf Absent) .there
+          kept k room n = also-other s (a .seen) (oidOf k) (extensionOf s e) (sym (h .each k room) ∙ ne-eqb slot k n) ∙ a .filled k room
 
-        go : (k : ℕ) → k < 23 → (t : Bool) → eqb slot k ≡ t → also s (a .seen) (extensionOf s e) (oidOf k) ≡ getD (set slots slot held) k (heldOf Absent) .there
-        go k room true q = rw (sym (eqb-true slot k q)) here
-        go k room false q = rw (getD-set-other slots slot k held (heldOf Absent) (λ w. eqb-false slot k q (sym w))) (kept k room (eqb-false slot k q))
+          go : (k : ℕ) → k < 23 → (t : Bool) → eqb slot k ≡ t → also s (a .seen) (extensionOf s e) (oidOf k) ≡ getD (set slots slot held) k (heldOf Absent) .there
+          go k room true q = rw (sym (eqb-true slot k q)) here
+          go k room false q = rw (getD-set-other slots slot k held (heldOf Absent) (λ w. eqb-false slot k q (sym w))) (kept k room (eqb-false slot k q))
 
-    pub apart-again : slot < 23 → getD slots slot (heldOf Absent) .there ≡ true → Apart s from end slots true strange unsure (e .end)
-    apart-again l n =
-        record {
-          seen = a .seen;
-          filled = a .filled;
-          others = a .others;
-          sound = λ t. doubles;
-          told = λ t. doubles;
-          whole = λ t. let y : _≡_ {A = ℕ} 0 1 = cc in absurd (omega arith);
-        }
-      where
-        doubles : doubledIn s (membersOf s from end) ≡ true
-        doubles = a .sound (step ∙ rw (known-slot l ∙ n))
+      pub apart-again : getD slots slot (heldOf Absent) .there ≡ true → Apart s from end slots true strange unsure (e .end)
+      apart-again n =
+          record {
+            seen = a .seen;
+            filled = a .filled;
+            others = a .others;
+            sound = λ t. doubles;
+            told = λ t. doubles;
+            whole = λ t. let y : _≡_ {A = ℕ} 0 1 = cc in absurd (omega arith);
+            alone = a .alone;
+            none = λ t. a .none t ∙ skip;
+            one = λ t u. a .one t u ∙ ap (_∷_ (a .alone)) skip;
+          }
+        where
+          doubles : doubledIn s (membersOf s from end) ≡ true
+          doubles = a .sound (step ∙ rw (known-slot ∙ n))
 
-    pub apart-stranger : 23 ≤ slot → Apart s from end slots twice true (unsure || strange) (e .end)
-    apart-stranger far =
-        record {
-          seen = also s (a .seen) (extensionOf s e);
-          filled = λ k l. kept k l λ q. omega arith;
-          others = λ t. let y : _≡_ {A = ℕ} 0 1 = cc in absurd (omega arith);
-          sound = sound-next;
-          told = a .told;
-          whole = λ t u. let b = neither unsure strange u in whole-next (alone (b .1)) t (b .0);
-        }
-      where
-        neither : (p q : Bool) → (p || q) ≡ false → (p ≡ false) × (q ≡ false)
-        neither true q w = (w, cc)
-        neither false q w = (refl, w)
+    -- an OID that has none, or no extension
+    module _ (far : 23 ≤ slot) where
+      pass : left s (a .seen) (membersOf s at end) ≡ left s (a .seen) (membersOf s (e .end) end)
+      pass =
+          ap (left s (a .seen)) (members-more s at end f)
+          ∙ left-stranger s (a .seen) e (membersOf s (e .end) end) (stranger-and h far)
+          (known-stranger s (a .seen) (extensionOf s e) (λ k l. sym (h .each k l) ∙ ne-eqb slot k λ q. omega arith) (a .others))
 
-        alone : strange ≡ false → known s (a .seen) (extensionOf s e) ≡ false
-        alone t = known-stranger s (a .seen) (extensionOf s e) (λ k l. sym (h .each k l) ∙ ne-eqb slot k λ q. omega arith) (a .others t)
+      passed : (strange' unsure' : Bool) (alone : List ℕ) → (strange' ≡ false → strangeFrom s from end ≡ strangeFrom s (e .end) end)
+          → (strange' ≡ true → unsure' ≡ false → strangeFrom s from end ≡ alone ∷ strangeFrom s (e .end) end)
+          → Apart s from end slots twice strange' unsure' (e .end)
+      passed strange' unsure' alone none one =
+          record {
+            seen = a .seen;
+            filled = a .filled;
+            others = a .others;
+            sound = λ t. a .sound (pass ∙ t);
+            told = a .told;
+            whole = λ t. a .whole t ∙ rw pass;
+            alone = alone;
+            none = none;
+            one = one;
+          }
 
-    pub apart-absent : extensionOf s e ≡ Absent → Apart s from end slots twice strange unsure (e .end)
-    unfolding also known
-    apart-absent n =
-        record {
-          seen = a .seen;
-          filled = a .filled;
-          others = a .others;
-          sound = rw n at sound-next;
-          told = a .told;
-          whole = rw n at (whole-next (rw n));
-        }
+      pub apart-stranger : (slot ≡ 24 → ⊥) → Apart s from end slots twice true (unsure || strange) (e .end)
+      unfolding ownOid present
+      apart-stranger other =
+          passed true (unsure || strange) (ownOid s (extensionOf s e)) (λ t. let y : _≡_ {A = ℕ} 0 1 = cc in absurd (omega arith))
+          (λ t u. a .none (neither unsure strange u .1) ∙ first (extensionOf s e) refl (h .there ∙ rw (ne-eqb slot 24 other)))
+        where
+          neither : (p q : Bool) → (p || q) ≡ false → (p ≡ false) × (q ≡ false)
+          neither true q w = (w, cc)
+          neither false q w = (refl, w)
+
+          first : (y : Extension) → extensionOf s e ≡ y → present y ≡ true → strangeFrom s at end ≡ ownOid s y ∷ strangeFrom s (e .end) end
+          first Absent q w = let z : _≡_ {A = ℕ} 0 1 = cc in absurd (omega arith)
+          first (Is oid critical value) q w = strange-met s at end f refl q h far
+
+      pub apart-absent : extensionOf s e ≡ Absent → Apart s from end slots twice strange unsure (e .end)
+      apart-absent n =
+          passed strange unsure (a .alone) (λ t. a .none t ∙ skip) (λ t u. a .one t u ∙ ap (_∷_ (a .alone)) skip)
+        where
+          skip : strangeFrom s at end ≡ strangeFrom s (e .end) end
+          skip = strange-absent s at end f refl n

@@ -9,7 +9,7 @@ use Rattle.elements.specs.Elements.{foundAt}
 use Rattle.extensions.specs.declared.Extension.{Extension}
 use Rattle.extensions.specs.declared.Extension.the-variants.{Is, Absent}
 use Rattle.extensions.specs.declared.Met.{Met}
-use Rattle.extensions.specs.Extensions.{extensionOf}
+use Rattle.extensions.specs.Extensions.{extensionOf, present, refusedCritical}
 
 -- where an extension ends: with its value
 unfoldable pub endOf : Extension → ℕ
@@ -27,3 +27,11 @@ pub record Member (s : List ℕ) (at end next : ℕ) (own : Extension) : Type 0 
 pub record Meets (s : List ℕ) (at end : ℕ) (m : Met) : Type 0 where
   pub some : m .found ≡ true → Member s at end (m .next) (m .own)
   pub none : m .found ≡ false → foundAt s at end ≡ Missing
+
+-- a member that ends at `next` and is an extension that is not critical
+pub record Plain (s : List ℕ) (at end next : ℕ) : Type 0 where
+  pub e : Element
+  pub found : foundAt s at end ≡ One e
+  pub ends : next ≡ e .end
+  pub there : present (extensionOf s e) ≡ true
+  pub mild : refusedCritical s false (extensionOf s e) ≡ false

@@ -1,2 +1,3 @@
 pub mod Extensions
 pub mod Fast
+pub mod Strange

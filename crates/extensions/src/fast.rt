@@ -4,8 +4,9 @@ use elements::Element;
 use elements::short_end;
 ghost use mathlib.Core.Path.{_≡_};
 ghost use mathlib.Core.Bool.{true};
+ghost use Prim.Native.Nat.{_<_};
 ghost use Rattle.extensions.specs.Extensions.{present};
-ghost use Rattle.extensions.specs.Fast.{endOf, Member};
+ghost use Rattle.extensions.specs.Fast.{endOf, Member, Plain};
 
 // The extension that starts at `from`, before `stop`, or `Absent` for any that is not of that kind.
 pub(crate) fn brief_at(item: &[u8], from: usize, stop: usize) -> Extension
@@ -63,4 +64,32 @@ pub(crate) fn brief_at(item: &[u8], from: usize, stop: usize) -> Extension
         critical: true,
         value,
     }
+}
+
+// Where the extension that starts at `from`, before `stop`, ends if it is of that kind and has no BOOLEAN; else 0.
+pub(crate) fn plain_end(item: &[u8], from: usize, stop: usize) -> usize
+    ensures { λ r. ⌜ (0 < r → Plain (now (item .entry)) from stop r) ⌝ }
+{
+    let end = short_end(item, from, stop, 0x30);
+    if end == 0 {
+        return 0;
+    }
+    if end - from < 6 {
+        return 0;
+    }
+    if item[from + 2] != 0x06 {
+        return 0;
+    }
+    let size = item[from + 3] as usize;
+    if end - from - 6 < size {
+        return 0;
+    }
+    let value = from + 4 + size;
+    if item[value] != 0x04 {
+        return 0;
+    }
+    if item[value + 1] as usize != end - value - 2 {
+        return 0;
+    }
+    end
 }

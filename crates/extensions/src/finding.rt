@@ -1,13 +1,13 @@
 // The look-up of an extension by its OID.
 use crate::Extension;
 use crate::shape::any_extension;
-use crate::twice::has_oid;
 use elements::Element;
 use elements::Found;
 use elements::element_at;
+use elements::holds;
 ghost use mathlib.Core.Path.{_≡_};
 ghost use Rattle.elements.specs.Elements.{membersOf};
-ghost use Rattle.extensions.specs.Extensions.{lookupOf, placeIn};
+ghost use Rattle.extensions.specs.Extensions.{hasOid, lookupOf, placeIn};
 
 // The extension with that OID, the first of them.
 pub fn lookup(item: &[u8], extensions: Element, oid: &[u8]) -> Extension
@@ -35,4 +35,18 @@ fn place_of(item: &[u8], from: usize, end: usize, oid: &[u8]) -> usize
         }
         at = e.end;
     }
+}
+
+fn has_oid(item: &[u8], oid: &[u8], extension: Extension) -> bool
+    ensures { λ r. ⌜ r ≡ hasOid (now (item .entry)) (now (oid .entry)) extension ⌝ }
+{
+    let Extension::Is {
+        oid: own,
+        critical: _,
+        value: _,
+    } = extension
+    else {
+        return false;
+    };
+    holds(item, own, oid)
 }

@@ -3,8 +3,10 @@ mod fast;
 mod finding;
 mod members;
 mod outline;
+mod rows;
 mod shape;
 mod slot;
+mod stranger;
 mod told;
 mod twice;
 
@@ -49,8 +51,8 @@ pub struct Overview {
     pub slots: [Held; 23],
 }
 
-// An OID with a slot stands twice where its slot is taken when it is met. Every pair is compared only where two or more
-// OIDs have no slot.
+// An OID with a slot stands twice where its slot is taken when it is met. Those without a slot are compared only where there
+// are two or more.
 pub fn one_pass(item: &[u8], extensions: Element) -> Overview
     ensures { λ r. ⌜ Viewed (now (item .entry)) extensions r ⌝ }
 {

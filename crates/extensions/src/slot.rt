@@ -6,6 +6,7 @@ ghost use mathlib.Core.Path.{_≡_};
 ghost use mathlib.Core.List.{[], _∷_};
 ghost use Prim.Native.Nat.{ℕ, _<_};
 ghost use lib.Dec.{eqb};
+ghost use lib.ListN.{length};
 ghost use Rattle.octets.specs.Alike.{alike};
 ghost use Rattle.extensions.specs.Extensions.{oidOf, Slotted};
 
@@ -25,6 +26,14 @@ pub(crate) fn slot_of(item: &[u8], extension: Extension) -> usize
     if own.len() == 3 {
         return slot_by(own[0], own[1], own[2]);
     }
+    slot_apart(own)
+}
+
+// The slot of an OID that has not three octets.
+fn slot_apart(own: &[u8]) -> usize
+    requires { ⌜ (length (now own) ≡ 3 → ⊥) ⌝ }
+    ensures { λ r. ⌜ (r < 24) × ((k : ℕ) → k < 23 → eqb r k ≡ alike (now (own .entry)) (oidOf k)) ⌝ }
+{
     if same(own, b"\x67\x81\x08\x01\x01\x06\x02") {
         return 22;
     }
@@ -32,7 +41,7 @@ pub(crate) fn slot_of(item: &[u8], extension: Extension) -> usize
 }
 
 // The slot of an OID of three octets.
-fn slot_by(a: u8, b: u8, c: u8) -> usize
+pub(crate) fn slot_by(a: u8, b: u8, c: u8) -> usize
     ensures { λ r. ⌜ (r < 24) × ((k : ℕ) → k < 23 → eqb r k ≡ alike (a ∷ b ∷ c ∷ []) (oidOf k)) ⌝ }
 {
     if a != 0x55 {

@@ -1,75 +1,71 @@
-// OIDs that stand twice.
-use crate::Extension;
-use crate::shape::any_extension;
+// OIDs without a slot that stand twice.
+use crate::rows::Row;
+use crate::rows::equal_rows;
+use crate::rows::row_of;
+use crate::stranger::Stranger;
+use crate::stranger::stranger_from;
 use elements::Element;
-use elements::Found;
-use elements::contents;
-use elements::element_at;
-use elements::element_tagged;
-use elements::holds;
 ghost use mathlib.Core.Path.{_≡_};
-ghost use Rattle.extensions.specs.Extensions.{extensionOf, doubledOf, hasOid, sameOids};
+ghost use Rattle.elements.specs.Elements.{inside};
+ghost use Rattle.extensions.specs.Strange.{strangeOids, twiceIn, Compared};
 
-// Whether some OID stands twice.
+// Whether one stands twice: round by round, until none is left.
 pub(crate) fn doubled(item: &[u8], extensions: Element) -> bool
-    ensures { λ r. ⌜ r ≡ doubledOf (now (item .entry)) extensions ⌝ }
+    ensures { λ r. ⌜ r ≡ twiceIn (strangeOids (now (item .entry)) (inside (now (item .entry)) extensions)) ⌝ }
 {
     let end = extensions.end;
-    let mut at = extensions.contents;
+    let mut round = compared(item, extensions.contents, end);
+    while round.rest < end {
+        round = compared(item, round.rest, end);
+    }
+    round.twice
+}
+
+// Of a round: whether an OID stands twice, and the offset of the first extension that the table had no room for.
+pub struct Round {
+    pub twice: bool,
+    pub rest: usize,
+}
+
+// Each OID is compared with those in the table, by a number of its octets first. The table takes the first 64 of them.
+fn compared(item: &[u8], from: usize, end: usize) -> Round
+    ensures { λ r. ⌜ Compared (now (item .entry)) from end r ⌝ }
+{
+    let vacant = Row {
+        last: 0,
+        first: 0,
+        start: 0,
+        end: 0,
+    };
+    let mut table = [vacant; 64];
+    let mut count = 0;
+    let mut rest = end;
     let mut twice = false;
+    let mut at = from;
     'each: loop {
-        let Found::One(e) = element_at(item, at, end) else {
+        let Stranger::At { place, next, oid } = stranger_from(item, at, end) else {
             break 'each;
         };
-        let own = any_extension(item, e);
-        let mut later = e.end;
-        loop {
-            let Found::One(other) = element_at(item, later, end) else {
-                break;
-            };
-            if doubles(item, own, other) {
-                twice = true;
-                break 'each;
+        let own = row_of(item, oid);
+        let mut i = 0;
+        while i < count {
+            let other = table[i];
+            if other.last == own.last {
+                if equal_rows(item, own, other) {
+                    twice = true;
+                    rest = end;
+                    break 'each;
+                }
             }
-            later = other.end;
+            i += 1;
         }
-        at = e.end;
+        if count < 64 {
+            table[count] = own;
+            count += 1;
+        } else if rest == end {
+            rest = place;
+        }
+        at = next;
     }
-    twice
-}
-
-// Whether an element is an extension with the OID of this one. The element's OID is compared before the rest is read.
-fn doubles(item: &[u8], own: Extension, other: Element) -> bool
-    ensures { λ r. ⌜ r ≡ sameOids (now (item .entry)) own (extensionOf (now (item .entry)) other) ⌝ }
-{
-    let Extension::Is {
-        oid,
-        critical: _,
-        value: _,
-    } = own
-    else {
-        return false;
-    };
-    let Found::One(its) = element_tagged(item, other.contents, other.end, 0x06) else {
-        return false;
-    };
-    let wanted = contents(item, oid);
-    if !holds(item, its, wanted) {
-        return false;
-    }
-    has_oid(item, wanted, any_extension(item, other))
-}
-
-pub(crate) fn has_oid(item: &[u8], oid: &[u8], extension: Extension) -> bool
-    ensures { λ r. ⌜ r ≡ hasOid (now (item .entry)) (now (oid .entry)) extension ⌝ }
-{
-    let Extension::Is {
-        oid: own,
-        critical: _,
-        value: _,
-    } = extension
-    else {
-        return false;
-    };
-    holds(item, own, oid)
+    Round { twice, rest }
 }

@@ -1,4 +1,5 @@
 // Names, and the countryName in one.
+mod country;
 mod fast;
 
 use elements::Element;
@@ -11,6 +12,7 @@ use fast::country_set;
 use fast::other_set;
 ghost use mathlib.Core.Path.{_≡_};
 ghost use Rattle.names.specs.Names.{attributeOf, oneMore, oneSet, nameOf, isCapital, lettersOf, firstLetter, secondLetter};
+pub use country::country_in;
 
 // The value of a countryName, another attribute, or what is none.
 pub enum Attribute {

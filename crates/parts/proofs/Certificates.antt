@@ -81,6 +81,7 @@ pub record Laid (s : List ℕ) (l : Layout) : Type 0 where
   pub shaped : extensionsShaped s (l .extensions) ≡ true
   pub times : validityOf s validity ≡ Times (l .start) (l .finish)
   pub named : nameOf s (l .issuer) ≡ Holds (l .«issuer_country»)
+  pub addressed : nameOf s (l .subject) ≡ Holds (l .«subject_country»)
 
 pub laid-out : (s : List ℕ) (l : Layout) → layoutOf s ≡ Parts l → Laid s l
 unfolding layoutOf partsOf
@@ -107,6 +108,7 @@ laid-out s l e =
       shaped = subst (λ (n : Layout). extensionsShaped s (n .extensions) ≡ true) (sym found) (h .0);
       times = c .2;
       named = f .1;
+      addressed = g .1;
     })
 
 -- the first five members of the tbs, and how those after them are counted

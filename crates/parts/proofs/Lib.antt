@@ -10,5 +10,6 @@ pub mod KeyIdentifiers
 pub mod Serials
 pub mod Lists
 pub mod Countries
+pub mod Issuers
 pub mod Unique
 pub mod Theorems

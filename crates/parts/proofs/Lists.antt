@@ -16,8 +16,8 @@ use Rattle.elements.specs.declared.elements.Found.the-variants.{One, Missing}
 use Rattle.elements.specs.declared.envelopes.Envelope.the-variants as envelope
 use Rattle.elements.specs.Elements.{foundAt, foundTagged, membersOf}
 use Rattle.elements.specs.Envelope.{envelopeOf}
-use Rattle.elements.specs.Steps.{onlyOf}
 use Rattle.elements.proofs.Members.{found-within, members-none}
+use Rattle.extensions.specs.Extensions.{extensionsShaped}
 use Rattle.names.specs.declared.Name.the-variants.{Holds}
 use Rattle.names.specs.Names.{nameOf}
 use Rattle.times.specs.Times.{timeAt}
@@ -30,7 +30,7 @@ use Rattle.crl.specs.declared.shapes.Listing.{Listing}
 use Rattle.crl.specs.declared.shapes.Shape.{Shape}
 use Rattle.crl.specs.declared.shapes.Shape.the-variants.{Parts, Broken}
 use Rattle.crl.specs.Entries.{allShaped, surveyOf}
-use Rattle.crl.specs.Shape.{onFront, onSurvey, listingOf, frontOf, lastOf, layoutOf}
+use Rattle.crl.specs.Shape.{onFront, onSurvey, onParts, listingOf, frontOf, lastOf, partsOf, layoutOf}
 use Rattle.parts.specs.Places.{numbered, placeIn}
 use Rattle.parts.specs.Shown.{Contents, many, closing, Entered, listless}
 use Rattle.parts.specs.Shown as shown
@@ -58,6 +58,11 @@ unfolding onSurvey
 by-survey survey.Shapeless k p = absurd (broken p)
 by-survey (survey.Entries n timely calm) k p = (n, timely, calm, refl, p)
 
+by-parts : {l : Layout} (v : Shape) (k : Layout → Shape) → onParts v k ≡ Parts l → (m : Layout) × (v ≡ Parts m) × (k m ≡ Parts l)
+unfolding onParts
+by-parts Broken k p = absurd (broken p)
+by-parts (Parts m) k p = (m, refl, p)
+
 parts-same : {l m : Layout} → _≡_ {A = Shape} (Parts l) (Parts m) → l ≡ m
 parts-same p = cc
 
@@ -73,15 +78,18 @@ pub record Laid (s : List ℕ) (l : Layout) : Type 0 where
   pub survey : surveyOf s (l .listing .from) (l .listing .end) ≡ survey.Entries (l .count) (l .timely) (l .calm)
 
 pub laid-out : (s : List ℕ) (l : Layout) → layoutOf s ≡ Parts l → Laid s l
-unfolding layoutOf
+unfolding layoutOf partsOf
 laid-out s l e =
-    let a = by-envelope (envelopeOf s) Broken _ (Parts l) broken e in
+    let p = by-parts (partsOf s) _ e in
+    let m = p .0 in
+    let a = by-envelope (envelopeOf s) Broken _ (Parts m) broken (p .1) in
     let b = by-front (frontOf s (a .0)) _ (a .3) in
-    let c = by-name (nameOf s (b .2)) Broken _ (Parts l) broken (b .6) in
+    let c = by-name (nameOf s (b .2)) Broken _ (Parts m) broken (b .6) in
     let listing = listingOf (b .4 .end) (foundTagged s (b .4 .end) (a .0 .end) 0x30) in
-    let d = went (lastOf s (listing .after) (a .0 .end)) Broken _ (Parts l) broken (c .2) in
+    let d = went (lastOf s (listing .after) (a .0 .end)) Broken _ (Parts m) broken (c .2) in
     let f = by-survey (surveyOf s (listing .from) (listing .end)) _ (d .then) in
-    subst (Laid s) (parts-same (f .4))
+    let g = kept (extensionsShaped s (m .extensions)) _ Broken (Parts l) broken (p .2) in
+    subst (Laid s) (parts-same (f .4) ∙ parts-same (g .1))
     (record {
       tbs = a .0;
       outer = a .1;
@@ -176,9 +184,8 @@ last-tree s from end trees e sp h =
     let t1 = tagged-first s from end 0xA0 trees (f1 .element) sp (f1 .there) in
     let k = kept (eqb (f1 .element .end) end) _ Missing (One e) missing (f1 .then) in
     let i1 = members-inside s from end 0xA0 trees (f1 .element) refl t1 in
-    let f2 = went (onlyOf s (f1 .element) 0x30) Missing _ (One e) missing (k .1) in
-    let t2 = only-inside s (f1 .element) 0x30 (i1 .0) (f2 .element) (i1 .2) (f2 .there) in
-    let i2 = members-inside s (f1 .element .contents) (f1 .element .end) 0x30 (i1 .0) (f2 .element) refl (t2 .0) in
+    let t2 = only-inside s (f1 .element) 0x30 (i1 .0) e (i1 .2) (k .1) in
+    let i2 = members-inside s (f1 .element .contents) (f1 .element .end) 0x30 (i1 .0) e refl (t2 .0) in
     (i2 .0, last-shape (only-tree s from end 0xA0 trees (f1 .element) t1 (eqb-true _ _ (k .0))) (i1 .1) (t2 .1) (i2 .1))
   where
     missing : _≡_ {A = Found} Missing (One e) → ⊥

@@ -1,5 +1,8 @@
 // Writing a trust image.
+mod copying;
+
 use calendar::real_day;
+use copying::copy;
 use image::fields_good;
 use refusal::Refusal;
 ghost use mathlib.Core.Path.{_≡_};
@@ -97,17 +100,6 @@ fn sum_all(lengths: &[u32]) -> usize
         i += 1;
     }
     sum
-}
-
-fn copy(from: &[u8], out: &mut [u8])
-    requires { ⌜ length (now from) ≤ length (now out) ⌝ }
-    ensures { λ _. ⌜ now (out .exit) ≡ now (from .entry) ++ drop (length (now (from .entry))) (now (out .entry)) ⌝ }
-{
-    let mut i = 0;
-    while i < from.len() {
-        out[i] = from[i];
-        i += 1;
-    }
 }
 
 // The index of the columns, each offset the sum of the lengths before it.

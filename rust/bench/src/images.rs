@@ -20,7 +20,8 @@ pub fn realistic(maker: Maker, places: usize, entries: usize) -> (Image, World) 
     let (anchors, crls, signers) = (4, 4, places / 6);
     let plan = Plan { anchors, links: places - anchors - crls - signers, signers, crls, wrong: 0, lists: false };
     let world = maker(&mut Random::new(1), plan, false);
-    let listing = Crl::new(&crl::Parameters { issuer: name::name(*b"UT", "CSCA"), ..crl::Parameters::typical(entries) }).encode();
+    let listing =
+        Crl::new(&crl::Parameters { issuer: name::name(*b"UT", "CSCA"), ..crl::Parameters::typical(entries) }).encode();
     let mut image = Image::new(DAY as u32);
     for place in 0..world.entries() {
         let found = plain::entry(&world.image, place as u64);

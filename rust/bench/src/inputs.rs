@@ -8,6 +8,7 @@ use make::world::World;
 
 use crate::images::{self, chain, realistic, DAY};
 use crate::items::{self, ITEM};
+use crate::worst;
 
 /// The questions of the table.
 pub const QUESTIONS: &[&str] = &[
@@ -49,6 +50,10 @@ pub const QUESTIONS: &[&str] = &[
     "signers-sparse",
     "signers-line",
 ];
+
+/// The dearest that a search found, with the most instructions that they may cost.
+pub const WORST: &[(&str, u64)] =
+    &[("worst-certificate", 16_000_000), ("worst-crl", 16_000_000), ("worst-chain", 280_000_000)];
 
 /// The same questions at four sizes. The number is bytes, extensions, entries, places, or entries in each of four CRLs.
 pub const GROWTH: &[&str] = &[
@@ -98,6 +103,9 @@ pub fn named(name: &str) -> Option<Vec<Question>> {
         ("chain", usual) if usual.starts_with("usual-") => images::usual(&usual["usual-".len()..]),
         ("chain", shape) => chain(shape, 96, 40, false),
         ("signers", shape) => chain(shape, 96, 40, true),
+        ("worst", "certificate") => Some(worst::CERTIFICATE.asked()),
+        ("worst", "crl") => Some(worst::LIST.asked()),
+        ("worst", "chain") => Some(worst::CHAIN.asked()),
         _ => None,
     }
 }
@@ -113,7 +121,7 @@ fn item(name: &str) -> Option<Question> {
         "anchor" => Question::Certificate(Certificate::typical(ANCHOR).encode(), ANCHOR),
         "link" => Question::Certificate(Certificate::typical(LINK).encode(), LINK),
         "signer" => Question::Certificate(Certificate::typical(SIGNER).encode(), SIGNER),
-        "signer-two-strangers" => Question::Certificate(items::signer_with_strangers(2), SIGNER),
+        "signer-two-strangers" => Question::Certificate(items::signer_with_two_strangers(), SIGNER),
         "signer-strangers" => Question::Certificate(items::signer_with_strangers(1326), SIGNER),
         "crl-16k" => Question::Crl(items::crl_of_16k()),
         "crl-reasons" => Question::Crl(items::crl_with_reasons()),
@@ -121,8 +129,8 @@ fn item(name: &str) -> Option<Question> {
         "crl-empty-lists" => Question::Crl(items::crl_with_empty_lists()),
         "crl-late-times" => Question::Crl(items::crl_with_late_times()),
         "crl-last-days" => Question::Crl(items::crl_with_last_days()),
-        "crl-short" => Question::Crl(Crl::typical(5).encode()),
-        "crl-none" => Question::Crl(Crl::typical(0).encode()),
+        "crl-short" => Question::Crl(items::SHORT.to_vec()),
+        "crl-none" => Question::Crl(items::NO_ENTRIES.to_vec()),
         "crl-entry-extended" => Question::Crl(items::crl_with_one_entry()),
         "crl-extended" => Question::Crl(items::crl_with_extensions()),
         "crl-age-16k" => Question::Age(items::crl_of_16k(), DAY),
@@ -131,7 +139,7 @@ fn item(name: &str) -> Option<Question> {
         "image-write-real" => {
             let mut image = Image::new(DAY as u32);
             for _ in 0..96 {
-                image.add(SIGNER as u8, 0, items::signer_of(1350));
+                image.add(SIGNER as u8, 0, items::signer_of(2140));
             }
             written(image)
         }

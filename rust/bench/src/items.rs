@@ -41,6 +41,10 @@ pub fn crl_of_16k() -> Vec<u8> {
     longest(|entries| Crl::typical(entries).encode())
 }
 
+/// Published CRLs with two entries and with none.
+pub const SHORT: &[u8] = include_bytes!("../../../tests/data/published/crl/GoodCACRL.crl");
+pub const NO_ENTRIES: &[u8] = include_bytes!("../../../tests/data/published/crl/GoodsubCACRL.crl");
+
 /// A reason code.
 fn reason() -> Extension {
     Extension::new(&known(21), false, &[10, 1, 1])
@@ -96,6 +100,15 @@ pub fn crl_with_one_entry() -> Vec<u8> {
 pub fn crl_with_extensions() -> Vec<u8> {
     let mut made = Crl::typical(0);
     made.extensions.extend(strangers(1351));
+    made.encode()
+}
+
+/// A document signer with two extensions without a slot, as they occur: authorityInfoAccess and one of a vendor.
+pub fn signer_with_two_strangers() -> Vec<u8> {
+    let mut made = Certificate::typical(SIGNER);
+    let access = b"\x30\x1f\x30\x1d\x06\x08\x2b\x06\x01\x05\x05\x07\x30\x02\x86\x11http://ut.local/c";
+    made.extensions.push(Extension::new(b"\x2b\x06\x01\x05\x05\x07\x01\x01", false, access));
+    made.extensions.push(Extension::new(b"\x2b\x06\x01\x04\x01\x82\x37\x15\x07", false, b"\x30\x06\x02\x01\x64\x02\x01\x03"));
     made.encode()
 }
 

@@ -3,7 +3,9 @@
 //! `bench`                     a table of all questions
 //! `bench --growth`            how walk, certificate, CRL and chain grow
 //! `bench --list [--growth]`   the names of the questions
+//! `bench --list --worst`      those of the dearest, each with the instructions that it may cost
 //! `bench --count NAME SIDE N` asks one question N times on one side (library or plain), for counting from outside
+//! `bench --search WHAT SEED N` searches for a dear item or chain in N turns, and prints what it finds
 
 #![forbid(unsafe_code)]
 
@@ -11,11 +13,13 @@ mod ask;
 mod images;
 mod inputs;
 mod items;
+mod search;
 mod timing;
+mod worst;
 
 use ask::Asker;
 use differ::{Library, Plain, Reader};
-use inputs::{GROWTH, QUESTIONS};
+use inputs::{GROWTH, QUESTIONS, WORST};
 
 fn main() {
     let words: Vec<String> = std::env::args().skip(1).collect();
@@ -25,11 +29,18 @@ fn main() {
         ["--growth"] => timing::table(GROWTH),
         ["--list"] => list(QUESTIONS),
         ["--list", "--growth"] => list(GROWTH),
+        ["--list", "--worst"] => bounds(),
         ["--count", name, side, number] => count(name, side, number),
+        ["--search", what, seed, number] => match (seed.parse(), number.parse()) {
+            (Ok(seed), Ok(number)) => search::search(what, seed, number),
+            _ => false,
+        },
         _ => false,
     };
     if !good {
-        eprintln!("bench [--growth] | --list [--growth] | --count NAME library|plain N");
+        eprintln!(
+            "bench [--growth] | --list [--growth|--worst] | --count NAME library|plain N | --search item|chain SEED N"
+        );
         std::process::exit(1);
     }
 }
@@ -37,6 +48,13 @@ fn main() {
 fn list(names: &[&str]) -> bool {
     for name in names {
         println!("{name}");
+    }
+    true
+}
+
+fn bounds() -> bool {
+    for (name, bound) in WORST {
+        println!("{name}={bound}");
     }
     true
 }

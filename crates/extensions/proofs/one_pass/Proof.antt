@@ -6,7 +6,7 @@ use borrow.Author.Needs.{needs}
 use borrow.Author.Tests.{not-true, not-false}
 use Rattle.elements.proofs.Members.{found-within}
 use Rattle.extensions.specs.Extensions.{heldOf}
-use Rattle.extensions.proofs.Passing.{Far, far-start, far-new, far-again, far-stranger, far-none, end-shape, end-marks, end-harsh, end-placed, end-apart, end-twice}
+use Rattle.extensions.proofs.Passing.{Far, far-start, far-new, far-again, far-stranger, far-none, end-shape, end-marks, end-harsh, end-placed, end-asked, end-apart, end-twice}
 use Rattle.extensions.proofs.one_pass.Statement.{statement}
 use Rattle.extensions.proofs.one_pass.Tie as tie
 
@@ -67,7 +67,7 @@ loop-again-3 : tie.Need-loop-again-3 Inv-loop μ-loop
 loop-again-3 c =
     let back4 = c .before .before .before .before in
     let back8 = back4 .before .before .before .before in
-    far-stranger (back8 .loop .inv) ((back4 .before .before .before .met-at .ensures .some (not-false _ (back4 .before .if1 .left))) .found) ((back4 .before .before .before .met-at .ensures .some (not-false _ (back4 .before .if1 .left))) .ends) (rw ((back4 .before .before .before .met-at .ensures .some (not-false _ (back4 .before .if1 .left))) .is) at (c .before .before .before .before .slot-of .ensures)) (rw (← (back4 .before .before .before .met-at .ensures .some (not-false _ (back4 .before .if1 .left))) .is) (c .before .before .before .is-critical .ensures _)) (rw (← (back4 .before .before .before .met-at .ensures .some (not-false _ (back4 .before .if1 .left))) .is) (c .before .before .unusual .ensures _ (c .before .before .before .before .slot-of .ensures))) (c .before .if2 .left)
+    far-stranger (back8 .loop .inv) ((back4 .before .before .before .met-at .ensures .some (not-false _ (back4 .before .if1 .left))) .found) ((back4 .before .before .before .met-at .ensures .some (not-false _ (back4 .before .if1 .left))) .ends) (rw ((back4 .before .before .before .met-at .ensures .some (not-false _ (back4 .before .if1 .left))) .is) at (c .before .before .before .before .slot-of .ensures)) (rw (← (back4 .before .before .before .met-at .ensures .some (not-false _ (back4 .before .if1 .left))) .is) (c .before .before .before .is-critical .ensures _)) (rw (← (back4 .before .before .before .met-at .ensures .some (not-false _ (back4 .before .if1 .left))) .is) (c .before .before .unusual .ensures _ (c .before .before .before .before .slot-of .ensures))) (c .before .if2 .left) (c .if4 .taken)
 
 loop-less-4 : tie.Need-loop-less-4 Inv-loop μ-loop
 loop-less-4 c =
@@ -87,7 +87,9 @@ returns c =
       shaped = end-shape (back4 .before .before .loop .inv) (back4 .before .met-at .ensures .none (not-true _ (c .before .before .before .if1 .taken)));
       marked = end-marks (back4 .before .before .loop .inv) (back4 .before .met-at .ensures .none (not-true _ (c .before .before .before .if1 .taken)));
       critical = end-harsh (back4 .before .before .loop .inv) (back4 .before .met-at .ensures .none (not-true _ (c .before .before .before .if1 .taken)));
-      doubled = c .doubled .ensures;
+      doubled =
+          c .doubled .ensures
+          ∙ end-asked (back4 .before .before .loop .inv) (back4 .before .met-at .ensures .none (not-true _ (c .before .before .before .if1 .taken))) (not-true _ (c .before .before .if5 .taken));
       placed =
           let back4 = c .before .before .before .before in
           end-placed (back4 .before .before .loop .inv) (back4 .before .met-at .ensures .none (not-true _ (c .before .before .before .if1 .taken)));

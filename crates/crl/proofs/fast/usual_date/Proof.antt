@@ -1,7 +1,8 @@
 -- Eight octets as one number, and what its bits tell; then the same of its pairs.
-use mathlib.Core.Path.{refl, sym, _∙_}
+use mathlib.Core.Logic.{inl, inr, ⊎-elim}
+use mathlib.Core.Path.{refl}
 use native.Mathlib.Omega.{arith}
-use borrow.Author.Tests.{eqb-false, not-true}
+use borrow.Author.Tests.{eqb-false, not-true, not-false}
 use borrow.Author.Needs.{needs}
 use Rattle.crl.proofs.Digits.{never, date-most, date-least, date-told}
 use Rattle.crl.proofs.fast.usual_date.Statement.{statement}
@@ -70,10 +71,8 @@ returns-4 c = λ no. never no
 
 returns-5 : tie.Need-returns-5
 returns-5 c =
-    let back4 = c .before .before .before .before in
-    let back8 = back4 .before .before .before .before in
-    let back12 = back8 .before .before .before .before in
-    λ some. date-told (back12 .before .before .before .args .c .now) (λ i. back12 .before .before .shared-slice-known .given i .fits) (back8 .before .four .ensures) (c .before .before .before .before .four2 .ensures) (c .before .before .before .if1 .left) (c .before .before .if2 .left) refl (c .before .if3 .left) (c .if4 .left) (eqb-false _ _ (not-true _ some))
+    let held = ⊎-elim (λ w. inr (w .1 .ensures (not-false _ (w .2 .left)))) (λ w. inl (w .left)) (c .before .if3 .came) in
+    λ some. date-told (c .before .before .before .before .before .before .before .before .before .before .before .before .before .before .before .args .c .now) (λ i. c .before .before .before .before .before .before .before .before .before .before .before .before .before .before .shared-slice-known .given i .fits) (c .before .before .before .before .before .before .before .before .before .four .ensures) (c .before .before .before .before .four2 .ensures) (c .before .before .before .if1 .left) (c .before .before .if2 .left) refl held (c .if5 .left) (eqb-false _ _ (not-true _ some))
 
 pub usual-date-spec : {M : Type 1} → statement M
 usual-date-spec =
@@ -98,6 +97,7 @@ usual-date-spec =
     mul-pairs
     add-pairs
     add-if3
+    (λ c κs. search needs)
     returns-3
     returns-4
     returns-5)

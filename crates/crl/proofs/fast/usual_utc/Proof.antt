@@ -2,7 +2,7 @@
 use native.Mathlib.Omega.{arith}
 use borrow.Author.Tests.{eqb-true, not-false}
 use borrow.Author.Needs.{needs}
-use Rattle.crl.proofs.Digits.{never, clock-told, utc-time}
+use Rattle.crl.proofs.Digits.{never, clock-told}
 use Rattle.crl.proofs.fast.usual_utc.Statement.{statement}
 use Rattle.crl.proofs.fast.usual_utc.Tie as tie
 
@@ -24,11 +24,12 @@ returns-3 c = λ no. never no
 
 returns-4 : tie.Need-returns-4
 returns-4 c =
-    let back4 = c .before .before .before .before in
-    let back8 = back4 .before .before .before .before in
     λ some.
-    let clock = clock-told (back8 .before .before .before .args .c .now) (λ i. back8 .before .before .shared-slice-known .given i .fits) (c .before .before .before .four .ensures) (c .before .before .if2 .left) (c .before .if3 .left) in
-    utc-time (back8 .before .before .before .args .c .now) (back8 .before .before .before .pre) (back8 .before .usual-date .ensures (not-false _ (back8 .if1 .left))) clock (eqb-true _ _ some)
+    record {
+      date = c .before .before .before .before .before .before .before .before .before .usual-date .ensures (not-false _ (c .before .before .before .before .before .before .before .before .if1 .left));
+      clock = clock-told (c .before .before .before .before .before .before .before .before .before .before .before .args .c .now) (λ i. c .before .before .before .before .before .before .before .before .before .before .shared-slice-known .given i .fits) (c .before .before .before .four .ensures) (c .before .before .if2 .left) (c .before .if3 .left);
+      last = eqb-true _ _ some;
+    }
 
 pub usual-utc-spec : {M : Type 1} → statement M
 usual-utc-spec =

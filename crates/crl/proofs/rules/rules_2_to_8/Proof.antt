@@ -13,55 +13,31 @@ returns c = sym (broken-here _ _ (sym (c .before .holds .ensures) ∙ not-true _
 
 returns-2 : tie.Need-returns-2
 unfolding rules2to8 rule2 rule3
-returns-2 c =
-    let back4 = c .before .before .before .before in
-    sym (broken-later _ _ (sym (back4 .before .holds .ensures) ∙ not-false _ (c .before .before .before .before .if1 .left)) ∙ broken-here _ _ (sym (c .before .twins .ensures) ∙ not-true _ (c .if2 .taken)))
+returns-2 c = sym (broken-later _ _ (sym (c .before .before .before .before .before .holds .ensures) ∙ not-false _ (c .before .before .before .before .if1 .left)) ∙ broken-here _ _ (sym (c .before .twins .ensures) ∙ not-true _ (c .if2 .taken)))
 
 returns-3 : tie.Need-returns-3
 unfolding rules2to8 rule2 rule3
-returns-3 c =
-    let back4 = c .before .before .before .before in
-    sym (broken-later _ _ (sym (back4 .before .before .before .holds .ensures) ∙ not-false _ (back4 .before .before .if1 .left)) ∙ broken-later _ _ (sym (c .before .before .before .twins .ensures) ∙ not-false _ (c .before .before .if2 .left)) ∙ broken-here _ _ (sym (c .before .country-good .ensures) ∙ not-true _ (c .if3 .taken)))
+returns-3 c = sym (broken-later _ _ (sym (c .before .before .before .before .before .before .before .holds .ensures) ∙ not-false _ (c .before .before .before .before .before .before .if1 .left)) ∙ broken-later _ _ (sym (c .before .before .before .twins .ensures) ∙ not-false _ (c .before .before .if2 .left)) ∙ broken-here _ _ (sym (c .before .country-good .ensures) ∙ not-true _ (c .if3 .taken)))
 
 returns-4 : tie.Need-returns-4
 unfolding rules2to8 rule2 rule3
-returns-4 c =
-    let back4 = c .before .before .before .before in
-    let back8 = back4 .before .before .before .before in
-    sym (broken-later _ _ (sym (back8 .before .holds .ensures) ∙ not-false _ (back8 .if1 .left)) ∙ broken-later _ _ (sym (back4 .before .twins .ensures) ∙ not-false _ (c .before .before .before .before .if2 .left)) ∙ broken-later _ _ (sym (c .before .before .before .country-good .ensures) ∙ not-false _ (c .before .before .if3 .left)) ∙ broken-here _ _ (sym (c .before .times-good .ensures) ∙ not-true _ (c .if4 .taken)))
+returns-4 c = sym (broken-later _ _ (sym (c .before .before .before .before .before .before .before .before .before .holds .ensures) ∙ not-false _ (c .before .before .before .before .before .before .before .before .if1 .left)) ∙ broken-later _ _ (sym (c .before .before .before .before .before .twins .ensures) ∙ not-false _ (c .before .before .before .before .if2 .left)) ∙ broken-later _ _ (sym (c .before .before .before .country-good .ensures) ∙ not-false _ (c .before .before .if3 .left)) ∙ broken-here _ _ (sym (c .before .times-good .ensures) ∙ not-true _ (c .if4 .taken)))
 
 returns-5 : tie.Need-returns-5
 unfolding rules2to8 rule2 rule3
-returns-5 c =
-    let back4 = c .before .before .before .before in
-    let back8 = back4 .before .before .before .before in
-    sym (broken-later _ _ (sym (back8 .before .before .before .holds .ensures) ∙ not-false _ (back8 .before .before .if1 .left)) ∙ broken-later _ _ (sym (back4 .before .before .before .twins .ensures) ∙ not-false _ (back4 .before .before .if2 .left)) ∙ broken-later _ _ (sym (back4 .before .country-good .ensures) ∙ not-false _ (c .before .before .before .before .if3 .left)) ∙ broken-later _ _ (sym (c .before .before .before .times-good .ensures) ∙ not-false _ (c .before .before .if4 .left)) ∙ broken-here _ _ (sym (c .before .list-filled .ensures) ∙ not-true _ (c .if5 .taken)))
+returns-5 c = sym (broken-later _ _ (sym (c .before .before .before .before .before .before .before .before .before .before .before .holds .ensures) ∙ not-false _ (c .before .before .before .before .before .before .before .before .before .before .if1 .left)) ∙ broken-later _ _ (sym (c .before .before .before .before .before .before .before .twins .ensures) ∙ not-false _ (c .before .before .before .before .before .before .if2 .left)) ∙ broken-later _ _ (sym (c .before .before .before .before .before .country-good .ensures) ∙ not-false _ (c .before .before .before .before .if3 .left)) ∙ broken-later _ _ (sym (c .before .before .before .times-good .ensures) ∙ not-false _ (c .before .before .if4 .left)) ∙ broken-here _ _ (sym (c .before .list-filled .ensures) ∙ not-true _ (c .if5 .taken)))
 
 returns-6 : tie.Need-returns-6
 unfolding rules2to8 rule2 rule3
-returns-6 c =
-    let back4 = c .before .before .before .before in
-    let back8 = back4 .before .before .before .before in
-    let back12 = back8 .before .before .before .before in
-    sym (broken-later _ _ (sym (back12 .before .before .before .holds .ensures) ∙ not-false _ (back12 .before .before .if1 .left)) ∙ broken-later _ _ (sym (back8 .before .before .before .twins .ensures) ∙ not-false _ (back8 .before .before .if2 .left)) ∙ broken-later _ _ (sym (back8 .before .country-good .ensures) ∙ not-false _ (back8 .if3 .left)) ∙ broken-later _ _ (sym (back4 .before .before .before .times-good .ensures) ∙ not-false _ (back4 .before .before .if4 .left)) ∙ broken-later _ _ (sym (back4 .before .list-filled .ensures) ∙ not-false _ (c .before .before .before .before .if5 .left)) ∙ broken-here _ _ (sym (c .before .extensions-good .ensures) ∙ not-true _ (c .if6 .taken)))
+returns-6 c = sym (broken-later _ _ (sym (c .before .before .before .before .before .before .before .before .before .before .before .before .before .holds .ensures) ∙ not-false _ (c .before .before .before .before .before .before .before .before .before .before .before .before .if1 .left)) ∙ broken-later _ _ (sym (c .before .before .before .before .before .before .before .before .before .twins .ensures) ∙ not-false _ (c .before .before .before .before .before .before .before .before .if2 .left)) ∙ broken-later _ _ (sym (c .before .before .before .before .before .before .before .country-good .ensures) ∙ not-false _ (c .before .before .before .before .before .before .if3 .left)) ∙ broken-later _ _ (sym (c .before .before .before .before .before .times-good .ensures) ∙ not-false _ (c .before .before .before .before .if4 .left)) ∙ broken-later _ _ (sym (c .before .before .before .list-filled .ensures) ∙ not-false _ (c .before .before .if5 .left)) ∙ broken-here _ _ (sym (c .before .extensions-good .ensures _ _ (c .before .before .before .before .before .before .before .before .before .before .before .before .before .before .before .before .before .pre)) ∙ not-true _ (c .if6 .taken)))
 
 returns-7 : tie.Need-returns-7
 unfolding rules2to8 rule2 rule3
-returns-7 c =
-    let back4 = c .before .before .before .before in
-    let back8 = back4 .before .before .before .before in
-    let back12 = back8 .before .before .before .before in
-    let back16 = back12 .before .before .before .before in
-    sym (broken-later _ _ (sym (back16 .before .holds .ensures) ∙ not-false _ (back16 .if1 .left)) ∙ broken-later _ _ (sym (back12 .before .twins .ensures) ∙ not-false _ (back12 .if2 .left)) ∙ broken-later _ _ (sym (back8 .before .before .before .country-good .ensures) ∙ not-false _ (back8 .before .before .if3 .left)) ∙ broken-later _ _ (sym (back8 .before .times-good .ensures) ∙ not-false _ (back8 .if4 .left)) ∙ broken-later _ _ (sym (back4 .before .before .before .list-filled .ensures) ∙ not-false _ (back4 .before .before .if5 .left)) ∙ broken-later _ _ (sym (c .before .before .before .extensions-good .ensures) ∙ not-false _ (c .before .before .if6 .left)) ∙ broken-here _ _ (sym (c .before .nothing-critical .ensures _ (c .before .before .before .before .one-pass .ensures .marked)) ∙ not-true _ (c .if7 .taken)))
+returns-7 c = sym (broken-later _ _ (sym (c .before .before .before .before .before .before .before .before .before .before .before .before .before .before .before .holds .ensures) ∙ not-false _ (c .before .before .before .before .before .before .before .before .before .before .before .before .before .before .if1 .left)) ∙ broken-later _ _ (sym (c .before .before .before .before .before .before .before .before .before .before .before .twins .ensures) ∙ not-false _ (c .before .before .before .before .before .before .before .before .before .before .if2 .left)) ∙ broken-later _ _ (sym (c .before .before .before .before .before .before .before .before .before .country-good .ensures) ∙ not-false _ (c .before .before .before .before .before .before .before .before .if3 .left)) ∙ broken-later _ _ (sym (c .before .before .before .before .before .before .before .times-good .ensures) ∙ not-false _ (c .before .before .before .before .before .before .if4 .left)) ∙ broken-later _ _ (sym (c .before .before .before .before .before .list-filled .ensures) ∙ not-false _ (c .before .before .before .before .if5 .left)) ∙ broken-later _ _ (sym (c .before .before .before .extensions-good .ensures _ _ (c .before .before .before .before .before .before .before .before .before .before .before .before .before .before .before .before .before .before .before .pre)) ∙ not-false _ (c .before .before .if6 .left)) ∙ broken-here _ _ (sym (c .before .nothing-critical .ensures _ (c .before .before .before .before .before .before .before .before .before .before .before .before .before .before .before .before .before .before .before .pre)) ∙ not-true _ (c .if7 .taken)))
 
 returns-8 : tie.Need-returns-8
 unfolding rules2to8 rule2 rule3
-returns-8 c =
-    let back4 = c .before .before .before .before in
-    let back8 = back4 .before .before .before .before in
-    let back12 = back8 .before .before .before .before in
-    let back16 = back12 .before .before .before .before in
-    sym (broken-later _ _ (sym (back16 .before .holds .ensures) ∙ not-false _ (back16 .if1 .left)) ∙ broken-later _ _ (sym (back12 .before .twins .ensures) ∙ not-false _ (back12 .if2 .left)) ∙ broken-later _ _ (sym (back8 .before .before .before .country-good .ensures) ∙ not-false _ (back8 .before .before .if3 .left)) ∙ broken-later _ _ (sym (back8 .before .times-good .ensures) ∙ not-false _ (back8 .if4 .left)) ∙ broken-later _ _ (sym (back4 .before .before .before .list-filled .ensures) ∙ not-false _ (back4 .before .before .if5 .left)) ∙ broken-later _ _ (sym (c .before .before .before .extensions-good .ensures) ∙ not-false _ (c .before .before .if6 .left)) ∙ broken-later _ _ (sym (c .before .nothing-critical .ensures _ (c .before .before .before .before .one-pass .ensures .marked)) ∙ not-false _ (c .if7 .left)) ∙ none-broken _)
+returns-8 c = sym (broken-later _ _ (sym (c .before .before .before .before .before .before .before .before .before .before .before .before .before .before .before .holds .ensures) ∙ not-false _ (c .before .before .before .before .before .before .before .before .before .before .before .before .before .before .if1 .left)) ∙ broken-later _ _ (sym (c .before .before .before .before .before .before .before .before .before .before .before .twins .ensures) ∙ not-false _ (c .before .before .before .before .before .before .before .before .before .before .if2 .left)) ∙ broken-later _ _ (sym (c .before .before .before .before .before .before .before .before .before .country-good .ensures) ∙ not-false _ (c .before .before .before .before .before .before .before .before .if3 .left)) ∙ broken-later _ _ (sym (c .before .before .before .before .before .before .before .times-good .ensures) ∙ not-false _ (c .before .before .before .before .before .before .if4 .left)) ∙ broken-later _ _ (sym (c .before .before .before .before .before .list-filled .ensures) ∙ not-false _ (c .before .before .before .before .if5 .left)) ∙ broken-later _ _ (sym (c .before .before .before .extensions-good .ensures _ _ (c .before .before .before .before .before .before .before .before .before .before .before .before .before .before .before .before .before .before .before .pre)) ∙ not-false _ (c .before .before .if6 .left)) ∙ broken-later _ _ (sym (c .before .nothing-critical .ensures _ (c .before .before .before .before .before .before .before .before .before .before .before .before .before .before .before .before .before .before .before .pre)) ∙ not-false _ (c .if7 .left)) ∙ none-broken _)
 
 pub rules-2-to-8-spec : {M : Type 1} → statement M
 rules-2-to-8-spec =
@@ -78,7 +54,6 @@ rules-2-to-8-spec =
     returns-4
     (λ c κs. search needs)
     returns-5
-    (λ c κs. search needs)
     (λ c κs. search needs)
     returns-6
     (λ c κs. search needs)

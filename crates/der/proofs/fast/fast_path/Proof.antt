@@ -11,8 +11,7 @@ returns-4 c =
     let back4 = c .before .before .before .before in
     λ some.
     let two = back4 .before in
-    let start = two .before .before in
-    (two .if1 .left, c .flat .ensures some (17 - start .args .left) (omega arith))
+    (two .if1 .left, c .flat .ensures some)
 
 primitive-requires : tie.Need-primitive-requires
 unfolding constructed

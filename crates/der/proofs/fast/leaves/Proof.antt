@@ -1,69 +1,102 @@
--- Each turn reads one leaf more; a leaf that ends too far ends the loop.
+-- Each turn reads one leaf more, or goes into the last element; a leaf that ends too far ends the loop.
 use Prim.Native.Nat.{ℕ, _+_, _-_, _*_, _≤_, _<_}
 use mathlib.Core.List.{List}
+use mathlib.Core.Path.{_≡_, subst}
 use native.Mathlib.Omega.{arith}
+use borrow.Author.Tests.{not-false}
 use lib.ListN.{length}
-use Rattle.der.specs.Fast.{stretch, Reads, Fills}
-use Rattle.der.proofs.Flat.{reads-on, fills-none}
+use Rattle.der.specs.Fast.{stretch, Reads, Fills, Last}
+use Rattle.der.proofs.Flat.{reads-on, fills-none, last-fills}
 use Rattle.der.proofs.fast.leaves.Statement.{statement}
 use Rattle.der.proofs.fast.leaves.Tie as tie
 
--- what is left, from octet `i` on
-abbrev Left : List ℕ → ℕ → ℕ → ℕ → ℕ → ℕ → Type 0
-Left s from end count i read = (depth m : ℕ) → depth ≤ 16 → Fills (stretch s i end) depth read m → Fills (stretch s from end) depth count m
+-- what is left, from octet `i` on, `deep` levels from the deepest
+abbrev Left : List ℕ → ℕ → ℕ → ℕ → ℕ → ℕ → ℕ → ℕ → Type 0
+Left s from end left count i read deep = (m : ℕ) → Fills (stretch s i end) (17 - deep) read m → Fills (stretch s from end) (17 - left) count m
 
 abbrev Inv-loop : tie.InvT-loop
-Inv-loop s from end count i₀ read₀ i read = (i ≤ 16641) × (from ≤ i) × (i ≤ end → (2 * read + from ≤ 2 * count + i) × Left s from end count i read)
+Inv-loop s from end left count i₀ read₀ deep₀ i read deep =
+    (i ≤ 16641) × (from ≤ i) × (1 ≤ deep) × (deep ≤ left) × (i ≤ end → (2 * read + from ≤ 2 * count + i) × Left s from end left count i read deep)
 
 abbrev μ-loop : tie.MeasureT-loop
-μ-loop s from end count i₀ read₀ i read = end - i
+μ-loop s from end left count i₀ read₀ deep₀ i read deep = end - i
 
-step : (s : List ℕ) (from end count i read r : ℕ) → end ≤ length s → i + 2 ≤ end → read < 4096
-    → ((depth count : ℕ) → depth ≤ 16 → count < 4096 → Reads (stretch s i end) depth count (r - i) (count + 1))
-    → Left s from end count i read → Left s from end count r (read + 1)
-step s from end count i read r inside two few f left depth m deep p =
-    left depth m deep (reads-on s i end two inside depth read r (read + 1) m (f depth read deep few) p)
+module _ (s : List ℕ) (from end left count i read deep : ℕ) (inside : end ≤ length s) (two : i + 2 ≤ end) (few : read < 4096) (rest : Left s from end left count i read deep) where
+  one-more : (r : ℕ) → 1 ≤ deep → ((depth count : ℕ) → depth ≤ 16 → count < 4096 → Reads (stretch s i end) depth count (r - i) (count + 1)) → Left s from end left count r (read + 1) deep
+  one-more r some f m p = rest m (reads-on s i end two inside (17 - deep) read r (read + 1) m (f (17 - deep) read (omega arith) few) p)
 
-loop-holds : tie.Need-loop-holds Inv-loop μ-loop
-loop-holds c = (omega arith, omega arith, λ h. (omega arith, λ depth m deep p. p))
+  into : 2 ≤ deep → deep ≤ 16 → end ≤ i + 127 → Last s i end → Left s from end left count (i + 2) (read + 1) (deep - 1)
+  into some shallow short l m p =
+      let deeper : 17 - (deep - 1) ≡ 17 - deep + 1 = omega arith in
+      rest m (last-fills s i end two inside (l .tag) (17 - deep) read m (omega arith) few (l .ends) (omega (arith, l .ends)) (subst (λ n. Fills (stretch s (i + 2) end) n (read + 1) m) deeper p))
 
-add-loop : tie.Need-add-loop Inv-loop μ-loop
-add-loop c = omega arith
+last-requires : tie.Need-last-requires Inv-loop μ-loop
+last-requires c κs = omega arith
+
+sub-deep : tie.Need-sub-deep Inv-loop μ-loop
+sub-deep c = omega arith
+
+add-read : tie.Need-add-read Inv-loop μ-loop
+add-read c =
+    let here = c .before .before .before .before .before .before .loop in
+    omega (arith, here .inv .4 (omega arith) .0)
+
+loop-again : tie.Need-loop-again Inv-loop μ-loop
+loop-again c =
+    let test = c .before .before .before .before .before in
+    let here = test .before .loop in
+    let start = test .before .before .before in
+    let so = here .inv .4 (omega arith) in
+    let bound = so .0 in
+    let few : here .read < 4096 = omega arith in
+    let l = c .before .before .last .ensures (not-false _ (c .before .if2 .left)) in (
+      omega arith,
+      omega arith,
+      omega arith,
+      omega arith,
+      λ h. (
+        omega arith,
+        into _ (start .args .from) (start .args .end) (start .args .left) _ (here .i) (here .read) (here .deep) (start .pre .2) (test .loop-test .taken) few (so .1) (omega arith) (omega arith) (omega arith) l,
+      ),
+    )
 
 leaf-requires : tie.Need-leaf-requires Inv-loop μ-loop
 leaf-requires c κs = omega arith
 
-returns : tie.Need-returns Inv-loop μ-loop
-returns c = λ some depth deep base fuel enough. absurd (omega arith)
+add-read-2 : tie.Need-add-read-2 Inv-loop μ-loop
+add-read-2 c =
+    let here = c .before .before .before .before .before .loop in
+    omega (arith, here .inv .4 (omega arith) .0)
 
-add-read : tie.Need-add-read Inv-loop μ-loop
-add-read c = omega (arith, c .before .before .before .loop .inv .2 (omega arith) .0)
+loop-less-2 : tie.Need-loop-less-2 Inv-loop μ-loop
+loop-less-2 c = omega (arith, c .before .leaf .ensures .1 (omega arith) .0)
 
-loop-less : tie.Need-loop-less Inv-loop μ-loop
-loop-less c = omega (arith, c .before .leaf .ensures .1 (omega arith) .0)
-
-loop-again : tie.Need-loop-again Inv-loop μ-loop
-loop-again c =
-    let back4 = c .before .before .before .before in
-    let here = c .before .before .before .loop in
-    let start = back4 .before in
-    let few : here .read < 4096 = omega (arith, here .inv .2 (omega arith) .0) in (
+loop-again-2 : tie.Need-loop-again-2 Inv-loop μ-loop
+loop-again-2 c =
+    let test = c .before .before .before .before in
+    let here = test .before .loop in
+    let start = test .before .before .before in
+    let so = here .inv .4 (omega arith) in
+    let bound = so .0 in
+    let few : here .read < 4096 = omega arith in
+    let r = c .before .leaf .result in
+    let far = c .before .leaf .ensures .1 (omega arith) in
+    let on = far .0 in (
       omega arith,
-      omega (arith, c .before .leaf .ensures .1 (omega arith) .0),
+      omega arith,
+      omega arith,
+      omega arith,
       λ h. (
-        omega (arith, c .before .leaf .ensures .1 (omega arith) .0, here .inv .2 (omega arith) .0),
-        step _ (start .args .from) (start .args .end) _ (here .i) _ (c .before .leaf .result) (start .pre .2) (c .before .before .loop-test .taken) few (c .before .leaf .ensures .1 (omega arith) .1 h) (here .inv .2 (omega arith) .1),
+        omega arith,
+        one-more _ (start .args .from) (start .args .end) (start .args .left) _ (here .i) (here .read) (here .deep) (start .pre .2) (test .loop-test .taken) few (so .1) r (here .inv .2) (far .1 h),
       ),
     )
 
-returns-2 : tie.Need-returns-2 Inv-loop μ-loop
-returns-2 c = λ some depth deep.
+returns-4 : tie.Need-returns-4 Inv-loop μ-loop
+returns-4 c = λ some.
     let here = c .before .before .loop in
     let start = c .before .before .before .before in
-    here .inv .2 (omega arith) .1 depth _ deep (rw (c .if2 .taken) (fills-none _ (start .args .end) depth _ (start .pre .2)))
-
-returns-3 : tie.Need-returns-3 Inv-loop μ-loop
-returns-3 c = λ some depth deep base fuel enough. absurd (omega arith)
+    here .inv .4 (omega arith) .1 _ (rw (c .if5 .taken) (fills-none _ (start .args .end) (17 - here .deep) _ (start .pre .2)))
 
 pub leaves-spec : {M : Type 1} → statement M
 leaves-spec =
@@ -71,12 +104,21 @@ leaves-spec =
     (tie.spec
     Inv-loop
     μ-loop
-    loop-holds
-    add-loop
-    leaf-requires
-    returns
+    (λ c. (omega arith, omega arith, omega arith, omega arith, λ h. (omega arith, λ m p. p)))
+    (λ c. omega arith)
+    (λ c. omega arith)
+    last-requires
+    (λ c some base fuel enough. absurd (omega arith))
+    (λ c some base fuel enough. absurd (omega arith))
+    sub-deep
     add-read
-    loop-less
+    (λ c. omega arith)
+    (λ c. omega arith)
     loop-again
-    returns-2
-    returns-3)
+    leaf-requires
+    (λ c some base fuel enough. absurd (omega arith))
+    add-read-2
+    loop-less-2
+    loop-again-2
+    returns-4
+    (λ c some base fuel enough. absurd (omega arith)))

@@ -1,12 +1,11 @@
 -- The OID has three octets, or is compared with the document type list.
 use mathlib.Core.Path.{_≡_, sym, ap, _∙_}
 use native.Mathlib.Omega.{arith}
+use borrow.Author.Needs.{needs}
 use borrow.Author.Tests.{ne-eqb}
 use Rattle.octets.specs.Alike.{alike}
-use Rattle.extensions.specs.Extensions.{present, hasOid, oidOf}
 use Rattle.octets.proofs.Likeness.{three}
-use Rattle.extensions.proofs.Slots.{slot-types, slot-none}
-use borrow.Author.Needs.{needs}
+use Rattle.extensions.specs.Extensions.{present, hasOid, oidOf}
 use Rattle.extensions.proofs.slot.slot_of.Statement.{statement}
 use Rattle.extensions.proofs.slot.slot_of.Tie as tie
 
@@ -20,9 +19,10 @@ returns-2 c =
     let back4 = c .before .before .before .before in
     record {
       there = rw (back4 .before .before .before .extension .given .1, ne-eqb (c .slot-by .result) 24 (λ q. omega (arith, c .slot-by .ensures .0)));
-      each =
-          let back4 = c .before .before .before .before in
-          λ k l. c .slot-by .ensures .1 k l ∙ (ap (λ o. alike o (oidOf k)) (sym (three _ (c .before .before .before .before .if1 .taken)) ∙ back4 .before .contents .ensures) ∙ rw (back4 .before .before .before .extension .given .1));
+      each = λ k l.
+          c .slot-by .ensures .1 k l
+          ∙ (ap (λ o. alike o (oidOf k)) (sym (three _ (back4 .if1 .taken)) ∙ back4 .before .contents .ensures)
+          ∙ rw (back4 .before .before .before .extension .given .1));
     }
 
 returns-3 : tie.Need-returns-3
@@ -30,21 +30,8 @@ unfolding hasOid present
 returns-3 c =
     let back4 = c .before .before .before .before in
     record {
-      there = rw (back4 .before .before .extension .given .1);
-      each =
-          let back4 = c .before .before .before .before in
-          λ k l. slot-types _ k l (sym (c .before .same .ensures) ∙ c .if2 .taken) ∙ rw (c .before .before .before .before .contents .ensures, back4 .before .before .extension .given .1);
-    }
-
-returns-4 : tie.Need-returns-4
-unfolding hasOid present
-returns-4 c =
-    let back4 = c .before .before .before .before in
-    record {
-      there = rw (back4 .before .before .extension .given .1);
-      each =
-          let back4 = c .before .before .before .before in
-          λ k l. slot-none _ k l (c .before .before .before .if1 .left) (sym (c .before .same .ensures) ∙ c .if2 .left) ∙ rw (c .before .before .before .before .contents .ensures, back4 .before .before .extension .given .1);
+      there = rw (back4 .extension .given .1, ne-eqb (c .slot-apart .result) 24 (λ q. omega (arith, c .slot-apart .ensures .0)));
+      each = λ k l. c .slot-apart .ensures .1 k l ∙ rw (c .before .before .contents .ensures, back4 .extension .given .1);
     }
 
 pub slot-of-spec : {M : Type 1} → statement M
@@ -60,7 +47,5 @@ slot-of-spec =
     (λ c. search needs)
     (λ c κs. search needs)
     returns-2
-    (λ c. search needs)
     (λ c κs. search needs)
-    returns-3
-    returns-4)
+    returns-3)

@@ -1,0 +1,231 @@
+-- What holds at the start of a round holds at that of the next, and what a round settles is the answer.
+use Prim.Native.Nat.{ℕ, _-_, _<_, _≤_}
+use mathlib.Core.Path.{_≡_, refl, sym, _∙_}
+use mathlib.Core.List.{List}
+use native.Mathlib.Omega.{arith}
+use borrow.Author.Needs.{needs}
+use lib.ListN.{length, length-set}
+use Rattle.image.specs.Index.{entryCount}
+use Rattle.chain.proofs.DirectMeans.{direct-answer}
+use Rattle.chain.proofs.FirstRound.{first-round}
+use Rattle.chain.proofs.NextRound.{next-round, closed-answer}
+use Rattle.chain.proofs.RoundsHold.{Round, round-answer, no-signer, settled, unsettled, unasked}
+use Rattle.chain.proofs.rounds.chain_home.Statement.{statement}
+use Rattle.chain.proofs.rounds.chain_home.Tie as tie
+
+-- what holds before each round
+record Turn (image table : List ℕ) (places moment target first second round : ℕ) (near : List ℕ) (rows : List (List ℕ)) (counting roles : List ℕ) : Type 0 where
+  all : places ≡ entryCount image
+  small : places ≤ 96
+  there : target < places
+  early : round ≤ 3
+  slots : length rows ≡ 96
+  holds : Round first second image table moment target round near rows counting roles
+
+abbrev Inv-loop : tie.InvT-loop
+Inv-loop image table places moment target first second rows₀ near₀ counting roles₀ two round₀ rows near roles round =
+    Turn image table places moment target first second round near rows counting roles
+
+abbrev μ-loop : tie.MeasureT-loop
+μ-loop image table places moment target first second rows₀ near₀ counting roles₀ two round₀ rows near roles round = 4 - round
+
+array-read-first : tie.Need-array-read-first Inv-loop μ-loop
+array-read-first c = omega arith
+
+array-read-second : tie.Need-array-read-second Inv-loop μ-loop
+array-read-second c = omega arith
+
+mul-rows : tie.Need-mul-rows Inv-loop μ-loop
+mul-rows c = omega (arith, c .before .before .pre .1, c .before .before .pre .2)
+
+array-set-from-rows : tie.Need-array-set-from-rows Inv-loop μ-loop
+array-set-from-rows c = omega (arith, c .before .before .pre .1, c .before .before .pre .2)
+
+array-write-opened : tie.Need-array-write-opened Inv-loop μ-loop
+array-write-opened c = omega (arith, c .before .before .pre .1, c .before .before .pre .2)
+
+near-first-requires : tie.Need-near-first-requires Inv-loop μ-loop
+near-first-requires c κs = c .before .before .pre .1
+
+open-items-requires : tie.Need-open-items-requires Inv-loop μ-loop
+open-items-requires c κs = (c .before .before .before .before .pre .1, rw length-set refl)
+
+counting-lists-requires : tie.Need-counting-lists-requires Inv-loop μ-loop
+counting-lists-requires c κs =
+    let back4 = c .before .before .before .before in
+    back4 .before .before .pre .1
+
+roles-of-requires : tie.Need-roles-of-requires Inv-loop μ-loop
+roles-of-requires c κs =
+    let back4 = c .before .before .before .before in
+    let back8 = back4 .before .before .before .before in
+    back8 .pre .1
+
+array-read-if1 : tie.Need-array-read-if1 Inv-loop μ-loop
+array-read-if1 c =
+    let back4 = c .before .before .before .before in
+    let back8 = back4 .before .before .before .before in
+    omega (arith, back8 .before .pre .1, back8 .before .pre .2)
+
+returns : tie.Need-returns Inv-loop μ-loop
+returns c =
+    let back4 = c .before .before .before .before in
+    let back8 = back4 .before .before .before .before in
+    no-signer _ _ _ _ _ _ _ (back8 .before .before .before .pre .0) {roles = c .before .before .roles-of .result} (first-round _ _ _ _ _ (back8 .before .before .before .pre .0) (back8 .near-first .result) (back8 .near-first .ensures) (back8 .before .before .before .args .t6) (back8 .before .before .before .pre .1) (back8 .before .before .before .pre .2) (back8 .before .before .before .pre .3) (back8 .before .before .before .pre .4) (back8 .before .before .before .pre .5) (back4 .before .before .open-items .ensures .1) (c .before .before .before .before .counting-lists .ensures) (c .before .before .roles-of .ensures)) (back8 .before .before .before .pre .2) (c .before .if1 .taken) (c .no-chain .ensures)
+
+direct-chain-requires : tie.Need-direct-chain-requires Inv-loop μ-loop
+direct-chain-requires c κs =
+    let back4 = c .before .before .before .before in
+    let back8 = back4 .before .before .before .before in
+    (back8 .before .before .before .pre .1, back8 .before .before .before .pre .2)
+
+returns-2 : tie.Need-returns-2 Inv-loop μ-loop
+returns-2 c =
+    let back4 = c .before .before .before .before in
+    let back8 = back4 .before .before .before .before in
+    let back12 = back8 .before .before .before .before in
+    direct-answer _ _ _ _ _ _ _ (back12 .before .pre .0) (first-round _ _ _ _ _ (back12 .before .pre .0) (back8 .before .before .near-first .result) (back8 .before .before .near-first .ensures) (back12 .before .args .t6) (back12 .before .pre .1) (back12 .before .pre .2) (back12 .before .pre .3) (back12 .before .pre .4) (back12 .before .pre .5) (back8 .open-items .ensures .1) (back4 .before .before .counting-lists .ensures) (c .before .before .before .before .roles-of .ensures)) (back12 .before .pre .2) (c .before .before .before .if1 .left) (c .before .direct-chain .ensures (c .if2 .taken))
+
+loop-holds : tie.Need-loop-holds Inv-loop μ-loop
+loop-holds c =
+    let back4 = c .before .before .before .before in
+    let back8 = back4 .before .before .before .before in
+    let back12 = back8 .before .before .before .before in
+    record {
+      all = back12 .before .pre .0;
+      small = back12 .before .pre .1;
+      there = back12 .before .pre .2;
+      early = omega arith;
+      slots = back8 .open-items .ensures .0;
+      holds = first-round _ _ _ _ _ (back12 .before .pre .0) (back8 .before .before .near-first .result) (back8 .before .before .near-first .ensures) (back12 .before .args .t6) (back12 .before .pre .1) (back12 .before .pre .2) (back12 .before .pre .3) (back12 .before .pre .4) (back12 .before .pre .5) (back8 .open-items .ensures .1) (back4 .before .before .counting-lists .ensures) (c .before .before .before .before .roles-of .ensures);
+    }
+
+add-round : tie.Need-add-round Inv-loop μ-loop
+add-round c = omega (arith, c .loop .inv .early)
+
+near-next-requires : tie.Need-near-next-requires Inv-loop μ-loop
+near-next-requires c κs = c .loop .inv .small
+
+unchanged-requires : tie.Need-unchanged-requires Inv-loop μ-loop
+unchanged-requires c κs = c .before .loop .inv .small
+
+searched-requires : tie.Need-searched-requires Inv-loop μ-loop
+searched-requires c κs = c .before .before .before .before .loop .inv .small
+
+returns-3 : tie.Need-returns-3 Inv-loop μ-loop
+returns-3 c =
+    let back4 = c .before .before .before .before in
+    closed-answer _ _ _ _ _ _ _ (back4 .before .loop .inv .all) (back4 .before .loop .inv .holds) (c .before .before .before .before .near-next .ensures) (back4 .before .loop .inv .small) (c .searched .ensures) (c .before .before .before .unchanged .ensures (c .before .before .if3 .taken))
+
+open-items-requires-2 : tie.Need-open-items-requires-2 Inv-loop μ-loop
+open-items-requires-2 c κs = (c .before .before .before .before .loop .inv .small, c .before .before .before .before .loop .inv .slots)
+
+roles-of-requires-2 : tie.Need-roles-of-requires-2 Inv-loop μ-loop
+roles-of-requires-2 c κs =
+    let back4 = c .before .before .before .before in
+    back4 .before .before .loop .inv .small
+
+worthwhile-requires : tie.Need-worthwhile-requires Inv-loop μ-loop
+worthwhile-requires c κs =
+    let back4 = c .before .before .before .before in
+    let back8 = back4 .before .before .before .before in
+    back8 .loop .inv .small
+
+searched-requires-2 : tie.Need-searched-requires-2 Inv-loop μ-loop
+searched-requires-2 c κs =
+    let back4 = c .before .before .before .before in
+    let back8 = back4 .before .before .before .before in
+    back8 .before .before .before .loop .inv .small
+
+enough-requires : tie.Need-enough-requires Inv-loop μ-loop
+enough-requires c κs =
+    let back4 = c .before .before .before .before in
+    let back8 = back4 .before .before .before .before in
+    let back12 = back8 .before .before .before .before in
+    omega (arith, back12 .loop .inv .early)
+
+returns-4 : tie.Need-returns-4 Inv-loop μ-loop
+returns-4 c =
+    let back4 = c .before .before .before .before in
+    let back8 = back4 .before .before .before .before in
+    let back12 = back8 .before .before .before .before in
+    round-answer _ _ _ _ _ _ _ (back12 .before .before .loop .inv .all) (next-round _ _ _ _ _ _ _ (back12 .before .before .loop .inv .all) (back12 .before .before .loop .inv .holds) (back12 .before .near-next .ensures) (back12 .before .before .loop .inv .there) (back8 .before .open-items2 .ensures .1) (back4 .before .before .before .roles-of2 .ensures)) (back12 .before .before .loop .inv .small) (c .before .before .searched2 .ensures) (settled _ _ (sym (c .before .enough .ensures) ∙ c .if5 .taken))
+
+loop-less : tie.Need-loop-less Inv-loop μ-loop
+loop-less c =
+    let back4 = c .before .before .before .before in
+    let back8 = back4 .before .before .before .before in
+    let back12 = back8 .before .before .before .before in
+    omega (arith, back12 .before .before .loop .inv .early)
+
+loop-again : tie.Need-loop-again Inv-loop μ-loop
+loop-again c =
+    let back4 = c .before .before .before .before in
+    let back8 = back4 .before .before .before .before in
+    let back12 = back8 .before .before .before .before in
+    let z = unsettled _ _ (sym (c .before .enough .ensures) ∙ c .if5 .left) in
+    record {
+      all = back12 .before .before .loop .inv .all;
+      small = back12 .before .before .loop .inv .small;
+      there = back12 .before .before .loop .inv .there;
+      early = omega (arith, z, back12 .before .before .loop .inv .early);
+      slots = back8 .before .open-items2 .ensures .0;
+      holds = next-round _ _ _ _ _ _ _ (back12 .before .before .loop .inv .all) (back12 .before .before .loop .inv .holds) (back12 .before .near-next .ensures) (back12 .before .before .loop .inv .there) (back8 .before .open-items2 .ensures .1) (back4 .before .before .before .roles-of2 .ensures);
+    }
+
+loop-less-2 : tie.Need-loop-less-2 Inv-loop μ-loop
+loop-less-2 c =
+    let back4 = c .before .before .before .before in
+    let back8 = back4 .before .before .before .before in
+    omega (arith, back8 .before .before .loop .inv .early)
+
+loop-again-2 : tie.Need-loop-again-2 Inv-loop μ-loop
+loop-again-2 c =
+    let back4 = c .before .before .before .before in
+    let back8 = back4 .before .before .before .before in
+    let z = unasked (c .before .worthwhile .ensures) (c .if4 .left) in
+    record {
+      all = back8 .before .before .loop .inv .all;
+      small = back8 .before .before .loop .inv .small;
+      there = back8 .before .before .loop .inv .there;
+      early = omega (arith, z, back8 .before .before .loop .inv .early);
+      slots = back4 .before .open-items2 .ensures .0;
+      holds = next-round _ _ _ _ _ _ _ (back8 .before .before .loop .inv .all) (back8 .before .before .loop .inv .holds) (back8 .before .near-next .ensures) (back8 .before .before .loop .inv .there) (back4 .before .open-items2 .ensures .1) (c .before .before .before .roles-of2 .ensures);
+    }
+
+pub chain-home-spec : {M : Type 1} → statement M
+chain-home-spec =
+    tie.close
+    (tie.spec
+    Inv-loop
+    μ-loop
+    array-read-first
+    array-read-second
+    mul-rows
+    array-set-from-rows
+    array-write-opened
+    near-first-requires
+    open-items-requires
+    counting-lists-requires
+    roles-of-requires
+    array-read-if1
+    (λ c κs. search needs)
+    returns
+    direct-chain-requires
+    returns-2
+    loop-holds
+    add-round
+    near-next-requires
+    unchanged-requires
+    searched-requires
+    returns-3
+    open-items-requires-2
+    roles-of-requires-2
+    worthwhile-requires
+    searched-requires-2
+    enough-requires
+    returns-4
+    loop-less
+    loop-again
+    loop-less-2
+    loop-again-2)

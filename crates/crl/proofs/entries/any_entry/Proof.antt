@@ -1,0 +1,55 @@
+-- One case for each shape of an entry, and one where no element stands.
+use mathlib.Core.Path.{refl, sym, _∙_}
+use borrow.Author.Needs.{needs}
+use Rattle.crl.specs.Entries.{shaped, timely, calm}
+use Rattle.crl.proofs.Digits.{never}
+use Rattle.crl.proofs.entries.any_entry.Statement.{statement}
+use Rattle.crl.proofs.entries.any_entry.Tie as tie
+
+returns : tie.Need-returns
+returns c = record { some = λ no. never no; none = λ yes. sym (c .before .before .element-at .ensures) ∙ c .enum-told .given .1 }
+
+returns-2 : tie.Need-returns-2
+unfolding shaped timely calm
+returns-2 c =
+    let is = sym (c .before .before .entry-of .ensures) ∙ c .enum-told2 .given .1 in
+    record {
+      some = λ yes. record { entry = _; found = sym (c .before .before .before .before .before .before .element-at .ensures) ∙ c .before .before .before .before .e .given .1; ends = refl; fit = rw is; timed = rw is; calmed = rw is };
+      none = λ no. never (sym no);
+    }
+
+returns-3 : tie.Need-returns-3
+unfolding shaped timely calm
+returns-3 c =
+    let is = sym (c .before .before .before .before .entry-of .ensures) ∙ c .before .before .time .given .1 in
+    record {
+      some = λ yes. record { entry = _; found = sym (c .before .before .before .before .before .before .before .before .element-at .ensures) ∙ c .before .before .before .before .before .before .e .given .1; ends = refl; fit = rw is; timed = rw is (c .is-time .ensures); calmed = rw is };
+      none = λ no. never (sym no);
+    }
+
+returns-4 : tie.Need-returns-4
+unfolding shaped timely calm
+returns-4 c =
+    let is = sym (c .before .before .before .before .entry-of .ensures) ∙ c .before .before .time2 .given .1 in
+    record {
+      some = λ yes. record { entry = _; found = sym (c .before .before .before .before .before .before .before .before .element-at .ensures) ∙ c .before .before .before .before .before .before .e .given .1; ends = refl; fit = rw is; timed = rw is (c .is-time2 .ensures); calmed = rw is };
+      none = λ no. never (sym no);
+    }
+
+pub any-entry-spec : {M : Type 1} → statement M
+any-entry-spec =
+    tie.close
+    (tie.spec
+    (λ c κs. search needs)
+    (λ c. search needs)
+    (λ c. search needs)
+    returns
+    (λ c κs. search needs)
+    (λ c. search needs)
+    (λ c. search needs)
+    (λ c κs. search needs)
+    (λ c. search needs)
+    (λ c κs. search needs)
+    returns-2
+    returns-3
+    returns-4)

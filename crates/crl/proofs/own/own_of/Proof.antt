@@ -1,0 +1,26 @@
+-- The pass tells the first three, and its slots the other two.
+use native.Mathlib.Omega.{arith}
+use borrow.Author.Needs.{needs}
+use Rattle.extensions.specs.Extensions.{oidOf, lookupOf, heldOf}
+use Rattle.crl.specs.Own.{ownOf}
+use Rattle.crl.specs.Rules.{keyThere, numberThere}
+use Rattle.crl.proofs.OwnExtensions.{there-told}
+use Rattle.crl.proofs.own.own_of.Statement.{statement}
+use Rattle.crl.proofs.own.own_of.Tie as tie
+
+returns : tie.Need-returns
+unfolding ownOf keyThere numberThere oidOf heldOf
+returns c =
+    let seen = c .before .before .before .one-pass .ensures in
+    let s = c .before .before .before .before .before .args .item .now in
+    let e = c .before .before .before .before .before .args .extensions in
+    rw (
+      seen .shaped,
+      seen .marked,
+      seen .doubled,
+      there-told (lookupOf s e (oidOf 21)) (seen .placed .each 21 (omega arith)),
+      there-told (lookupOf s e (oidOf 6)) (seen .placed .each 6 (omega arith)),
+    )
+
+pub own-of-spec : {M : Type 1} → statement M
+own-of-spec = tie.close (tie.spec (λ c κs. search needs) (λ c. search needs) (λ c. search needs) returns)

@@ -1,0 +1,77 @@
+-- The members before `at` have a slot or are no extensions; those from `at` on are left.
+use Prim.Native.Nat.{_-_, _≤_}
+use mathlib.Core.Path.{_≡_, refl, sym, _∙_}
+use native.Mathlib.Omega.{arith}
+use borrow.Author.Needs.{needs}
+use Rattle.elements.proofs.Members.{found-within}
+use Rattle.extensions.specs.Strange.{strangeFrom, met, none}
+use Rattle.extensions.proofs.Slotless.{strange-none, strange-passed, strange-absent, strange-skip, strange-met}
+use Rattle.extensions.proofs.stranger.stranger_from.Statement.{statement}
+use Rattle.extensions.proofs.stranger.stranger_from.Tie as tie
+
+abbrev Inv-loop : tie.InvT-loop
+Inv-loop item from end at₀ at = (from ≤ at) × (strangeFrom item from end ≡ strangeFrom item at end)
+
+abbrev μ-loop : tie.MeasureT-loop
+μ-loop item from end at₀ at = end - at
+
+loop-holds : tie.Need-loop-holds Inv-loop μ-loop
+loop-holds c = (omega arith, refl)
+
+loop-less : tie.Need-loop-less Inv-loop μ-loop
+loop-less c = let m = c .before .slotted-end .ensures (c .if1 .taken) in omega (arith, m .ends, found-within _ _ _ (m .found))
+
+loop-again : tie.Need-loop-again Inv-loop μ-loop
+loop-again c =
+    let m = c .before .slotted-end .ensures (c .if1 .taken) in
+    (omega (arith, m .ends, found-within _ _ _ (m .found)), c .before .before .loop .inv .1 ∙ strange-passed _ _ _ m)
+
+returns : tie.Need-returns Inv-loop μ-loop
+returns c = none (c .before .before .before .before .before .loop .inv .1 ∙ strange-none _ _ _ (sym (c .before .before .element-at .ensures) ∙ c .enum-told .given .1))
+
+returns-2 : tie.Need-returns-2 Inv-loop μ-loop
+returns-2 c =
+    let found = sym (c .before .before .before .before .before .before .before .before .before .element-at .ensures) ∙ c .before .before .before .before .before .before .before .e .given .1 in
+    let within = found-within _ _ _ found in
+    met {next = c .before .before .before .before .before .before .before .e .given .0 .0 .end} (c .before .before .before .before .before .before .before .before .before .before .before .before .loop .inv .0) (omega (arith, within)) (omega (arith, within)) (c .before .before .before .before .before .before .before .before .before .before .before .before .loop .inv .1)
+    (strange-met _ _ _ found (c .before .before .before .before .before .any-extension .ensures) (c .before .own .given .1) (c .before .before .before .before .slot-of .ensures) (c .before .before .before .if2 .taken))
+
+loop-less-2 : tie.Need-loop-less-2 Inv-loop μ-loop
+loop-less-2 c = omega (arith, found-within _ _ _ (sym (c .before .before .before .before .before .before .before .before .element-at .ensures) ∙ c .before .before .before .before .before .before .e .given .1))
+
+loop-again-2 : tie.Need-loop-again-2 Inv-loop μ-loop
+loop-again-2 c =
+    let found = sym (c .before .before .before .before .before .before .before .before .element-at .ensures) ∙ c .before .before .before .before .before .before .e .given .1 in
+    (omega (arith, found-within _ _ _ found, c .before .before .before .before .before .before .before .before .before .before .before .loop .inv .0), c .before .before .before .before .before .before .before .before .before .before .before .loop .inv .1 ∙ strange-absent _ _ _ found (c .before .before .before .before .any-extension .ensures) (c .enum-told2 .given .1))
+
+loop-less-3 : tie.Need-loop-less-3 Inv-loop μ-loop
+loop-less-3 c = omega (arith, found-within _ _ _ (sym (c .before .before .before .before .before .before .element-at .ensures) ∙ c .before .before .before .before .e .given .1))
+
+loop-again-3 : tie.Need-loop-again-3 Inv-loop μ-loop
+loop-again-3 c =
+    let found = sym (c .before .before .before .before .before .before .element-at .ensures) ∙ c .before .before .before .before .e .given .1 in
+    (omega (arith, found-within _ _ _ found, c .before .before .before .before .before .before .before .before .before .loop .inv .0), c .before .before .before .before .before .before .before .before .before .loop .inv .1 ∙ strange-skip _ _ _ found (c .before .before .any-extension .ensures) (c .before .slot-of .ensures) (c .if2 .left))
+
+pub stranger-from-spec : {M : Type 1} → statement M
+stranger-from-spec =
+    tie.close
+    (tie.spec
+    Inv-loop
+    μ-loop
+    loop-holds
+    (λ c κs. search needs)
+    loop-less
+    loop-again
+    (λ c κs. search needs)
+    (λ c. search needs)
+    (λ c. search needs)
+    returns
+    (λ c κs. search needs)
+    (λ c κs. search needs)
+    (λ c. search needs)
+    returns-2
+    (λ c. search needs)
+    loop-less-2
+    loop-again-2
+    loop-less-3
+    loop-again-3)
