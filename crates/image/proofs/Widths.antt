@@ -1,7 +1,7 @@
 -- What is known of an index entry's octets, whatever the version: all that any other proof uses of `width`.
-use Prim.Native.Nat.{ℕ, suc, _+_, _-_, _*_, _≤_, _<_}
+use Prim.Native.Nat.{ℕ, _+_, _*_, _≤_, _<_}
 use mathlib.Core.Path.{_≡_, refl}
-use native.Mathlib.Nat.{mul-le-mul-right}
+use native.Mathlib.Nat.{mul-le-mul-left, mul-le-mul-right}
 use native.Mathlib.Omega.{arith}
 use lib.ListN.{length}
 use Rattle.octets.specs.Octets.{big}
@@ -17,15 +17,14 @@ pub width-most : (version : ℕ) → width version ≤ 12
 unfolding width
 width-most version = omega arith
 
--- the octets of some entries, and of one more
+-- the octets of some entries
 pub widths : (version n : ℕ) {wide : ℕ} → wide ≡ width version → (8 * n ≤ wide * n) × (wide * n ≤ 12 * n)
 widths version n e =
     (mul-le-mul-right n (omega (arith, e, width-least version)), mul-le-mul-right n (omega (arith, e, width-most version)))
 
-pub width-more : (wide left : ℕ) → 0 < left → wide * left ≡ wide + wide * (left - 1)
-width-more wide (suc left) h =
-    let less : suc left - 1 ≡ left = omega arith in
-    rw less (omega arith)
+-- an entry ends where the next begins, or the index does
+pub width-within : (wide i n : ℕ) → i < n → wide * i + wide ≤ wide * n
+width-within wide i n h = omega (arith, mul-le-mul-left wide h)
 
 pub entry-length :
     (version kind flags size offset : ℕ) → length (entryBytes version kind flags size offset) ≡ width version

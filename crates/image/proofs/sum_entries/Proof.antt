@@ -8,7 +8,7 @@ use lib.ListN.{length}
 use Rattle.image.specs.declared.IndexEntry.{IndexEntry}
 use Rattle.image.specs.Rules.{entryGood, sumOf}
 use Rattle.image.proofs.Opening.{sum-more, sum-unfit}
-use Rattle.image.proofs.Widths.{width-more}
+use Rattle.image.proofs.Widths.{width-within}
 use Rattle.image.proofs.sum_entries.Statement.{statement}
 use Rattle.image.proofs.sum_entries.Tie as tie
 
@@ -24,13 +24,15 @@ loop-holds : tie.Need-loop-holds Inv-loop μ-loop
 loop-holds c = (omega arith, omega arith, omega arith, refl)
 
 -- the entry at hand and those behind it
-one-more : (c : tie.In-loop Inv-loop μ-loop) →
+within : (c : tie.In-loop Inv-loop μ-loop) →
     let wide = c .before .before .before .args .wide in
-    wide * c .before .loop .left ≡ wide + wide * (c .before .loop .left - 1)
-one-more c = width-more (c .before .before .before .args .wide) (c .before .loop .left) (c .loop-test .taken)
+    wide * (c .before .loop .left - 1) + wide ≤ wide * c .before .loop .left
+within c =
+    let left = c .before .loop .left in
+    width-within (c .before .before .before .args .wide) (left - 1) left (omega (arith, c .loop-test .taken))
 
 entry-at-requires : tie.Need-entry-at-requires Inv-loop μ-loop
-entry-at-requires c κs = omega (arith, one-more c)
+entry-at-requires c κs = omega (arith, within c)
 
 returns : tie.Need-returns Inv-loop μ-loop
 returns c =
@@ -43,7 +45,7 @@ add-sum : tie.Need-add-sum Inv-loop μ-loop
 add-sum c = omega (arith, c .before .before .before .entry-at .ensures .1)
 
 add-at : tie.Need-add-at Inv-loop μ-loop
-add-at c = omega (arith, one-more (c .before .before .before .before))
+add-at c = omega (arith, within (c .before .before .before .before))
 
 sub-left : tie.Need-sub-left Inv-loop μ-loop
 sub-left c = omega arith
@@ -63,7 +65,7 @@ loop-again c =
     let step : sumOf wide s (now .at) (now .left) (now .sum) ≡ sumOf wide s (now .at + wide) (now .left - 1) (now .sum + c .before .before .before .entry-at .result .length) =
     ap (λ n. sumOf wide s (now .at) n (now .sum)) (sym one)
     ∙ (more ∙ ap (λ (e : IndexEntry). sumOf wide s (now .at + wide) (now .left - 1) (now .sum + e .length)) (sym (c .before .before .before .entry-at .ensures .0))) in
-    (omega arith, omega (arith, one-more back4), omega (arith, c .before .before .before .entry-at .ensures .1), now .inv .3 ∙ step)
+    (omega arith, omega (arith, within back4), omega (arith, c .before .before .before .entry-at .ensures .1), now .inv .3 ∙ step)
 
 returns-2 : tie.Need-returns-2 Inv-loop μ-loop
 unfolding sumOf
