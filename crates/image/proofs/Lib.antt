@@ -1,3 +1,4 @@
 pub mod Widths
 pub mod Fields
 pub mod Opening
+pub mod Places

@@ -1,5 +1,5 @@
 -- The entry of a place is that of the item at that place, and its octets lie within the image.
-use mathlib.Core.Path.{_≡_, refl, sym, _∙_, ap}
+use mathlib.Core.Path.{_≡_, refl, sym}
 use mathlib.Core.List.{List}
 use Prim.Native.Nat.{ℕ, zero, suc, _+_, _*_, _≤_, _<_}
 use native.Mathlib.Omega.{arith}
@@ -11,24 +11,13 @@ use Rattle.image.specs.declared.Opened.the-variants.{Image}
 use Rattle.image.specs.declared.Place.the-variants.{Is}
 use Rattle.image.specs.declared.Total.the-variants.{Sum}
 use Rattle.image.specs.Items.{Item}
-use Rattle.image.specs.Index.{entryAt, entryIn, itemAt, itemsFrom, itemsIn, indexStart, entryCount, versionIn, width}
+use Rattle.image.specs.Index.{entryAt, entryIn, itemAt, itemsIn, indexStart, entryCount, versionIn, width}
 use Rattle.image.specs.Rules.{sumOf, totalOf}
 use Rattle.image.specs.Answer.{openedOf, onPlace, placeOf, bytesIn, itemOf}
+use Rattle.image.proofs.Places.{item-from}
 use Rattle.roundtrip.specs.Tells.{Tells}
 use Rattle.roundtrip.proofs.Opening.{opened-holds}
 use Rattle.roundtrip.proofs.Again.{passed, sum-grows}
-
-item-from :
-    (wide : ℕ) (s : List ℕ) (left at place : ℕ) (default : Item) → place < left
-    → getD (itemsFrom wide s at left) place default ≡ itemAt s (entryAt s (at + wide * place))
-unfolding itemsFrom
-item-from wide s zero at place default h = absurd (omega arith)
-item-from wide s (suc left) at zero default h =
-    let here : at ≡ at + wide * 0 = omega arith in
-    ap (λ (n : ℕ). itemAt s (entryAt s n)) here
-item-from wide s (suc left) at (suc place) default h =
-    let there : at + wide + wide * place ≡ at + wide * suc place = omega arith in
-    item-from wide s left (at + wide) place default (omega arith) ∙ ap (λ (n : ℕ). itemAt s (entryAt s n)) there
 
 entry-within :
     (wide : ℕ) (s : List ℕ) (left at sum total place : ℕ) → place < left → sumOf wide s at left sum ≡ Sum total
