@@ -22,6 +22,10 @@ pub widths : (version n : ℕ) {wide : ℕ} → wide ≡ width version → (8 * 
 widths version n e =
     (mul-le-mul-right n (omega (arith, e, width-least version)), mul-le-mul-right n (omega (arith, e, width-most version)))
 
+-- the octets of an index
+pub index-small : (version n : ℕ) {wide : ℕ} → wide ≡ width version → n ≤ 96 → wide * n ≤ 65536
+index-small version n e few = omega (arith, widths version n e .1)
+
 -- an entry ends where the next begins, or the index does
 pub width-within : (wide i n : ℕ) → i < n → wide * i + wide ≤ wide * n
 width-within wide i n h = omega (arith, mul-le-mul-left wide h)

@@ -7,7 +7,7 @@ use borrow.Author.Tests.{le-leb, lt-leb, eq-eqb, ne-eqb, not-true, not-false}
 use Rattle.image.specs.Index.{indexStart, entryCount, versionIn, dayIn, width}
 use Rattle.image.specs.Rules.{rule1, rule2, rule3, rule4, rule5, rule6, rule7, totalOf, fit, summed}
 use Rattle.image.proofs.Opening.{breaks-1, breaks-2, breaks-3, breaks-4, breaks-5, breaks-6, breaks-7, keeps-all}
-use Rattle.image.proofs.Widths.{width-least, widths}
+use Rattle.image.proofs.Widths.{width-least, index-small}
 use borrow.Author.Needs.{needs}
 use Rattle.image.proofs.open.Statement.{statement}
 use Rattle.image.proofs.open.Tie as tie
@@ -82,10 +82,10 @@ ending c =
     rw (start (c .before), wide c, entries (back4 .before .before))
 
 -- the octets of the index are few
-few : (c : tie.After-width) → c .width .result * c .before .before .before .before .before .before .two2 .result ≤ 12 * 96
+few : (c : tie.After-width) → c .width .result * c .before .before .before .before .before .before .two2 .result ≤ 65536
 few c =
     let back4 = c .before .before .before .before in
-    omega (arith, back4 .before .if4 .left, widths _ (back4 .before .before .two2 .result) (c .width .ensures))
+    index-small _ (back4 .before .before .two2 .result) (c .width .ensures) (back4 .before .if4 .left)
 
 mul-if6 : tie.Need-mul-if6
 mul-if6 c = omega (arith, few c)

@@ -8,7 +8,7 @@ use borrow.Author.Tests.{not-true, not-false}
 use lib.ListN.{length, drop, length-append, length-take, length-drop}
 use Rattle.image.specs.Items.{trailerBytes}
 use Rattle.image.specs.Index.{width}
-use Rattle.image.proofs.Widths.{widths}
+use Rattle.image.proofs.Widths.{index-small}
 use Rattle.writer.specs.declared.Written.the-variants.{Length}
 use Rattle.writer.specs.Rows.{rowsBytes}
 use Rattle.writer.specs.Writing.{argumentsGood, sizeOf}
@@ -38,11 +38,11 @@ few c =
     arguments-tell (a .packed .now) (a .kinds .now) (a .flags .now) (a .lengths .now) (a .day) (good c) .0
 
 -- the octets of the index are few, and the image has as many as are said
-index-few : (c : tie.After-width) → c .width .result * length (c .before .before .before .before .before .before .before .before .args .kinds .now) ≤ 12 * 96
+index-few : (c : tie.After-width) → c .width .result * length (c .before .before .before .before .before .before .before .before .args .kinds .now) ≤ 65536
 index-few c =
     let back4 = c .before .before .before .before in
     let back8 = back4 .before .before .before .before in
-    omega (arith, few (c .before), widths 1 (length (back8 .args .kinds .now)) (c .width .ensures))
+    index-small 1 (length (back8 .args .kinds .now)) (c .width .ensures) (few (c .before))
 
 size : (c : tie.After-width) →
     let a = c .before .before .before .before .before .before .before .before .args in
