@@ -1,2 +1,4 @@
+pub mod Widths
 pub mod Fields
 pub mod Opening
+pub mod Places

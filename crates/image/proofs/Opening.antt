@@ -51,12 +51,12 @@ module _ (s : List ℕ) where
               keeps-all e = simp (one, two, three, four, five, six, e)
 
 -- one entry more
-module _ (s : List ℕ) (at left sum : ℕ) where
+module _ (wide : ℕ) (s : List ℕ) (at left sum : ℕ) where
   pub sum-more :
-      entryGood (entryAt s at) sum ≡ true → sumOf s at (suc left) sum ≡ sumOf s (at + 8) left (sum + entryAt s at .length)
+      entryGood (entryAt s at) sum ≡ true → sumOf wide s at (suc left) sum ≡ sumOf wide s (at + wide) left (sum + entryAt s at .length)
   unfolding sumOf
   sum-more e = simp e
 
-  pub sum-unfit : entryGood (entryAt s at) sum ≡ false → sumOf s at (suc left) sum ≡ Unfit
+  pub sum-unfit : entryGood (entryAt s at) sum ≡ false → sumOf wide s at (suc left) sum ≡ Unfit
   unfolding sumOf
   sum-unfit e = simp e

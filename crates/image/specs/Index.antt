@@ -23,6 +23,10 @@ versionIn s = field s (length s - 6) 2
 unfoldable pub dayIn : List ℕ → ℕ
 dayIn s = field s (length s - 4) 4
 
+-- the octets of an index entry, by the version: 8 in the one that there is
+unfoldable pub width : ℕ → ℕ
+width version = 8
+
 -- the index entry at an offset
 unfoldable pub entryAt : List ℕ → ℕ → IndexEntry
 entryAt s at =
@@ -30,17 +34,17 @@ entryAt s at =
 
 -- the entry of a place
 unfoldable pub entryIn : List ℕ → ℕ → IndexEntry
-entryIn s place = entryAt s (indexStart s + 8 * place)
+entryIn s place = entryAt s (indexStart s + width (versionIn s) * place)
 
 -- the item that an entry tells
 unfoldable pub itemAt : List ℕ → IndexEntry → Item
 itemAt s e = record { kind = e .kind; flags = e .flags; bytes = take (e .length) (drop (e .offset) s) }
 
--- the items of some places in a row
-unfoldable pub itemsFrom : List ℕ → ℕ → ℕ → List Item
-itemsFrom s at zero = []
-itemsFrom s at (suc left) = itemAt s (entryAt s at) ∷ itemsFrom s (at + 8) left
+-- the items of some places in a row, whose entries have so many octets each
+unfoldable pub itemsFrom : ℕ → List ℕ → ℕ → ℕ → List Item
+itemsFrom wide s at zero = []
+itemsFrom wide s at (suc left) = itemAt s (entryAt s at) ∷ itemsFrom wide s (at + wide) left
 
 -- the item list of an image: what chains stand on
 unfoldable pub itemsIn : List ℕ → List Item
-itemsIn s = itemsFrom s (indexStart s) (entryCount s)
+itemsIn s = itemsFrom (width (versionIn s)) s (indexStart s) (entryCount s)

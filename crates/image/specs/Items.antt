@@ -15,20 +15,21 @@ unfoldable pub packed : List Item → List ℕ
 packed [] = []
 packed (item ∷ rest) = item .bytes ++ packed rest
 
--- an index entry: kind, flags, length (2), offset (4)
-unfoldable pub entryBytes : ℕ → ℕ → ℕ → ℕ → List ℕ
-entryBytes kind flags size offset = kind ∷ flags ∷ (big 2 size ++ big 4 offset)
+-- an index entry, by the version: kind, flags, length (2), offset (4)
+unfoldable pub entryBytes : ℕ → ℕ → ℕ → ℕ → ℕ → List ℕ
+entryBytes version kind flags size offset = kind ∷ flags ∷ (big 2 size ++ big 4 offset)
 
 -- the entries, the first item standing at `offset`
-unfoldable pub indexBytes : ℕ → List Item → List ℕ
-indexBytes offset [] = []
-indexBytes offset (item ∷ rest) =
-    entryBytes (item .kind) (item .flags) (length (item .bytes)) offset ++ indexBytes (offset + length (item .bytes)) rest
+unfoldable pub indexBytes : ℕ → ℕ → List Item → List ℕ
+indexBytes version offset [] = []
+indexBytes version offset (item ∷ rest) =
+    entryBytes version (item .kind) (item .flags) (length (item .bytes)) offset
+    ++ indexBytes version (offset + length (item .bytes)) rest
 
--- the trailer: index start (4), entries (2), version 1 (2), day (4)
-unfoldable pub trailerBytes : ℕ → ℕ → ℕ → List ℕ
-trailerBytes start entries day = big 4 start ++ (big 2 entries ++ (big 2 1 ++ big 4 day))
+-- the trailer: index start (4), entries (2), version (2), day (4)
+unfoldable pub trailerBytes : ℕ → ℕ → ℕ → ℕ → List ℕ
+trailerBytes version start entries day = big 4 start ++ (big 2 entries ++ (big 2 version ++ big 4 day))
 
-unfoldable pub imageBytes : List Item → ℕ → List ℕ
-imageBytes items day =
-    packed items ++ (indexBytes 0 items ++ trailerBytes (length (packed items)) (length items) day)
+unfoldable pub imageBytes : ℕ → List Item → ℕ → List ℕ
+imageBytes version items day =
+    packed items ++ (indexBytes version 0 items ++ trailerBytes version (length (packed items)) (length items) day)

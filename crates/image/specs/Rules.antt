@@ -8,7 +8,7 @@ use Rattle.calendar.specs.Days.{realDay}
 use Rattle.image.specs.declared.IndexEntry.{IndexEntry}
 use Rattle.image.specs.declared.Total.{Total}
 use Rattle.image.specs.declared.Total.the-variants.{Sum, Unfit}
-use Rattle.image.specs.Index.{indexStart, entryCount, versionIn, dayIn, entryAt}
+use Rattle.image.specs.Index.{indexStart, entryCount, versionIn, dayIn, width, entryAt}
 
 -- 1: 12 to 262,144 bytes
 unfoldable pub rule1 : List ℕ → Bool
@@ -26,9 +26,9 @@ rule3 s = leb (entryCount s) 96
 unfoldable pub rule4 : List ℕ → Bool
 rule4 s = realDay 1950 2099 (dayIn s)
 
--- 5: index start + 8 x entries + 12 = image length
+-- 5: index start + width x entries + 12 = image length
 unfoldable pub rule5 : List ℕ → Bool
-rule5 s = eqb (indexStart s + 8 * entryCount s + 12) (length s)
+rule5 s = eqb (indexStart s + width (versionIn s) * entryCount s + 12) (length s)
 
 -- kind 1 to 4, flags 0 or 1 for an anchor and 0 for any other, length 1 to 16,384
 unfoldable pub fieldsGood : ℕ → ℕ → ℕ → Bool
@@ -40,13 +40,13 @@ unfoldable pub entryGood : IndexEntry → ℕ → Bool
 entryGood e sum = fieldsGood (e .kind) (e .flags) (e .length) && eqb (e .offset) sum
 
 -- 6: each entry; the sum of all lengths where each is good
-unfoldable pub sumOf : List ℕ → ℕ → ℕ → ℕ → Total
-sumOf s at zero sum = Sum sum
-sumOf s at (suc left) sum =
-    cond (entryGood (entryAt s at) sum) (sumOf s (at + 8) left (sum + entryAt s at .length)) Unfit
+unfoldable pub sumOf : ℕ → List ℕ → ℕ → ℕ → ℕ → Total
+sumOf wide s at zero sum = Sum sum
+sumOf wide s at (suc left) sum =
+    cond (entryGood (entryAt s at) sum) (sumOf wide s (at + wide) left (sum + entryAt s at .length)) Unfit
 
 unfoldable pub totalOf : List ℕ → Total
-totalOf s = sumOf s (indexStart s) (entryCount s) 0
+totalOf s = sumOf (width (versionIn s)) s (indexStart s) (entryCount s) 0
 
 unfoldable pub fit : Total → Bool
 fit (Sum sum) = true

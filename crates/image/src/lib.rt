@@ -8,9 +8,12 @@ ghost use Prim.Native.Nat.{_+_, _*_, _^_, _≤_, _<_};
 ghost use lib.Dec.{leb, eqb};
 ghost use lib.ListN.{length, take, drop};
 ghost use Rattle.octets.specs.Octets.{number};
-ghost use Rattle.image.specs.Index.{field, indexStart, entryAt, entryIn};
+ghost use Rattle.image.specs.Index.{field, indexStart, versionIn, width, entryAt, entryIn};
 ghost use Rattle.image.specs.Rules.{fieldsGood, entryGood, sumOf};
 ghost use Rattle.image.specs.Answer.{openedOf, openedFor, placeOf, itemOf};
+
+// The octets that an index entry of every version begins with: kind, flags, length, offset.
+const LEAST: usize = 8;
 
 // The number of entries and the day of a good image.
 pub enum Opened {
@@ -48,7 +51,8 @@ pub fn open(image: &[u8]) -> Opened
     if 262144 < n {
         return broken(1);
     }
-    if two(image, n - 6) != 1 {
+    let version = two(image, n - 6);
+    if version != 1 {
         return broken(2);
     }
     let entries = two(image, n - 8);
@@ -60,10 +64,11 @@ pub fn open(image: &[u8]) -> Opened
         return broken(4);
     }
     let start = four(image, n - 12);
-    if start + 8 * entries + 12 != n {
+    let wide = width(version);
+    if start + wide * entries + 12 != n {
         return broken(5);
     }
-    let Total::Sum(sum) = sum_entries(image, start, entries) else {
+    let Total::Sum(sum) = sum_entries(image, start, entries, wide) else {
         return broken(6);
     };
     if sum != start {
@@ -117,12 +122,19 @@ pub fn item(image: &[u8], place: u64) -> &[u8]
     part(image, e.offset, e.length)
 }
 
+// The octets of an index entry, by the version of the image.
+pub fn width(version: usize) -> usize
+    ensures { λ r. ⌜ r ≡ width version ⌝ }
+{
+    8
+}
+
 // The entry of a place as it stands in an image's index; octets beyond the end are not there, and zeros where there is none.
 pub fn entry_in(image: &[u8], place: usize) -> IndexEntry
     ensures { λ r. ⌜ r ≡ entryIn (now (image .entry)) place ⌝ }
 {
     let n = image.len();
-    if n / 8 < place {
+    if n / LEAST < place {
         return IndexEntry {
             kind: 0,
             flags: 0,
@@ -130,8 +142,8 @@ pub fn entry_in(image: &[u8], place: usize) -> IndexEntry
             offset: 0,
         };
     }
-    let at = index_start(image) + 8 * place;
-    if n < at + 8 {
+    let at = entry_start(image, place);
+    if n < at + LEAST {
         return entry_cut(image, at);
     }
     entry_at(image, at)
@@ -142,14 +154,22 @@ pub fn kind_in(image: &[u8], place: usize) -> usize
     ensures { λ r. ⌜ r ≡ entryIn (now (image .entry)) place .kind ⌝ }
 {
     let n = image.len();
-    if place <= n / 8 {
-        let kind_at = index_start(image) + 8 * place;
+    if place <= n / LEAST {
+        let kind_at = entry_start(image, place);
         if kind_at < n {
             return image[kind_at] as usize;
         }
     }
     let e = entry_in(image, place);
     e.kind
+}
+
+// Where the entry of a place starts, if so many of the least entries have room in the image: no sum wraps.
+fn entry_start(image: &[u8], place: usize) -> usize
+    requires { ⌜ 8 * place ≤ length (now image) ⌝ }
+    ensures { λ r. ⌜ (r ≡ indexStart (now (image .entry)) + width (versionIn (now (image .entry))) * place) × (r + 8 < 2 ^ 64) ⌝ }
+{
+    index_start(image) + width(version_in(image)) * place
 }
 
 fn index_start(image: &[u8]) -> usize
@@ -162,7 +182,17 @@ fn index_start(image: &[u8]) -> usize
     four(image, n - 12)
 }
 
-// The index entry at an offset, all of it there.
+fn version_in(image: &[u8]) -> usize
+    ensures { λ r. ⌜ r ≡ versionIn (now (image .entry)) ⌝ }
+{
+    let n = image.len();
+    if n < 6 {
+        return number(image, 0, 2);
+    }
+    two(image, n - 6)
+}
+
+// What the index entry at an offset begins with, all of it there.
 fn entry_at(image: &[u8], at: usize) -> IndexEntry
     requires { ⌜ at + 8 ≤ length (now image) ⌝ }
     ensures { λ r. ⌜ (r ≡ entryAt (now (image .entry)) at) × (r .length < 65536) ⌝ }
@@ -175,7 +205,7 @@ fn entry_at(image: &[u8], at: usize) -> IndexEntry
     }
 }
 
-// The index entry at an offset, of which some octets lie beyond the end.
+// The same where some of its octets lie beyond the end.
 fn entry_cut(image: &[u8], at: usize) -> IndexEntry
     requires { ⌜ at + 8 < 2 ^ 64 ⌝ }
     ensures { λ r. ⌜ r ≡ entryAt (now (image .entry)) at ⌝ }
@@ -227,9 +257,9 @@ fn number_of(c: &[u8]) -> usize
 }
 
 // The sum of the lengths of entries in a row, if each is good.
-fn sum_entries(image: &[u8], start: usize, entries: usize) -> Total
-    requires { ⌜ (start + 8 * entries + 12 ≤ length (now image)) × (entries ≤ 96) ⌝ }
-    ensures { λ r. ⌜ r ≡ sumOf (now (image .entry)) start entries 0 ⌝ }
+fn sum_entries(image: &[u8], start: usize, entries: usize, wide: usize) -> Total
+    requires { ⌜ (8 ≤ wide) × (start + wide * entries + 12 ≤ length (now image)) × (entries ≤ 96) ⌝ }
+    ensures { λ r. ⌜ r ≡ sumOf wide (now (image .entry)) start entries 0 ⌝ }
 {
     let mut sum = 0;
     let mut left = entries;
@@ -240,7 +270,7 @@ fn sum_entries(image: &[u8], start: usize, entries: usize) -> Total
             return Total::Unfit;
         }
         sum += e.length;
-        at += 8;
+        at += wide;
         left -= 1;
     }
     Total::Sum(sum)

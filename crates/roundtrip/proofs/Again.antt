@@ -13,7 +13,7 @@ use Rattle.tree.proofs.Numbers.{octets-take, octets-drop}
 use Rattle.image.specs.declared.IndexEntry.{IndexEntry}
 use Rattle.image.specs.declared.Total.the-variants.{Sum, Unfit}
 use Rattle.image.specs.Items.{Item, packed, entryBytes, indexBytes, trailerBytes, imageBytes}
-use Rattle.image.specs.Index.{entryAt, itemAt, itemsFrom, itemsIn, indexStart, entryCount, dayIn}
+use Rattle.image.specs.Index.{entryAt, itemAt, itemsFrom, itemsIn, indexStart, entryCount, versionIn, dayIn, width}
 use Rattle.image.specs.Rules.{fieldsGood, entryGood, sumOf, totalOf}
 use Rattle.roundtrip.specs.Good.{GoodItems, no-item, good-item, Fits}
 use Rattle.roundtrip.proofs.Entries.{entryOctets, entry-again}
@@ -21,14 +21,15 @@ use Rattle.roundtrip.proofs.Trailer.{trailerOf, trailer-again}
 use Rattle.roundtrip.proofs.Opening.{Holds}
 
 -- an entry that passed, and the sum behind it
-pub record Passed (s : List ℕ) (at left sum total : ℕ) : Type 0 where
+pub record Passed (wide : ℕ) (s : List ℕ) (at left sum total : ℕ) : Type 0 where
   pub fields : fieldsGood (entryAt s at .kind) (entryAt s at .flags) (entryAt s at .length) ≡ true
   pub offset : entryAt s at .offset ≡ sum
-  pub others : sumOf s (at + 8) left (sum + entryAt s at .length) ≡ Sum total
+  pub others : sumOf wide s (at + wide) left (sum + entryAt s at .length) ≡ Sum total
 
-pub passed : (s : List ℕ) (at left sum total : ℕ) → sumOf s at (suc left) sum ≡ Sum total → Passed s at left sum total
+pub passed :
+    (wide : ℕ) (s : List ℕ) (at left sum total : ℕ) → sumOf wide s at (suc left) sum ≡ Sum total → Passed wide s at left sum total
 unfolding sumOf entryGood
-passed s at left sum total e =
+passed wide s at left sum total e =
     let one : IndexEntry = entryAt s at in
     by-test (entryGood one sum)
     (λ t. let both = and-eq-true-iff (fieldsGood (one .kind) (one .flags) (one .length)) _ .0 t in
@@ -37,45 +38,46 @@ passed s at left sum total e =
     let z : _≡_ {A = ℕ} 0 1 = cc in
     absurd (omega arith)
 
-pub sum-grows : (s : List ℕ) (left at sum total : ℕ) → sumOf s at left sum ≡ Sum total → sum ≤ total
+pub sum-grows : (wide : ℕ) (s : List ℕ) (left at sum total : ℕ) → sumOf wide s at left sum ≡ Sum total → sum ≤ total
 unfolding sumOf
-sum-grows s zero at sum total e = let same : sum ≡ total = cc in omega arith
-sum-grows s (suc left) at sum total e =
-    omega (arith, sum-grows s left (at + 8) (sum + entryAt s at .length) total (passed s at left sum total e .others))
+sum-grows wide s zero at sum total e = let same : sum ≡ total = cc in omega arith
+sum-grows wide s (suc left) at sum total e =
+    omega (arith, sum-grows wide s left (at + wide) (sum + entryAt s at .length) total (passed wide s at left sum total e .others))
 
-pub record Again (s : List ℕ) (items : List Item) (at left sum total : ℕ) : Type 0 where
+pub record Again (version : ℕ) (s : List ℕ) (items : List Item) (at left sum total : ℕ) : Type 0 where
   pub many : length items ≡ left
   pub good : GoodItems items
   pub octets : packed items ++ drop total s ≡ drop sum s
-  pub index : indexBytes sum items ++ drop (at + 8 * left) s ≡ drop at s
+  pub index : indexBytes version sum items ++ drop (at + width version * left) s ≡ drop at s
 
 cut : (s : List ℕ) (at n : ℕ) → take n (drop at s) ++ drop (at + n) s ≡ drop at s
 cut s at n = ap (λ (l : List ℕ). take n (drop at s) ++ l) (sym (drop-drop n at s)) ∙ take-append-drop n (drop at s)
 
 items-again :
-    (s : List ℕ) → Octets s → (left at sum total : ℕ) → at + 8 * left ≤ length s → total ≤ length s → sumOf s at left sum ≡ Sum total
-    → Again s (itemsFrom s at left) at left sum total
+    (version : ℕ) (s : List ℕ) → Octets s → (left at sum total : ℕ) → at + width version * left ≤ length s → total ≤ length s
+    → sumOf (width version) s at left sum ≡ Sum total → Again version s (itemsFrom (width version) s at left) at left sum total
 unfolding sumOf itemsFrom itemAt packed indexBytes entryOctets
-items-again s o zero at sum total room limit e =
+items-again version s o zero at sum total room limit e =
     let same : sum ≡ total = cc in
-    let here : at + 8 * 0 ≡ at = omega arith in
+    let here : at + width version * 0 ≡ at = omega arith in
     record { many = refl; good = no-item; octets = ap (λ (n : ℕ). drop n s) (sym same); index = ap (λ (n : ℕ). drop n s) here }
-items-again s o (suc left) at sum total room limit e =
+items-again version s o (suc left) at sum total room limit e =
+    let wide : ℕ = width version in
     let one : IndexEntry = entryAt s at in
     let size : ℕ = one .length in
-    let p = passed s at left sum total e in
-    let next = items-again s o left (at + 8) (sum + size) total (omega arith) limit (p .others) in
-    let grown : sum + size ≤ total = sum-grows s left (at + 8) (sum + size) total (p .others) in
+    let p = passed wide s at left sum total e in
+    let next = items-again version s o left (at + wide) (sum + size) total (omega arith) limit (p .others) in
+    let grown : sum + size ≤ total = sum-grows wide s left (at + wide) (sum + size) total (p .others) in
     let bytes : List ℕ = take size (drop (one .offset) s) in
     let place : one .offset ≡ sum = p .offset in
     let long : length bytes ≡ size = length-take-le size (drop (one .offset) s) (omega (arith, length-drop (one .offset) s)) in
     let fields : fieldsGood (one .kind) (one .flags) (length bytes) ≡ true = rw long (p .fields) in
-    let others : List Item = itemsFrom s (at + 8) left in
-    let last : List ℕ = drop (at + 8 * suc left) s in
-    let ends : at + 8 * suc left ≡ at + 8 + 8 * left = omega arith in
-    let tail : indexBytes (sum + size) others ++ last ≡ drop (at + 8) s = rw ends (next .index) in
-    let entry : entryBytes (one .kind) (one .flags) size sum ≡ take 8 (drop at s) =
-    ap (entryBytes (one .kind) (one .flags) size) (sym place) ∙ entry-again o at (omega arith) in
+    let others : List Item = itemsFrom wide s (at + wide) left in
+    let last : List ℕ = drop (at + wide * suc left) s in
+    let ends : at + wide * suc left ≡ at + wide + wide * left = omega arith in
+    let tail : indexBytes version (sum + size) others ++ last ≡ drop (at + wide) s = rw ends (next .index) in
+    let entry : entryBytes version (one .kind) (one .flags) size sum ≡ take wide (drop at s) =
+    ap (entryBytes version (one .kind) (one .flags) size) (sym place) ∙ entry-again version o at (omega arith) in
     record {
       many = ap suc (next .many);
       good = good-item fields (octets-take size (octets-drop (one .offset) o)) (next .good);
@@ -83,24 +85,31 @@ items-again s o (suc left) at sum total room limit e =
           append-assoc bytes (packed others) (drop total s) ∙ ap (λ (l : List ℕ). bytes ++ l) (next .octets)
           ∙ ap (λ (n : ℕ). take size (drop n s) ++ drop (sum + size) s) place ∙ cut s sum size;
       index =
-          ap (λ (n : ℕ). (entryBytes (one .kind) (one .flags) n sum ++ indexBytes (sum + n) others) ++ last) long
-          ∙ append-assoc (entryBytes (one .kind) (one .flags) size sum) (indexBytes (sum + size) others) last ∙ ap₂ _++_ entry tail ∙ cut s at 8;
+          ap (λ (n : ℕ). (entryBytes version (one .kind) (one .flags) n sum ++ indexBytes version (sum + n) others) ++ last) long
+          ∙ append-assoc (entryBytes version (one .kind) (one .flags) size sum) (indexBytes version (sum + size) others) last
+          ∙ ap₂ _++_ entry tail ∙ cut s at wide;
     }
 
-pub image-again : (s : List ℕ) → Octets s → Holds s → (imageBytes (itemsIn s) (dayIn s) ≡ s) × Fits (itemsIn s) (dayIn s)
+pub image-again :
+    (s : List ℕ) → Octets s → Holds s
+    → (imageBytes (versionIn s) (itemsIn s) (dayIn s) ≡ s) × Fits (versionIn s) (itemsIn s) (dayIn s)
 unfolding imageBytes itemsIn totalOf trailerOf
 image-again s o h =
+    let version : ℕ = versionIn s in
+    let wide : ℕ = width version in
     let start : ℕ = indexStart s in
     let n : ℕ = entryCount s in
-    let ends : start + 8 * n + 12 ≡ length s = h .ends in
-    let a : Again s (itemsIn s) start n 0 start = items-again s o n start 0 start (omega arith) (omega arith) (h .sums) in
+    let ends : start + wide * n + 12 ≡ length s = h .ends in
+    let a : Again version s (itemsIn s) start n 0 start = items-again version s o n start 0 start (omega arith) (omega arith) (h .sums) in
     let items : List Item = itemsIn s in
-    let last : length s - 12 ≡ start + 8 * n = omega arith in
+    let last : length s - 12 ≡ start + wide * n = omega arith in
     let front : packed items ++ drop start s ≡ s = a .octets in
     let long : length (packed items) ≡ start =
     omega (arith, length-append (packed items) (drop start s), length-drop start s, ap length front) in
-    let trailer : trailerBytes (length (packed items)) (length items) (dayIn s) ≡ drop (start + 8 * n) s =
-    rw (long, a .many, ← last) (trailer-again s o (h .long) (h .version)) in
-    let same : imageBytes items (dayIn s) ≡ s =
-    ap (λ (l : List ℕ). packed items ++ (indexBytes 0 items ++ l)) trailer ∙ ap (λ (l : List ℕ). packed items ++ l) (a .index) ∙ front in
-    (same, record { good = a .good; few = omega (arith, a .many, h .few); real = h .real; small = omega (arith, ap length same, h .short) })
+    let trailer : trailerBytes version (length (packed items)) (length items) (dayIn s) ≡ drop (start + wide * n) s =
+    rw (long, a .many, ← last) (trailer-again s o (h .long)) in
+    let same : imageBytes version items (dayIn s) ≡ s =
+    ap (λ (l : List ℕ). packed items ++ (indexBytes version 0 items ++ l)) trailer ∙ ap (λ (l : List ℕ). packed items ++ l) (a .index)
+    ∙ front in
+    let small : length (imageBytes version items (dayIn s)) ≤ 262144 = omega (arith, ap length same, h .short) in
+    (same, record { known = h .version; good = a .good; few = omega (arith, a .many, h .few); real = h .real; small = small })

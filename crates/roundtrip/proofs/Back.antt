@@ -13,12 +13,13 @@ use Rattle.image.specs.declared.IndexEntry.{IndexEntry}
 use Rattle.image.specs.declared.Opened.the-variants.{Image}
 use Rattle.image.specs.declared.Total.the-variants.{Sum}
 use Rattle.image.specs.Items.{Item, packed, entryBytes, indexBytes, trailerBytes, imageBytes}
-use Rattle.image.specs.Index.{entryAt, itemAt, itemsFrom, itemsIn}
+use Rattle.image.specs.Index.{versionIn, width, entryAt, itemAt, itemsFrom, itemsIn}
 use Rattle.image.specs.Rules.{fieldsGood, entryGood, sumOf, totalOf}
 use Rattle.image.specs.Answer.{openedOf}
+use Rattle.image.proofs.Widths.{entry-length}
 use Rattle.roundtrip.specs.Good.{GoodItems, no-item, good-item, Fits}
 use Rattle.roundtrip.proofs.Fields.{drop-next}
-use Rattle.roundtrip.proofs.Entries.{entry-at, entry-back, length-entry}
+use Rattle.roundtrip.proofs.Entries.{entry-at, entry-back}
 use Rattle.roundtrip.proofs.Sizes.{length-image, length-index}
 use Rattle.roundtrip.proofs.Trailer.{Trailer, trailerOf, trailer-back}
 use Rattle.roundtrip.proofs.Opening.{Holds, holds-opened}
@@ -43,21 +44,21 @@ item-at s item offset after e =
     let size : ℕ = length (item .bytes) in
     λ i. record { kind = item .kind; flags = item .flags; bytes = (ap (take size) e ∙ take-at (item .bytes) after size refl) i }
 
-record Back (s : List ℕ) (items : List Item) (at offset : ℕ) : Type 0 where
-  same : itemsFrom s at (length items) ≡ items
-  sums : sumOf s at (length items) offset ≡ Sum (offset + length (packed items))
+record Back (wide : ℕ) (s : List ℕ) (items : List Item) (at offset : ℕ) : Type 0 where
+  same : itemsFrom wide s at (length items) ≡ items
+  sums : sumOf wide s at (length items) offset ≡ Sum (offset + length (packed items))
 
 items-back :
-    (s : List ℕ) {items : List Item} → GoodItems items → (at offset : ℕ) (behind after : List ℕ)
-    → drop at s ≡ indexBytes offset items ++ behind → drop offset s ≡ packed items ++ after → offset + length (packed items) ≤ 262144
-    → Back s items at offset
+    (version : ℕ) (s : List ℕ) {items : List Item} → GoodItems items → (at offset : ℕ) (behind after : List ℕ)
+    → drop at s ≡ indexBytes version offset items ++ behind → drop offset s ≡ packed items ++ after → offset + length (packed items) ≤ 262144
+    → Back (width version) s items at offset
 unfolding itemsFrom sumOf packed indexBytes
-items-back s no-item at offset behind after index octets limit = record { same = refl; sums = ap Sum (omega arith) }
-items-back s (good-item {item} {rest} fields o good) at offset behind after index octets limit =
+items-back version s no-item at offset behind after index octets limit = record { same = refl; sums = ap Sum (omega arith) }
+items-back version s (good-item {item} {rest} fields o good) at offset behind after index octets limit =
     let size : ℕ = length (item .bytes) in
     let e : IndexEntry = record { kind = item .kind; flags = item .flags; length = size; offset = offset } in
-    let front : List ℕ = entryBytes (item .kind) (item .flags) size offset in
-    let others : List ℕ = indexBytes (offset + size) rest in
+    let front : List ℕ = entryBytes version (item .kind) (item .flags) size offset in
+    let others : List ℕ = indexBytes version (offset + size) rest in
     let joined : drop at s ≡ front ++ (others ++ behind) = index ∙ append-assoc front others behind in
     let parts : drop offset s ≡ item .bytes ++ (packed rest ++ after) = octets ∙ append-assoc (item .bytes) (packed rest) after in
     let long : offset + size + length (packed rest) ≡ offset + length (item .bytes ++ packed rest) =
@@ -65,10 +66,11 @@ items-back s (good-item {item} {rest} fields o good) at offset behind after inde
     let small : size ≤ 16384 = fields-small _ _ _ fields in
     let entry : entryAt s at ≡ e =
     entry-at s at ∙ ap (λ (t : List ℕ). entryAt t 0) joined
-    ∙ entry-back (item .kind) (item .flags) size offset (others ++ behind) (omega arith) (omega arith) in
-    let index′ : drop (at + 8) s ≡ others ++ behind = drop-next s front (others ++ behind) at 8 joined (length-entry _ _ size offset) in
+    ∙ entry-back version (item .kind) (item .flags) size offset (others ++ behind) (omega arith) (omega arith) in
+    let index′ : drop (at + width version) s ≡ others ++ behind =
+    drop-next s front (others ++ behind) at (width version) joined (entry-length version _ _ size offset) in
     let octets′ : drop (offset + size) s ≡ packed rest ++ after = drop-next s (item .bytes) _ offset size parts refl in
-    let next = items-back s good (at + 8) (offset + size) behind after index′ octets′ (omega arith) in
+    let next = items-back version s good (at + width version) (offset + size) behind after index′ octets′ (omega arith) in
     record {
       same = ap₂ _∷_ (ap (itemAt s) entry ∙ item-at s item offset _ parts) (next .same);
       sums = rw (entry, entry-good e offset fields refl) (next .sums ∙ ap Sum long);
@@ -82,29 +84,33 @@ day-low day e =
     omega arith
 
 pub image-back :
-    (items : List Item) (day : ℕ) → Fits items day
-    → (openedOf (imageBytes items day) ≡ Image (length items) day) × (itemsIn (imageBytes items day) ≡ items)
+    (version : ℕ) (items : List Item) (day : ℕ) → Fits version items day
+    → (openedOf (imageBytes version items day) ≡ Image (length items) day) × (itemsIn (imageBytes version items day) ≡ items)
+    × (versionIn (imageBytes version items day) ≡ version)
 unfolding imageBytes itemsIn totalOf trailerOf
-image-back items day f =
-    let s : List ℕ = imageBytes items day in
+image-back version items day f =
+    let s : List ℕ = imageBytes version items day in
     let start : ℕ = length (packed items) in
     let n : ℕ = length items in
-    let trailer : List ℕ = trailerBytes start n day in
-    let long : length s ≡ start + 8 * n + 12 = length-image items day in
+    let wide : ℕ = width version in
+    let trailer : List ℕ = trailerBytes version start n day in
+    let long : length s ≡ start + wide * n + 12 = length-image version items day in
     let few : n ≤ 96 = omega (arith, f .few) in
     let small : length s ≤ 262144 = omega (arith, f .small) in
-    let at : length s - 12 ≡ start + 8 * n = omega arith in
-    let index : drop start s ≡ indexBytes 0 items ++ trailer = drop-at (packed items) _ start refl in
-    let last : drop (length s - 12) s ≡ trailer = rw at (drop-next s (indexBytes 0 items) trailer start (8 * n) index (length-index 0 items)) in
-    let t : Trailer s start n 1 day = trailer-back s start n day (omega arith) last (omega arith) (omega arith) (day-low day (f .real)) in
-    let b : Back s items start 0 = items-back s (f .good) start 0 trailer _ index refl (omega arith) in
+    let at : length s - 12 ≡ start + wide * n = omega arith in
+    let index : drop start s ≡ indexBytes version 0 items ++ trailer = drop-at (packed items) _ start refl in
+    let last : drop (length s - 12) s ≡ trailer =
+    rw at (drop-next s (indexBytes version 0 items) trailer start (wide * n) index (length-index version 0 items)) in
+    let t : Trailer s start n version day =
+    trailer-back s version start n day (omega arith) last (omega (arith, f .known)) (omega arith) (omega arith) (day-low day (f .real)) in
+    let b : Back wide s items start 0 = items-back version s (f .good) start 0 trailer _ index refl (omega arith) in
     let h : Holds s = record {
       long = omega arith;
       short = small;
-      version = t .version;
+      version = t .version ∙ f .known;
       few = rw (t .entries) few;
       real = rw (t .day) (f .real);
-      ends = rw (t .start, t .entries) (sym long);
-      sums = rw (t .start, t .entries) (b .sums ∙ ap Sum (omega arith));
+      ends = rw (t .start, t .version, t .entries) (sym long);
+      sums = rw (t .start, t .version, t .entries) (b .sums ∙ ap Sum (omega arith));
     } in
-    (holds-opened s h ∙ ap₂ Image (t .entries) (t .day), rw (t .start, t .entries) (b .same))
+    (holds-opened s h ∙ ap₂ Image (t .entries) (t .day), rw (t .start, t .version, t .entries) (b .same), t .version)

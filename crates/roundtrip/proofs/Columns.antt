@@ -70,42 +70,50 @@ module _ (octets kinds flags lengths : List ℕ) (day : ℕ) where
       let a = arguments e in
       items-cut kinds flags lengths octets o (a .many) (a .rows) (a .sums)
 
-  pub columns-long :
-      Octets octets → argumentsGood octets kinds flags lengths day ≡ true
-      → length (imageBytes (itemsOf kinds flags lengths octets) day) ≡ sizeOf octets kinds
-  unfolding sizeOf
-  columns-long o e =
-      let c = columns-cut o e in
-      length-image (itemsOf kinds flags lengths octets) day ∙ rw (c .whole, c .many)
+  module _ (version : ℕ) where
+    pub columns-long :
+        Octets octets → argumentsGood octets kinds flags lengths day ≡ true
+        → length (imageBytes version (itemsOf kinds flags lengths octets) day) ≡ sizeOf version octets kinds
+    unfolding sizeOf
+    columns-long o e =
+        let c = columns-cut o e in
+        length-image version (itemsOf kinds flags lengths octets) day ∙ rw (c .whole, c .many)
 
-  -- what an image's length tells
-  pub record Wrote (room size : ℕ) : Type 0 where
-    pub good : argumentsGood octets kinds flags lengths day ≡ true
-    pub short : sizeOf octets kinds ≤ 262144
-    pub room-left : sizeOf octets kinds ≤ room
-    pub same : size ≡ sizeOf octets kinds
+    -- what an image's length tells
+    pub record Wrote (room size : ℕ) : Type 0 where
+      pub good : argumentsGood octets kinds flags lengths day ≡ true
+      pub short : sizeOf version octets kinds ≤ 262144
+      pub room-left : sizeOf version octets kinds ≤ room
+      pub same : size ≡ sizeOf version octets kinds
 
-  abbrev Told : ℕ → Written → Type 0
-  Told room (Length size) = Wrote room size
-  Told room (Refused refusal) = Unit {0}
+    abbrev Told : ℕ → Written → Type 0
+    Told room (Length size) = Wrote room size
+    Told room (Refused refusal) = Unit {0}
 
-  told : (room : ℕ) → Told room (writtenOf octets kinds flags lengths day room)
-  unfolding writtenOf
-  told room =
-      let P : Written → Type 0 = Told room in
-      cond-by P (argumentsGood octets kinds flags lengths day)
-      (λ good. cond-by P (leb (sizeOf octets kinds) 262144)
-      (λ short. cond-by P (leb (sizeOf octets kinds) room)
-      (λ fits. record { good = good; short = leb-true _ _ short; room-left = leb-true _ _ fits; same = refl })
-      λ over. tt)
-      λ long. tt)
-      λ bad. tt
+    told : (room : ℕ) → Told room (writtenOf version octets kinds flags lengths day room)
+    unfolding writtenOf
+    told room =
+        let P : Written → Type 0 = Told room in
+        cond-by P (argumentsGood octets kinds flags lengths day)
+        (λ good. cond-by P (leb (sizeOf version octets kinds) 262144)
+        (λ short. cond-by P (leb (sizeOf version octets kinds) room)
+        (λ fits. record { good = good; short = leb-true _ _ short; room-left = leb-true _ _ fits; same = refl })
+        λ over. tt)
+        λ long. tt)
+        λ bad. tt
 
-  pub wrote : (room size : ℕ) → writtenOf octets kinds flags lengths day room ≡ Length size → Wrote room size
-  wrote room size e = subst (Told room) e (told room)
+    pub wrote : (room size : ℕ) → writtenOf version octets kinds flags lengths day room ≡ Length size → Wrote room size
+    wrote room size e = subst (Told room) e (told room)
 
-  pub columns-fit : (room size : ℕ) → Octets octets → Wrote room size → Fits (itemsOf kinds flags lengths octets) day
-  columns-fit room size o w =
-      let a = arguments (w .good) in
-      let c = columns-cut o (w .good) in
-      record { good = c .good; few = omega (arith, c .many, a .few); real = a .real; small = omega (arith, columns-long o (w .good), w .short) }
+    pub columns-fit :
+        (room size : ℕ) → version ≡ 1 → Octets octets → Wrote room size → Fits version (itemsOf kinds flags lengths octets) day
+    columns-fit room size known o w =
+        let a = arguments (w .good) in
+        let c = columns-cut o (w .good) in
+        record {
+          known = known;
+          good = c .good;
+          few = omega (arith, c .many, a .few);
+          real = a .real;
+          small = omega (arith, columns-long o (w .good), w .short);
+        }

@@ -16,7 +16,7 @@ use Rattle.image.specs.declared.Opened.{Opened}
 use Rattle.image.specs.declared.Opened.the-variants.{Image, Refused}
 use Rattle.image.specs.declared.Total.{Total}
 use Rattle.image.specs.declared.Total.the-variants.{Sum, Unfit}
-use Rattle.image.specs.Index.{indexStart, entryCount, versionIn, dayIn}
+use Rattle.image.specs.Index.{indexStart, entryCount, versionIn, dayIn, width}
 use Rattle.image.specs.Rules.{rule1, rule2, rule3, rule4, rule5, rule6, rule7, rules, totalOf, fit, summed}
 use Rattle.image.specs.Answer.{graded, openedOf}
 
@@ -27,7 +27,7 @@ pub record Holds (s : List ℕ) : Type 0 where
   pub version : versionIn s ≡ 1
   pub few : entryCount s ≤ 96
   pub real : realDay 1950 2099 (dayIn s) ≡ true
-  pub ends : indexStart s + 8 * entryCount s + 12 ≡ length s
+  pub ends : indexStart s + width (versionIn s) * entryCount s + 12 ≡ length s
   pub sums : totalOf s ≡ Sum (indexStart s)
 
 pub holds-opened : (s : List ℕ) → Holds s → openedOf s ≡ Image (entryCount s) (dayIn s)

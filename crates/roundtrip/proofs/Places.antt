@@ -1,5 +1,5 @@
 -- The entry of a place is that of the item at that place, and its octets lie within the image.
-use mathlib.Core.Path.{_≡_, refl, sym, _∙_, ap}
+use mathlib.Core.Path.{_≡_, refl, sym}
 use mathlib.Core.List.{List}
 use Prim.Native.Nat.{ℕ, zero, suc, _+_, _*_, _≤_, _<_}
 use native.Mathlib.Omega.{arith}
@@ -11,36 +11,25 @@ use Rattle.image.specs.declared.Opened.the-variants.{Image}
 use Rattle.image.specs.declared.Place.the-variants.{Is}
 use Rattle.image.specs.declared.Total.the-variants.{Sum}
 use Rattle.image.specs.Items.{Item}
-use Rattle.image.specs.Index.{entryAt, entryIn, itemAt, itemsFrom, itemsIn, indexStart, entryCount}
+use Rattle.image.specs.Index.{entryAt, entryIn, itemAt, itemsIn, indexStart, entryCount, versionIn, width}
 use Rattle.image.specs.Rules.{sumOf, totalOf}
 use Rattle.image.specs.Answer.{openedOf, onPlace, placeOf, bytesIn, itemOf}
+use Rattle.image.proofs.Places.{item-from}
 use Rattle.roundtrip.specs.Tells.{Tells}
 use Rattle.roundtrip.proofs.Opening.{opened-holds}
 use Rattle.roundtrip.proofs.Again.{passed, sum-grows}
 
-item-from :
-    (s : List ℕ) (left at place : ℕ) (default : Item) → place < left
-    → getD (itemsFrom s at left) place default ≡ itemAt s (entryAt s (at + 8 * place))
-unfolding itemsFrom
-item-from s zero at place default h = absurd (omega arith)
-item-from s (suc left) at zero default h =
-    let here : at ≡ at + 8 * 0 = omega arith in
-    ap (λ (n : ℕ). itemAt s (entryAt s n)) here
-item-from s (suc left) at (suc place) default h =
-    let there : at + 8 + 8 * place ≡ at + 8 * suc place = omega arith in
-    item-from s left (at + 8) place default (omega arith) ∙ ap (λ (n : ℕ). itemAt s (entryAt s n)) there
-
 entry-within :
-    (s : List ℕ) (left at sum total place : ℕ) → place < left → sumOf s at left sum ≡ Sum total
-    → entryAt s (at + 8 * place) .offset + entryAt s (at + 8 * place) .length ≤ total
-entry-within s zero at sum total place h e = absurd (omega arith)
-entry-within s (suc left) at sum total zero h e =
-    let p = passed s at left sum total e in
-    let here : at + 8 * 0 ≡ at = omega arith in
-    rw here (omega (arith, p .offset, sum-grows s left (at + 8) _ total (p .others)))
-entry-within s (suc left) at sum total (suc place) h e =
-    let there : at + 8 * suc place ≡ at + 8 + 8 * place = omega arith in
-    rw there (entry-within s left (at + 8) _ total place (omega arith) (passed s at left sum total e .others))
+    (wide : ℕ) (s : List ℕ) (left at sum total place : ℕ) → place < left → sumOf wide s at left sum ≡ Sum total
+    → entryAt s (at + wide * place) .offset + entryAt s (at + wide * place) .length ≤ total
+entry-within wide s zero at sum total place h e = absurd (omega arith)
+entry-within wide s (suc left) at sum total zero h e =
+    let p = passed wide s at left sum total e in
+    let here : at + wide * 0 ≡ at = omega arith in
+    rw here (omega (arith, p .offset, sum-grows wide s left (at + wide) _ total (p .others)))
+entry-within wide s (suc left) at sum total (suc place) h e =
+    let there : at + wide * suc place ≡ at + wide + wide * place = omega arith in
+    rw there (entry-within wide s left (at + wide) _ total place (omega arith) (passed wide s at left sum total e .others))
 
 pub place-told :
     (s : List ℕ) (n day place : ℕ) (default : Item) → openedOf s ≡ Image n day → place < n
@@ -51,8 +40,8 @@ place-told s n day place default e h =
     let (holds, entries, same) = opened-holds s n day e in
     let one : IndexEntry = entryIn s place in
     let room : one .offset + one .length ≤ indexStart s =
-    entry-within s (entryCount s) (indexStart s) 0 (indexStart s) place (omega arith) (holds .sums) in
-    let item : getD (itemsIn s) place default ≡ itemAt s one = item-from s (entryCount s) (indexStart s) place default (omega arith) in
+    entry-within (width (versionIn s)) s (entryCount s) (indexStart s) 0 (indexStart s) place (omega arith) (holds .sums) in
+    let item : getD (itemsIn s) place default ≡ itemAt s one = item-from (width (versionIn s)) s (entryCount s) (indexStart s) place default (omega arith) in
     let long : length (take (one .length) (drop (one .offset) s)) ≡ one .length =
     length-take-le (one .length) (drop (one .offset) s) (omega (arith, length-drop (one .offset) s, holds .ends)) in
     let there : placeOf s place ≡ Is one = rw (e, lt-ltb place n h) in

@@ -8,6 +8,7 @@ use borrow.Author.Tests.{le-leb, eq-eqb}
 use lib.ListN.{length, take, drop, length-append}
 use lib.Seq.{take-at, drop-at}
 use Rattle.image.specs.Items.{Item, packed, imageBytes}
+use Rattle.image.specs.Index.{width}
 use Rattle.writer.specs.declared.Written.the-variants.{Length}
 use Rattle.writer.specs.Writing.{rowsGood, sumAll, argumentsGood, sizeOf, writtenOf, itemsOf}
 use Rattle.roundtrip.specs.Good.{GoodItems, no-item, good-item, Fits}
@@ -46,11 +47,12 @@ columns (good-item {item} {rest} fields o good) =
     }
 
 pub columns-written :
-    (items : List Item) (day room : ℕ) → Fits items day → length (imageBytes items day) ≤ room
-    → writtenOf (packed items) (kindsOf items) (flagsOf items) (lengthsOf items) day room ≡ Length (length (imageBytes items day))
+    (version : ℕ) (items : List Item) (day room : ℕ) → Fits version items day → length (imageBytes version items day) ≤ room
+    → writtenOf version (packed items) (kindsOf items) (flagsOf items) (lengthsOf items) day room ≡ Length (length (imageBytes version items day))
 unfolding writtenOf argumentsGood sizeOf
-columns-written items day room f h =
+columns-written version items day room f h =
     let c = columns (f .good) in
-    let size : length (packed items) + 8 * length items + 12 ≡ length (imageBytes items day) = sym (length-image items day) in
+    let size : length (packed items) + width version * length items + 12 ≡ length (imageBytes version items day) =
+    sym (length-image version items day) in
     rw (c .kinds, c .flags, c .lengths, f .real, c .rows, c .sums, size)
     (simp (le-leb _ _ (f .few), eq-eqb (length items) _ refl, eq-eqb (length (packed items)) _ refl, le-leb _ _ (f .small), le-leb _ _ h))

@@ -1,37 +1,41 @@
--- An image is its items, eight octets for each, and twelve.
+-- An image is its items, an entry for each, and twelve octets.
 use mathlib.Core.Path.{_≡_, refl}
 use mathlib.Core.List.{List, [], _∷_, _++_}
 use Prim.Native.Nat.{ℕ, _+_, _*_}
 use native.Mathlib.Omega.{arith}
 use lib.ListN.{length, length-append}
 use Rattle.octets.specs.Octets.{big}
+use Rattle.image.specs.Index.{width}
 use Rattle.image.specs.Items.{Item, packed, entryBytes, indexBytes, trailerBytes, imageBytes}
-use Rattle.roundtrip.proofs.Entries.{length-entry}
+use Rattle.image.proofs.Widths.{entry-length}
 
-pub length-index : (offset : ℕ) (items : List Item) → length (indexBytes offset items) ≡ 8 * length items
+pub length-index :
+    (version offset : ℕ) (items : List Item) → length (indexBytes version offset items) ≡ width version * length items
 unfolding indexBytes
-length-index offset [] = refl
-length-index offset (item ∷ rest) =
+length-index version offset [] = omega arith
+length-index version offset (item ∷ rest) =
     let size : ℕ = length (item .bytes) in
     omega (
       arith,
-      length-append (entryBytes (item .kind) (item .flags) size offset) (indexBytes (offset + size) rest),
-      length-entry (item .kind) (item .flags) size offset,
-      length-index (offset + size) rest,
+      length-append (entryBytes version (item .kind) (item .flags) size offset) (indexBytes version (offset + size) rest),
+      entry-length version (item .kind) (item .flags) size offset,
+      length-index version (offset + size) rest,
     )
 
-pub length-trailer : (start entries day : ℕ) → length (trailerBytes start entries day) ≡ 12
+pub length-trailer : (version start entries day : ℕ) → length (trailerBytes version start entries day) ≡ 12
 unfolding trailerBytes big
-length-trailer start entries day = refl
+length-trailer version start entries day = refl
 
-pub length-image : (items : List Item) (day : ℕ) → length (imageBytes items day) ≡ length (packed items) + 8 * length items + 12
+pub length-image :
+    (version : ℕ) (items : List Item) (day : ℕ)
+    → length (imageBytes version items day) ≡ length (packed items) + width version * length items + 12
 unfolding imageBytes
-length-image items day =
-    let trailer : List ℕ = trailerBytes (length (packed items)) (length items) day in
+length-image version items day =
+    let trailer : List ℕ = trailerBytes version (length (packed items)) (length items) day in
     omega (
       arith,
-      length-append (packed items) (indexBytes 0 items ++ trailer),
-      length-append (indexBytes 0 items) trailer,
-      length-index 0 items,
-      length-trailer (length (packed items)) (length items) day,
+      length-append (packed items) (indexBytes version 0 items ++ trailer),
+      length-append (indexBytes version 0 items) trailer,
+      length-index version 0 items,
+      length-trailer version (length (packed items)) (length items) day,
     )

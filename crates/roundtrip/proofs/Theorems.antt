@@ -15,7 +15,7 @@ use Rattle.image.specs.declared.Opened.the-variants as image
 use Rattle.image.specs.declared.Opened.the-variants.{Image}
 use Rattle.image.specs.declared.Place.the-variants.{Is}
 use Rattle.image.specs.Items.{Item, packed, imageBytes}
-use Rattle.image.specs.Index.{entryIn, itemsIn}
+use Rattle.image.specs.Index.{versionIn, entryIn, itemsIn}
 use Rattle.image.specs.Rules.{rules}
 use Rattle.image.specs.Answer.{openedOf, placeOf, itemOf}
 use Rattle.writer.specs.declared.Written.the-variants.{Length, Refused}
@@ -30,98 +30,108 @@ use Rattle.roundtrip.proofs.Columns.{wrote, columns-cut, columns-long, 
 use Rattle.roundtrip.proofs.Rewriting.{columns-back, columns-written}
 use Rattle.roundtrip.proofs.Places.{place-told}
 
--- What was written reads back as the same items and day.
+-- What was written reads back as the same items, day and version.
 pub read-back :
-    (items : List Item) (day : ℕ) → Fits items day
-    → (openedOf (imageBytes items day) ≡ Image (length items) day) × (itemsIn (imageBytes items day) ≡ items)
+    (version : ℕ) (items : List Item) (day : ℕ) → Fits version items day
+    → (openedOf (imageBytes version items day) ≡ Image (length items) day) × (itemsIn (imageBytes version items day) ≡ items)
+    × (versionIn (imageBytes version items day) ≡ version)
 read-back = image-back
 
--- The items of a readable image, written with its day, give its octets; and they fit.
+-- The items of a readable image, written in its version with its day, give its octets; and they fit.
 pub write-again :
     (s : List ℕ) (n day : ℕ) → Octets s → openedOf s ≡ Image n day
-    → (imageBytes (itemsIn s) day ≡ s) × Fits (itemsIn s) day × (length (itemsIn s) ≡ n)
+    → (imageBytes (versionIn s) (itemsIn s) day ≡ s) × Fits (versionIn s) (itemsIn s) day × (length (itemsIn s) ≡ n)
 write-again s n day o e =
     let (holds, entries, same) = opened-holds s n day e in
-    let (octets, fits) : (imageBytes (itemsIn s) day ≡ s) × Fits (itemsIn s) day = rw same (image-again s o holds) in
-    let image : Image n day ≡ Image (length (itemsIn s)) day = sym e ∙ ap openedOf (sym octets) ∙ read-back (itemsIn s) day fits .0 in
+    let version : ℕ = versionIn s in
+    let (octets, fits) : (imageBytes version (itemsIn s) day ≡ s) × Fits version (itemsIn s) day = rw same (image-again s o holds) in
+    let image : Image n day ≡ Image (length (itemsIn s)) day =
+    sym e ∙ ap openedOf (sym octets) ∙ read-back version (itemsIn s) day fits .0 in
     (octets, fits, cc)
 
--- At most one item list, with one day, has given octets.
-pub one-list : (a b : List Item) (d e : ℕ) → Fits a d → Fits b e → imageBytes a d ≡ imageBytes b e → (a ≡ b) × (d ≡ e)
-one-list a b d e f g same =
-    let (opened, items) = read-back a d f in
-    let (opened′, items′) = read-back b e g in
+-- At most one item list, in one version with one day, has given octets.
+pub one-list :
+    (v w : ℕ) (a b : List Item) (d e : ℕ) → Fits v a d → Fits w b e → imageBytes v a d ≡ imageBytes w b e
+    → (a ≡ b) × (d ≡ e) × (v ≡ w)
+one-list v w a b d e f g same =
+    let (opened, items, version) = read-back v a d f in
+    let (opened′, items′, version′) = read-back w b e g in
     let image : Image (length a) d ≡ Image (length b) e = sym opened ∙ ap openedOf same ∙ opened′ in
-    (sym items ∙ ap itemsIn same ∙ items′, cc)
+    (sym items ∙ ap itemsIn same ∙ items′, cc, sym version ∙ ap versionIn same ∙ version′)
 
-module _ (octets kinds flags lengths : List ℕ) (day : ℕ) where
+module _ (version : ℕ) (octets kinds flags lengths : List ℕ) (day : ℕ) where
   -- The items that good arguments tell are good, are the octets given, and take as many octets as said.
   pub items-good :
       Octets octets → argumentsGood octets kinds flags lengths day ≡ true
       → GoodItems (itemsOf kinds flags lengths octets) × (packed (itemsOf kinds flags lengths octets) ≡ octets)
-      × (length (imageBytes (itemsOf kinds flags lengths octets) day) ≡ sizeOf octets kinds)
+      × (length (imageBytes version (itemsOf kinds flags lengths octets) day) ≡ sizeOf version octets kinds)
   items-good o e =
       let c = columns-cut octets kinds flags lengths day o e in
-      (c .good, c .whole, columns-long octets kinds flags lengths day o e)
+      (c .good, c .whole, columns-long octets kinds flags lengths day version o e)
 
-  -- The octets that were written are the image of those items.
-  pub writer-image :
-      (old : List ℕ) (size : ℕ) → Octets octets → writtenOf octets kinds flags lengths day (length old) ≡ Length size
-      → take size (outputOf octets kinds flags lengths day old) ≡ imageBytes (itemsOf kinds flags lengths octets) day
-  unfolding outputOf onWritten
-  writer-image old size o e =
-      let w = wrote octets kinds flags lengths day (length old) size e in
-      let image : List ℕ = imageBytes (itemsOf kinds flags lengths octets) day in
-      rw e (take-at image (drop size old) size (columns-long octets kinds flags lengths day o (w .good) ∙ sym (w .same)))
+  module _ (old : List ℕ) (size : ℕ) (o : Octets octets) (e : writtenOf version octets kinds flags lengths day (length old) ≡ Length size) where
+    -- The octets that were written are the image of those items.
+    pub writer-image :
+        take size (outputOf version octets kinds flags lengths day old) ≡ imageBytes version (itemsOf kinds flags lengths octets) day
+    unfolding outputOf onWritten
+    writer-image =
+        let w = wrote octets kinds flags lengths day version (length old) size e in
+        let image : List ℕ = imageBytes version (itemsOf kinds flags lengths octets) day in
+        rw e (take-at image (drop size old) size (columns-long octets kinds flags lengths day version o (w .good) ∙ sym (w .same)))
 
-  -- What the writer wrote the reader reads: as many entries as kinds, the day, and the items.
-  pub writer-read :
-      (old : List ℕ) (size : ℕ) → Octets octets → writtenOf octets kinds flags lengths day (length old) ≡ Length size
-      → (openedOf (take size (outputOf octets kinds flags lengths day old)) ≡ Image (length kinds) day)
-      × (itemsIn (take size (outputOf octets kinds flags lengths day old)) ≡ itemsOf kinds flags lengths octets)
-  writer-read old size o e =
-      let w = wrote octets kinds flags lengths day (length old) size e in
-      let items : List Item = itemsOf kinds flags lengths octets in
-      let (opened, same) = read-back items day (columns-fit octets kinds flags lengths day (length old) size o w) in
-      let many : length items ≡ length kinds = columns-cut octets kinds flags lengths day o (w .good) .many in
-      rw (writer-image old size o e) (opened ∙ ap (λ (n : ℕ). Image n day) many, same)
+    -- What the writer wrote the reader reads: as many entries as kinds, the day, the items, and the version.
+    pub writer-read :
+        version ≡ 1
+        → (openedOf (take size (outputOf version octets kinds flags lengths day old)) ≡ Image (length kinds) day)
+        × (itemsIn (take size (outputOf version octets kinds flags lengths day old)) ≡ itemsOf kinds flags lengths octets)
+        × (versionIn (take size (outputOf version octets kinds flags lengths day old)) ≡ version)
+    writer-read known =
+        let w = wrote octets kinds flags lengths day version (length old) size e in
+        let items : List Item = itemsOf kinds flags lengths octets in
+        let (opened, same, told) = read-back version items day (columns-fit octets kinds flags lengths day version (length old) size known o w) in
+        let many : length items ≡ length kinds = columns-cut octets kinds flags lengths day o (w .good) .many in
+        rw writer-image (opened ∙ ap (λ (n : ℕ). Image n day) many, same, told)
 
-  -- Beyond the image the output stays as it was.
-  pub beyond :
-      (old : List ℕ) (size : ℕ) → Octets octets → writtenOf octets kinds flags lengths day (length old) ≡ Length size
-      → drop size (outputOf octets kinds flags lengths day old) ≡ drop size old
-  unfolding outputOf onWritten
-  beyond old size o e =
-      let w = wrote octets kinds flags lengths day (length old) size e in
-      let image : List ℕ = imageBytes (itemsOf kinds flags lengths octets) day in
-      rw e (drop-at image (drop size old) size (columns-long octets kinds flags lengths day o (w .good) ∙ sym (w .same)))
+    -- Beyond the image the output stays as it was.
+    pub beyond : drop size (outputOf version octets kinds flags lengths day old) ≡ drop size old
+    unfolding outputOf onWritten
+    beyond =
+        let w = wrote octets kinds flags lengths day version (length old) size e in
+        let image : List ℕ = imageBytes version (itemsOf kinds flags lengths octets) day in
+        rw e (drop-at image (drop size old) size (columns-long octets kinds flags lengths day version o (w .good) ∙ sym (w .same)))
 
   -- On a refusal all of it stays.
   pub untouched :
-      (old : List ℕ) (refusal : Refusal) → writtenOf octets kinds flags lengths day (length old) ≡ Refused refusal
-      → outputOf octets kinds flags lengths day old ≡ old
+      (old : List ℕ) (refusal : Refusal) → writtenOf version octets kinds flags lengths day (length old) ≡ Refused refusal
+      → outputOf version octets kinds flags lengths day old ≡ old
   unfolding outputOf onWritten
   untouched old refusal e = rw e
 
 -- Every list that fits is written from its octets and columns into an output with room for it.
 pub writer-writes :
-    (items : List Item) (day : ℕ) (old : List ℕ) → Fits items day → length (imageBytes items day) ≤ length old
-    → (writtenOf (packed items) (kindsOf items) (flagsOf items) (lengthsOf items) day (length old) ≡ Length (length (imageBytes items day)))
-    × (take (length (imageBytes items day)) (outputOf (packed items) (kindsOf items) (flagsOf items) (lengthsOf items) day old)
-    ≡ imageBytes items day)
+    (version : ℕ) (items : List Item) (day : ℕ) (old : List ℕ) → Fits version items day
+    → length (imageBytes version items day) ≤ length old
+    → (writtenOf version (packed items) (kindsOf items) (flagsOf items) (lengthsOf items) day (length old)
+    ≡ Length (length (imageBytes version items day)))
+    × (take (length (imageBytes version items day))
+    (outputOf version (packed items) (kindsOf items) (flagsOf items) (lengthsOf items) day old) ≡ imageBytes version items day)
 unfolding outputOf onWritten
-writer-writes items day old f h =
-    let written = columns-written items day (length old) f h in
-    (written, rw (written, columns-back items) (take-at (imageBytes items day) _ (length (imageBytes items day)) refl))
+writer-writes version items day old f h =
+    let written = columns-written version items day (length old) f h in
+    let image : List ℕ = imageBytes version items day in
+    (written, rw (written, columns-back items) (take-at image _ (length image) refl))
 
--- A readable image, taken apart into octets and columns and written from them with its day, is the same octets again.
+-- A readable image, taken apart into octets and columns and written from them in its version with its day, is the same octets
+-- again.
 pub writer-again :
     (s : List ℕ) (n day : ℕ) (old : List ℕ) → Octets s → openedOf s ≡ Image n day → length s ≤ length old
-    → (writtenOf (packed (itemsIn s)) (kindsOf (itemsIn s)) (flagsOf (itemsIn s)) (lengthsOf (itemsIn s)) day (length old) ≡ Length (length s))
-    × (take (length s) (outputOf (packed (itemsIn s)) (kindsOf (itemsIn s)) (flagsOf (itemsIn s)) (lengthsOf (itemsIn s)) day old) ≡ s)
+    → (writtenOf (versionIn s) (packed (itemsIn s)) (kindsOf (itemsIn s)) (flagsOf (itemsIn s)) (lengthsOf (itemsIn s)) day (length old)
+    ≡ Length (length s))
+    × (take (length s)
+    (outputOf (versionIn s) (packed (itemsIn s)) (kindsOf (itemsIn s)) (flagsOf (itemsIn s)) (lengthsOf (itemsIn s)) day old) ≡ s)
 writer-again s n day old o e h =
     let (same, fits, many) = write-again s n day o e in
-    rw same at (writer-writes (itemsIn s) day old fits (rw same h))
+    rw same at (writer-writes (versionIn s) (itemsIn s) day old fits (rw same h))
 
 -- An image is refused by rule k exactly when it breaks that rule and holds each before it.
 pub rule-smallest : (s : List ℕ) (k : ℕ) → (openedOf s ≡ image.Refused (Broken k)) ↔ Smallest 1 (rules s) k

@@ -37,15 +37,15 @@ trailer-at s h =
     }
 
 pub trailer-back :
-    (s : List ℕ) (start entries day : ℕ) → 12 ≤ length s → trailerOf s ≡ trailerBytes start entries day
-    → start < 4294967296 → entries < 65536 → day < 4294967296 → Trailer s start entries 1 day
+    (s : List ℕ) (version start entries day : ℕ) → 12 ≤ length s → trailerOf s ≡ trailerBytes version start entries day
+    → version < 65536 → start < 4294967296 → entries < 65536 → day < 4294967296 → Trailer s start entries version day
 unfolding trailerBytes field big
-trailer-back s start entries day h e near few low =
+trailer-back s version start entries day h e known near few low =
     let t = trailer-at s h in
     record {
       start = t .start ∙ ap (λ (l : List ℕ). field l 0 4) e ∙ number-big 4 start ∙ mod-eq-of-lt near;
       entries = t .entries ∙ ap (λ (l : List ℕ). field l 4 2) e ∙ number-big 2 entries ∙ mod-eq-of-lt few;
-      version = t .version ∙ ap (λ (l : List ℕ). field l 6 2) e ∙ number-big 2 1;
+      version = t .version ∙ ap (λ (l : List ℕ). field l 6 2) e ∙ number-big 2 version ∙ mod-eq-of-lt known;
       day = t .day ∙ ap (λ (l : List ℕ). field l 8 4) e ∙ number-big 4 day ∙ mod-eq-of-lt low;
     }
 
@@ -53,17 +53,15 @@ join : (t : List ℕ) (at k m : ℕ) → take k (drop at t) ++ take m (drop (at 
 join t at k m = ap (λ (l : List ℕ). take k (drop at t) ++ take m l) (sym (drop-drop k at t)) ∙ sym (take-add k m (drop at t))
 
 pub trailer-again :
-    (s : List ℕ) → Octets s → 12 ≤ length s → versionIn s ≡ 1 → trailerBytes (indexStart s) (entryCount s) (dayIn s) ≡ trailerOf s
+    (s : List ℕ) → Octets s → 12 ≤ length s → trailerBytes (versionIn s) (indexStart s) (entryCount s) (dayIn s) ≡ trailerOf s
 unfolding trailerBytes trailerOf
-trailer-again s o h v =
+trailer-again s o h =
     let t : List ℕ = drop (length s - 12) s in
     let f = trailer-at s h in
     let q : Octets t = octets-drop (length s - 12) o in
     let twelve : length t ≡ 12 = omega (arith, length-drop (length s - 12) s) in
-    let one : 1 ≡ field t 6 2 = sym v ∙ f .version in
-    rw (f .start, f .entries, f .day)
-    (ap (λ (n : ℕ). big 4 (field t 0 4) ++ (big 2 (field t 4 2) ++ (big 2 n ++ big 4 (field t 8 4)))) one
-    ∙ ap₂ _++_ (big-field q 0 4 (omega arith))
+    rw (f .start, f .entries, f .version, f .day)
+    (ap₂ _++_ (big-field q 0 4 (omega arith))
     (ap₂ _++_ (big-field q 4 2 (omega arith)) (ap₂ _++_ (big-field q 6 2 (omega arith)) (big-field q 8 4 (omega arith))))
     ∙ ap (λ (l : List ℕ). take 4 t ++ (take 2 (drop 4 t) ++ l)) (join t 6 2 4) ∙ ap (λ (l : List ℕ). take 4 t ++ l) (join t 4 2 6)
     ∙ join t 0 4 8 ∙ take-all 12 t (omega arith))

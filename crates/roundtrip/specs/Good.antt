@@ -16,9 +16,10 @@ pub data GoodItems : List Item → Type 0 where
       {item : Item} {rest : List Item} → fieldsGood (item .kind) (item .flags) (length (item .bytes)) ≡ true
       → Octets (item .bytes) → GoodItems rest → GoodItems (item ∷ rest)
 
--- good items, not too many, with a real day, whose image is not too long
-pub record Fits (items : List Item) (day : ℕ) : Type 0 where
+-- good items, not too many, with a real day, whose image of a known version is not too long
+pub record Fits (version : ℕ) (items : List Item) (day : ℕ) : Type 0 where
+  pub known : version ≡ 1
   pub good : GoodItems items
   pub few : length items ≤ 96
   pub real : realDay 1950 2099 day ≡ true
-  pub small : length (imageBytes items day) ≤ 262144
+  pub small : length (imageBytes version items day) ≤ 262144

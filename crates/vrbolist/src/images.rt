@@ -99,8 +99,8 @@ pub extern "C" fn vrbolist_write(
     day: u64,
     out: &mut [u8],
 ) -> WriteAnswer
-    ensures answer { λ r. ⌜ r ≡ writeTold (writtenOf (now (items .entry)) (now (kinds .entry)) (now (flags .entry)) (now (lengths .entry)) day (length (now (out .entry)))) ⌝ }
-    ensures output { λ _. ⌜ now (out .exit) ≡ outputOf (now (items .entry)) (now (kinds .entry)) (now (flags .entry)) (now (lengths .entry)) day (now (out .entry)) ⌝ }
+    ensures answer { λ r. ⌜ r ≡ writeTold (writtenOf 1 (now (items .entry)) (now (kinds .entry)) (now (flags .entry)) (now (lengths .entry)) day (length (now (out .entry)))) ⌝ }
+    ensures output { λ _. ⌜ now (out .exit) ≡ outputOf 1 (now (items .entry)) (now (kinds .entry)) (now (flags .entry)) (now (lengths .entry)) day (now (out .entry)) ⌝ }
 {
     match writer::write(items, kinds, flags, lengths, day, out) {
         Written::Length(length) => WriteAnswer {

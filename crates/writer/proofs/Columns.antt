@@ -1,5 +1,5 @@
--- The columns item by item, and the image that they make: each entry has 8 octets, and lengths that sum to the packed octets
--- cut those into items that are all of them.
+-- The columns item by item, and the image that they make: each entry has the octets of its version, and lengths that sum to
+-- the packed octets cut those into items that are all of them.
 use Prim.Native.Nat.{ℕ, suc, _+_, _*_, _≤_, _<_}
 use mathlib.Core.Path.{_≡_, refl, ap, _∙_}
 use mathlib.Core.Bool.{Bool, true, false, _&&_}
@@ -10,10 +10,11 @@ use native.Mathlib.Omega.{arith}
 use borrow.Author.Tests.{leb-true, eqb-true}
 use lib.ListN.{length, getD, take, drop, length-append, length-drop, take-append-drop}
 use lib.Seq.{drop-cons, drop-drop, getD-drop, length-take-le}
-use Rattle.octets.specs.Octets.{big}
 use Rattle.calendar.specs.Days.{realDay}
 use Rattle.image.specs.Items.{packed, entryBytes, indexBytes, trailerBytes, imageBytes}
+use Rattle.image.specs.Index.{width}
 use Rattle.image.specs.Rules.{fieldsGood}
+use Rattle.image.proofs.Widths.{entry-length}
 use Rattle.writer.specs.Rows.{rowsBytes}
 use Rattle.writer.specs.Writing.{rowsGood, sumAll, argumentsGood, itemsOf}
 
@@ -29,12 +30,12 @@ module _ (kinds flags lengths : List ℕ) (i : ℕ) (more : i < length kinds) wh
   good-next =
       rw (add-one i, drop-cons kinds i 0 more, head-at flags i, head-at lengths i, drop-drop 1 i flags, drop-drop 1 i lengths, add-one i)
 
-  pub rows-next : (offset : ℕ) →
-      rowsBytes offset (drop i kinds) (drop i flags) (drop i lengths)
-      ≡ entryBytes (getD kinds i 0) (getD flags i 0) (getD lengths i 0) offset
-      ++ rowsBytes (offset + getD lengths i 0) (drop (i + 1) kinds) (drop (i + 1) flags) (drop (i + 1) lengths)
+  pub rows-next : (version offset : ℕ) →
+      rowsBytes version offset (drop i kinds) (drop i flags) (drop i lengths)
+      ≡ entryBytes version (getD kinds i 0) (getD flags i 0) (getD lengths i 0) offset
+      ++ rowsBytes version (offset + getD lengths i 0) (drop (i + 1) kinds) (drop (i + 1) flags) (drop (i + 1) lengths)
   unfolding rowsBytes
-  rows-next offset =
+  rows-next version offset =
       rw (add-one i, drop-cons kinds i 0 more, head-at flags i, head-at lengths i, drop-drop 1 i flags, drop-drop 1 i lengths, add-one i)
 
 pub sum-next :
@@ -42,16 +43,14 @@ pub sum-next :
 unfolding sumAll
 sum-next lengths i h = rw (add-one i, drop-cons lengths i 0 h)
 
-pub entry-length : (kind flags size offset : ℕ) → length (entryBytes kind flags size offset) ≡ 8
-unfolding entryBytes big
-entry-length kind flags size offset = refl
-
-pub rows-length : (kinds flags lengths : List ℕ) (offset : ℕ) → length (rowsBytes offset kinds flags lengths) ≡ 8 * length kinds
+pub rows-length :
+    (version : ℕ) (kinds flags lengths : List ℕ) (offset : ℕ)
+    → length (rowsBytes version offset kinds flags lengths) ≡ width version * length kinds
 unfolding rowsBytes
-rows-length [] flags lengths offset = refl
-rows-length (kind ∷ rest) flags lengths offset =
-    rw (length-append (entryBytes kind (getD flags 0 0) (getD lengths 0 0) offset), entry-length kind (getD flags 0 0) (getD lengths 0 0) offset)
-    (omega (arith, rows-length rest (drop 1 flags) (drop 1 lengths) (offset + getD lengths 0 0)))
+rows-length version [] flags lengths offset = omega arith
+rows-length version (kind ∷ rest) flags lengths offset =
+    rw (length-append (entryBytes version kind (getD flags 0 0) (getD lengths 0 0) offset), entry-length version kind (getD flags 0 0) (getD lengths 0 0) offset)
+    (omega (arith, rows-length version rest (drop 1 flags) (drop 1 lengths) (offset + getD lengths 0 0)))
 
 and-true : (a b : Bool) → (a && b) ≡ true → (a ≡ true) × (b ≡ true)
 and-true true b e = (refl, e)
@@ -81,15 +80,15 @@ packed-items (kind ∷ kinds) flags (x ∷ lengths) octets n s =
     ∙ take-append-drop x octets
 
 index-items :
-    (kinds flags lengths octets : List ℕ) (offset : ℕ) → length lengths ≡ length kinds → sumAll lengths ≡ length octets
-    → indexBytes offset (itemsOf kinds flags lengths octets) ≡ rowsBytes offset kinds flags lengths
+    (version : ℕ) (kinds flags lengths octets : List ℕ) (offset : ℕ) → length lengths ≡ length kinds → sumAll lengths ≡ length octets
+    → indexBytes version offset (itemsOf kinds flags lengths octets) ≡ rowsBytes version offset kinds flags lengths
 unfolding indexBytes itemsOf rowsBytes sumAll
-index-items [] flags lengths octets offset n s = refl
-index-items (kind ∷ kinds) flags [] octets offset n s = absurd (omega arith)
-index-items (kind ∷ kinds) flags (x ∷ lengths) octets offset n s =
+index-items version [] flags lengths octets offset n s = refl
+index-items version (kind ∷ kinds) flags [] octets offset n s = absurd (omega arith)
+index-items version (kind ∷ kinds) flags (x ∷ lengths) octets offset n s =
     let some : x ≤ length octets = omega arith in
     let left : sumAll lengths ≡ length (drop x octets) = rw length-drop (omega arith) in
-    rw (length-take-le x octets some, index-items kinds (drop 1 flags) lengths (drop x octets) (offset + x) (omega arith) left)
+    rw (length-take-le x octets some, index-items version kinds (drop 1 flags) lengths (drop x octets) (offset + x) (omega arith) left)
 
 count-items : (kinds flags lengths octets : List ℕ) → length (itemsOf kinds flags lengths octets) ≡ length kinds
 unfolding itemsOf
@@ -97,9 +96,9 @@ count-items [] flags lengths octets = refl
 count-items (kind ∷ kinds) flags lengths octets = ap suc (count-items kinds (drop 1 flags) (drop 1 lengths) (drop (getD lengths 0 0) octets))
 
 pub image-of :
-    (octets kinds flags lengths : List ℕ) (day : ℕ) → length lengths ≡ length kinds → sumAll lengths ≡ length octets
-    → imageBytes (itemsOf kinds flags lengths octets) day
-    ≡ octets ++ (rowsBytes 0 kinds flags lengths ++ trailerBytes (length octets) (length kinds) day)
+    (version : ℕ) (octets kinds flags lengths : List ℕ) (day : ℕ) → length lengths ≡ length kinds → sumAll lengths ≡ length octets
+    → imageBytes version (itemsOf kinds flags lengths octets) day
+    ≡ octets ++ (rowsBytes version 0 kinds flags lengths ++ trailerBytes version (length octets) (length kinds) day)
 unfolding imageBytes
-image-of octets kinds flags lengths day n s =
-    rw (packed-items kinds flags lengths octets n s, index-items kinds flags lengths octets 0 n s, count-items kinds flags lengths octets)
+image-of version octets kinds flags lengths day n s =
+    rw (packed-items kinds flags lengths octets n s, index-items version kinds flags lengths octets 0 n s, count-items kinds flags lengths octets)

@@ -5,8 +5,8 @@ use lib.ListN.{getD, drop}
 use Rattle.image.specs.Items.{entryBytes}
 
 -- the entries, the first item standing at `offset`
-unfoldable pub rowsBytes : ℕ → List ℕ → List ℕ → List ℕ → List ℕ
-rowsBytes offset [] flags lengths = []
-rowsBytes offset (kind ∷ rest) flags lengths =
-    entryBytes kind (getD flags 0 0) (getD lengths 0 0) offset
-    ++ rowsBytes (offset + getD lengths 0 0) rest (drop 1 flags) (drop 1 lengths)
+unfoldable pub rowsBytes : ℕ → ℕ → List ℕ → List ℕ → List ℕ → List ℕ
+rowsBytes version offset [] flags lengths = []
+rowsBytes version offset (kind ∷ rest) flags lengths =
+    entryBytes version kind (getD flags 0 0) (getD lengths 0 0) offset
+    ++ rowsBytes version (offset + getD lengths 0 0) rest (drop 1 flags) (drop 1 lengths)

@@ -1,4 +1,4 @@
--- Writing an image from packed items, their kinds, flags and lengths, and a day: refusals 1, 3 and 9 in that order; the
+-- Writing an image of a version from packed items, their kinds, flags and lengths, and a day: refusals 1, 3 and 9 in that order; the
 -- image, and every octet of the lent output.
 use Prim.Native.Nat.{ℕ, _+_, _*_}
 use mathlib.Core.Bool.{Bool, true, cond, _&&_}
@@ -8,6 +8,7 @@ use lib.ListN.{length, getD, take, drop}
 use Rattle.refusal.specs.declared.Refusal.the-variants.{Argument, Limit, Short}
 use Rattle.calendar.specs.Days.{realDay}
 use Rattle.image.specs.Items.{Item, imageBytes}
+use Rattle.image.specs.Index.{width}
 use Rattle.image.specs.Rules.{fieldsGood}
 use Rattle.writer.specs.declared.Written.{Written}
 use Rattle.writer.specs.declared.Written.the-variants.{Length, Refused}
@@ -32,15 +33,15 @@ argumentsGood packed kinds flags lengths day =
     && (eqb (length lengths) (length kinds)
     && (rowsGood kinds flags lengths && eqb (sumAll lengths) (length packed)))))
 
-unfoldable pub sizeOf : List ℕ → List ℕ → ℕ
-sizeOf packed kinds = length packed + 8 * length kinds + 12
+unfoldable pub sizeOf : ℕ → List ℕ → List ℕ → ℕ
+sizeOf version packed kinds = length packed + width version * length kinds + 12
 
 -- 3 for an image over 262,144 octets, 9 for an output without room for it
-unfoldable pub writtenOf : List ℕ → List ℕ → List ℕ → List ℕ → ℕ → ℕ → Written
-writtenOf packed kinds flags lengths day room =
+unfoldable pub writtenOf : ℕ → List ℕ → List ℕ → List ℕ → List ℕ → ℕ → ℕ → Written
+writtenOf version packed kinds flags lengths day room =
     cond (argumentsGood packed kinds flags lengths day)
-    (cond (leb (sizeOf packed kinds) 262144)
-    (cond (leb (sizeOf packed kinds) room) (Length (sizeOf packed kinds)) (Refused Short))
+    (cond (leb (sizeOf version packed kinds) 262144)
+    (cond (leb (sizeOf version packed kinds) room) (Length (sizeOf version packed kinds)) (Refused Short))
     (Refused (Limit 0)))
     (Refused Argument)
 
@@ -56,8 +57,8 @@ unfoldable pub onWritten : Written → List ℕ → List ℕ → List ℕ
 onWritten (Refused refusal) image old = old
 onWritten (Length size) image old = image ++ drop size old
 
-unfoldable pub outputOf : List ℕ → List ℕ → List ℕ → List ℕ → ℕ → List ℕ → List ℕ
-outputOf packed kinds flags lengths day old =
-    onWritten (writtenOf packed kinds flags lengths day (length old))
-    (imageBytes (itemsOf kinds flags lengths packed) day)
+unfoldable pub outputOf : ℕ → List ℕ → List ℕ → List ℕ → List ℕ → ℕ → List ℕ → List ℕ
+outputOf version packed kinds flags lengths day old =
+    onWritten (writtenOf version packed kinds flags lengths day (length old))
+    (imageBytes version (itemsOf kinds flags lengths packed) day)
     old

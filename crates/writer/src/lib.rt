@@ -4,6 +4,7 @@ mod copying;
 use calendar::real_day;
 use copying::copy;
 use image::fields_good;
+use image::width;
 use refusal::Refusal;
 ghost use mathlib.Core.Path.{_≡_};
 ghost use mathlib.Core.List.{_++_};
@@ -11,8 +12,12 @@ ghost use Prim.Native.Nat.{_*_, _≤_};
 ghost use lib.ListN.{length, drop};
 ghost use Rattle.octets.specs.Octets.{big};
 ghost use Rattle.image.specs.Items.{entryBytes, trailerBytes};
+ghost use Rattle.image.specs.Index.{width};
 ghost use Rattle.writer.specs.Rows.{rowsBytes};
 ghost use Rattle.writer.specs.Writing.{rowsGood, sumAll, argumentsGood, writtenOf, outputOf};
+
+// The version that is written.
+const VERSION: usize = 1;
 
 // The length of the image that was written.
 pub enum Written {
@@ -30,15 +35,15 @@ pub fn write(
     day: u64,
     out: &mut [u8],
 ) -> Written
-    ensures answer { λ r. ⌜ r ≡ writtenOf (now (packed .entry)) (now (kinds .entry)) (now (flags .entry)) (now (lengths .entry)) day (length (now (out .entry))) ⌝ }
-    ensures output { λ _. ⌜ now (out .exit) ≡ outputOf (now (packed .entry)) (now (kinds .entry)) (now (flags .entry)) (now (lengths .entry)) day (now (out .entry)) ⌝ }
+    ensures answer { λ r. ⌜ r ≡ writtenOf 1 (now (packed .entry)) (now (kinds .entry)) (now (flags .entry)) (now (lengths .entry)) day (length (now (out .entry))) ⌝ }
+    ensures output { λ _. ⌜ now (out .exit) ≡ outputOf 1 (now (packed .entry)) (now (kinds .entry)) (now (flags .entry)) (now (lengths .entry)) day (now (out .entry)) ⌝ }
 {
     if !arguments_good(packed, kinds, flags, lengths, day) {
         return Written::Refused(Refusal::Argument);
     }
     let start = packed.len();
     let count = kinds.len();
-    let trailer = start + 8 * count;
+    let trailer = start + width(VERSION) * count;
     let size = trailer + 12;
     if 262144 < size {
         return Written::Refused(Refusal::Limit { at: 0 });
@@ -47,8 +52,8 @@ pub fn write(
         return Written::Refused(Refusal::Short);
     }
     copy(packed, out);
-    put_index(kinds, flags, lengths, &mut out[start..]);
-    put_trailer(start, count, day, &mut out[trailer..]);
+    put_index(VERSION, kinds, flags, lengths, &mut out[start..]);
+    put_trailer(VERSION, start, count, day, &mut out[trailer..]);
     Written::Length(size)
 }
 
@@ -103,25 +108,27 @@ fn sum_all(lengths: &[u32]) -> usize
 }
 
 // The index of the columns, each offset the sum of the lengths before it.
-fn put_index(kinds: &[u8], flags: &[u8], lengths: &[u32], out: &mut [u8])
-    requires { ⌜ (length (now flags) ≡ length (now kinds)) × (length (now lengths) ≡ length (now kinds)) × (length (now kinds) ≤ 96) × (8 * length (now kinds) ≤ length (now out)) ⌝ }
-    ensures { λ _. ⌜ now (out .exit) ≡ rowsBytes 0 (now (kinds .entry)) (now (flags .entry)) (now (lengths .entry)) ++ drop (8 * length (now (kinds .entry))) (now (out .entry)) ⌝ }
+fn put_index(version: usize, kinds: &[u8], flags: &[u8], lengths: &[u32], out: &mut [u8])
+    requires { ⌜ (length (now flags) ≡ length (now kinds)) × (length (now lengths) ≡ length (now kinds)) × (length (now kinds) ≤ 96) × (width version * length (now kinds) ≤ length (now out)) ⌝ }
+    ensures { λ _. ⌜ now (out .exit) ≡ rowsBytes version 0 (now (kinds .entry)) (now (flags .entry)) (now (lengths .entry)) ++ drop (width version * length (now (kinds .entry))) (now (out .entry)) ⌝ }
 {
+    let wide = width(version);
     let mut offset = 0;
     let mut at = 0;
     let mut i = 0;
     while i < kinds.len() {
         let size = lengths[i] as usize;
-        put_entry(kinds[i], flags[i], size, offset, &mut out[at..]);
+        put_entry(version, kinds[i], flags[i], size, offset, &mut out[at..]);
         offset += size;
-        at += 8;
+        at += wide;
         i += 1;
     }
 }
 
-fn put_entry(kind: u8, flags: u8, size: usize, offset: usize, out: &mut [u8])
-    requires { ⌜ 8 ≤ length (now out) ⌝ }
-    ensures { λ _. ⌜ now (out .exit) ≡ entryBytes kind flags size offset ++ drop 8 (now (out .entry)) ⌝ }
+// An index entry of a version: kind, flags, length and offset are all of it.
+fn put_entry(version: usize, kind: u8, flags: u8, size: usize, offset: usize, out: &mut [u8])
+    requires { ⌜ width version ≤ length (now out) ⌝ }
+    ensures { λ _. ⌜ now (out .exit) ≡ entryBytes version kind flags size offset ++ drop (width version) (now (out .entry)) ⌝ }
 {
     out[0] = kind;
     out[1] = flags;
@@ -129,13 +136,13 @@ fn put_entry(kind: u8, flags: u8, size: usize, offset: usize, out: &mut [u8])
     put_four(offset, &mut out[4..]);
 }
 
-fn put_trailer(start: usize, entries: usize, day: u64, out: &mut [u8])
+fn put_trailer(version: usize, start: usize, entries: usize, day: u64, out: &mut [u8])
     requires { ⌜ 12 ≤ length (now out) ⌝ }
-    ensures { λ _. ⌜ now (out .exit) ≡ trailerBytes start entries day ++ drop 12 (now (out .entry)) ⌝ }
+    ensures { λ _. ⌜ now (out .exit) ≡ trailerBytes version start entries day ++ drop 12 (now (out .entry)) ⌝ }
 {
     put_four(start, &mut out[0..]);
     put_two(entries, &mut out[4..]);
-    put_two(1, &mut out[6..]);
+    put_two(version, &mut out[6..]);
     put_four(day as usize, &mut out[8..]);
 }
 

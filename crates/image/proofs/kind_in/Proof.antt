@@ -1,5 +1,5 @@
 -- The first octet of an entry, where it is there.
-use Prim.Native.Nat.{ℕ, _+_, _*_}
+use Prim.Native.Nat.{ℕ}
 use mathlib.Core.Path.{sym, ap, _∙_}
 use native.Mathlib.Omega.{arith}
 use Rattle.image.specs.declared.IndexEntry.{IndexEntry}
@@ -12,13 +12,13 @@ use Rattle.image.proofs.kind_in.Tie as tie
 cast-result : tie.Need-cast-result
 cast-result c =
     let back4 = c .before .before .before .before in
-    omega (arith, c .before .before .before .before .shared-slice-known .given (c .before .before .index-start .result + 8 * back4 .before .args .place))
+    omega (arith, back4 .shared-slice-known .given (c .before .before .entry-start .result))
 
 returns : tie.Need-returns
 unfolding entryIn entryAt
 returns c =
     let back4 = c .before .before .before .before in
-    sym (field-one (back4 .before .args .image .now) (c .before .before .index-start .result + 8 * back4 .before .args .place) (c .before .if2 .taken)) ∙ ap (λ (k : ℕ). field (back4 .before .args .image .now) (k + 8 * back4 .before .args .place) 1) (c .before .before .index-start .ensures .0)
+    sym (field-one (back4 .before .args .image .now) (c .before .before .entry-start .result) (c .before .if2 .taken)) ∙ ap (λ (k : ℕ). field (back4 .before .args .image .now) k 1) (c .before .before .entry-start .ensures .0)
 
 returns-2 : tie.Need-returns-2
 returns-2 c = ap (λ (e : IndexEntry). e .kind) (c .entry-in .ensures)
@@ -26,12 +26,4 @@ returns-2 c = ap (λ (e : IndexEntry). e .kind) (c .entry-in .ensures)
 pub kind-in-spec : {M : Type 1} → statement M
 kind-in-spec =
     tie.close
-    (tie.spec
-    (λ c κs. search needs)
-    (λ c. search needs)
-    (λ c. search needs)
-    (λ c. search needs)
-    cast-result
-    returns
-    (λ c κs. search needs)
-    returns-2)
+    (tie.spec (λ c κs. search needs) (λ c. search needs) cast-result returns (λ c κs. search needs) returns-2)

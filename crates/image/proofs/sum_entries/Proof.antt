@@ -8,35 +8,44 @@ use lib.ListN.{length}
 use Rattle.image.specs.declared.IndexEntry.{IndexEntry}
 use Rattle.image.specs.Rules.{entryGood, sumOf}
 use Rattle.image.proofs.Opening.{sum-more, sum-unfit}
+use Rattle.image.proofs.Widths.{width-within}
 use Rattle.image.proofs.sum_entries.Statement.{statement}
 use Rattle.image.proofs.sum_entries.Tie as tie
 
 abbrev Inv-loop : tie.InvT-loop
-Inv-loop image start entries sum₀ left₀ at₀ sum left at =
-    (left ≤ entries) × (at + 8 * left ≤ length image) × (sum ≤ 65535 * (entries - left))
-    × (sumOf image start entries 0 ≡ sumOf image at left sum)
+Inv-loop image start entries wide sum₀ left₀ at₀ sum left at =
+    (left ≤ entries) × (at + wide * left ≤ length image) × (sum ≤ 65535 * (entries - left))
+    × (sumOf wide image start entries 0 ≡ sumOf wide image at left sum)
 
 abbrev μ-loop : tie.MeasureT-loop
-μ-loop image start entries sum₀ left₀ at₀ sum left at = left
+μ-loop image start entries wide sum₀ left₀ at₀ sum left at = left
 
 loop-holds : tie.Need-loop-holds Inv-loop μ-loop
 loop-holds c = (omega arith, omega arith, omega arith, refl)
 
+-- the entry at hand and those behind it
+within : (c : tie.In-loop Inv-loop μ-loop) →
+    let wide = c .before .before .before .args .wide in
+    wide * (c .before .loop .left - 1) + wide ≤ wide * c .before .loop .left
+within c =
+    let left = c .before .loop .left in
+    width-within (c .before .before .before .args .wide) (left - 1) left (omega (arith, c .loop-test .taken))
+
 entry-at-requires : tie.Need-entry-at-requires Inv-loop μ-loop
-entry-at-requires c κs = omega arith
+entry-at-requires c κs = omega (arith, within c)
 
 returns : tie.Need-returns Inv-loop μ-loop
 returns c =
     let now = c .before .before .before .before .loop in
     let one : suc (now .left - 1) ≡ now .left = omega arith in
     let bad = sym (ap (λ e. entryGood e (now .sum)) (c .before .before .entry-at .ensures .0)) ∙ (sym (c .before .entry-good .ensures) ∙ not-true _ (c .if1 .taken)) in
-    sym (now .inv .3 ∙ rw (← one) (sum-unfit _ (now .at) (now .left - 1) (now .sum) bad))
+    sym (now .inv .3 ∙ rw (← one) (sum-unfit _ _ (now .at) (now .left - 1) (now .sum) bad))
 
 add-sum : tie.Need-add-sum Inv-loop μ-loop
 add-sum c = omega (arith, c .before .before .before .entry-at .ensures .1)
 
 add-at : tie.Need-add-at Inv-loop μ-loop
-add-at c = omega arith
+add-at c = omega (arith, within (c .before .before .before .before))
 
 sub-left : tie.Need-sub-left Inv-loop μ-loop
 sub-left c = omega arith
@@ -51,11 +60,12 @@ loop-again c =
     let one : suc (now .left - 1) ≡ now .left = omega arith in
     let good = sym (ap (λ e. entryGood e (now .sum)) (c .before .before .before .entry-at .ensures .0)) ∙ (sym (c .before .before .entry-good .ensures) ∙ not-false _ (c .before .if1 .left)) in
     let s = back4 .before .before .before .args .image .now in
-    let more = sum-more s (now .at) (now .left - 1) (now .sum) good in
-    let step : sumOf s (now .at) (now .left) (now .sum) ≡ sumOf s (now .at + 8) (now .left - 1) (now .sum + c .before .before .before .entry-at .result .length) =
-    ap (λ n. sumOf s (now .at) n (now .sum)) (sym one)
-    ∙ (more ∙ ap (λ (e : IndexEntry). sumOf s (now .at + 8) (now .left - 1) (now .sum + e .length)) (sym (c .before .before .before .entry-at .ensures .0))) in
-    (omega arith, omega arith, omega (arith, c .before .before .before .entry-at .ensures .1), now .inv .3 ∙ step)
+    let wide = back4 .before .before .before .args .wide in
+    let more = sum-more wide s (now .at) (now .left - 1) (now .sum) good in
+    let step : sumOf wide s (now .at) (now .left) (now .sum) ≡ sumOf wide s (now .at + wide) (now .left - 1) (now .sum + c .before .before .before .entry-at .result .length) =
+    ap (λ n. sumOf wide s (now .at) n (now .sum)) (sym one)
+    ∙ (more ∙ ap (λ (e : IndexEntry). sumOf wide s (now .at + wide) (now .left - 1) (now .sum + e .length)) (sym (c .before .before .before .entry-at .ensures .0))) in
+    (omega arith, omega (arith, within back4), omega (arith, c .before .before .before .entry-at .ensures .1), now .inv .3 ∙ step)
 
 returns-2 : tie.Need-returns-2 Inv-loop μ-loop
 unfolding sumOf

@@ -19,10 +19,11 @@ returns c =
     let old = a .out .now in
     let start = big 4 (a .start) in
     let entries = big 2 (a .entries) in
+    let version = big 2 (a .version) in
     let first = put-next old [] start old _ 0 4 refl refl (back12 .before .before .put-four .ensures) in
     let second = put-next old start entries _ _ 4 2 refl first (back8 .before .before .put-two .ensures) in
-    let third = put-next old (start ++ entries) (big 2 1) _ _ 6 2 refl second (back4 .before .before .put-two2 .ensures) in
-    put-next old ((start ++ entries) ++ big 2 1) (big 4 (a .day)) _ _ 8 4 refl third (c .before .before .put-four2 .ensures)
+    let third = put-next old (start ++ entries) version _ _ 6 2 refl second (back4 .before .before .put-two2 .ensures) in
+    put-next old ((start ++ entries) ++ version) (big 4 (a .day)) _ _ 8 4 refl third (c .before .before .put-four2 .ensures)
 
 pub put-trailer-spec : {M : Type 1} → statement M
 put-trailer-spec =

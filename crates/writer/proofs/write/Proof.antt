@@ -1,12 +1,15 @@
 -- The tests come in the order of the refusals; then the octets, the index and the trailer follow one another.
-use mathlib.Core.Path.{_≡_, refl, sym, _∙_}
+use mathlib.Core.Path.{_≡_, refl, ap, sym, _∙_}
 use native.Mathlib.Omega.{arith}
-use Prim.Native.Nat.{_+_, _*_, _≤_}
+use Prim.Native.Nat.{ℕ, _+_, _*_, _≤_}
 use mathlib.Core.Bool.{true}
 use mathlib.Core.List.{_++_}
 use borrow.Author.Tests.{not-true, not-false}
-use lib.ListN.{length, length-append, length-take, length-drop}
+use lib.ListN.{length, drop, length-append, length-take, length-drop}
 use Rattle.image.specs.Items.{trailerBytes}
+use Rattle.image.specs.Index.{width}
+use Rattle.image.proofs.Widths.{index-small}
+use Rattle.writer.specs.declared.Written.the-variants.{Length}
 use Rattle.writer.specs.Rows.{rowsBytes}
 use Rattle.writer.specs.Writing.{argumentsGood, sizeOf}
 use Rattle.writer.proofs.Stores.{put-next}
@@ -20,8 +23,8 @@ returns : tie.Need-returns
 returns c =
     let back4 = c .before .before .before .before in
     let a = back4 .before .before .before .args in
-    let told = refused-argument (a .packed .now) (a .kinds .now) (a .flags .now) (a .lengths .now) (a .day) (a .out .now) (sym (c .before .arguments-good .ensures) ∙ not-true _ (c .if1 .taken)) in
-    (sym told, output-refused (a .packed .now) (a .kinds .now) (a .flags .now) (a .lengths .now) (a .day) (a .out .now) told)
+    let told = refused-argument 1 (a .packed .now) (a .kinds .now) (a .flags .now) (a .lengths .now) (a .day) (a .out .now) (sym (c .before .arguments-good .ensures) ∙ not-true _ (c .if1 .taken)) in
+    (sym told, output-refused 1 (a .packed .now) (a .kinds .now) (a .flags .now) (a .lengths .now) (a .day) (a .out .now) told)
 
 good : (c : tie.Else1) →
     let a = c .before .before .before .before .before .before .before .args in
@@ -34,65 +37,91 @@ few c =
     let a = back4 .before .before .before .args in
     arguments-tell (a .packed .now) (a .kinds .now) (a .flags .now) (a .lengths .now) (a .day) (good c) .0
 
+-- the octets of the index are few, and the image has as many as are said
+index-few : (c : tie.After-width) → c .width .result * length (c .before .before .before .before .before .before .before .before .args .kinds .now) ≤ 65536
+index-few c =
+    let back4 = c .before .before .before .before in
+    let back8 = back4 .before .before .before .before in
+    index-small 1 (length (back8 .args .kinds .now)) (c .width .ensures) (few (c .before))
+
+size : (c : tie.After-width) →
+    let a = c .before .before .before .before .before .before .before .before .args in
+    length (a .packed .now) + c .width .result * length (a .kinds .now) + 12 ≡ sizeOf 1 (a .packed .now) (a .kinds .now)
+unfolding sizeOf
+size c = rw (c .width .ensures)
+
 mul-trailer : tie.Need-mul-trailer
-mul-trailer c = omega (arith, few c)
+mul-trailer c = omega (arith, index-few c)
 
 add-trailer : tie.Need-add-trailer
 add-trailer c =
     let back4 = c .before .before .before .before in
-    omega (arith, few c, back4 .before .before .before .good)
+    let back8 = back4 .before .before .before .before in
+    omega (arith, index-few c, back8 .good)
 
 add-size : tie.Need-add-size
 add-size c =
     let back4 = c .before .before .before .before in
-    omega (arith, few c, back4 .before .before .before .good)
+    let back8 = back4 .before .before .before .before in
+    omega (arith, index-few c, back8 .good)
 
 returns-2 : tie.Need-returns-2
-unfolding sizeOf
 returns-2 c =
     let back4 = c .before .before .before .before in
     let back8 = back4 .before .before .before .before in
-    let a = back8 .args in
-    let told = refused-limit (a .packed .now) (a .kinds .now) (a .flags .now) (a .lengths .now) (a .day) (a .out .now) (good (c .before)) (c .if2 .taken) in
-    (sym told, output-refused (a .packed .now) (a .kinds .now) (a .flags .now) (a .lengths .now) (a .day) (a .out .now) told)
+    let a = back8 .before .args in
+    let told = refused-limit 1 (a .packed .now) (a .kinds .now) (a .flags .now) (a .lengths .now) (a .day) (a .out .now) (good (c .before .before)) (omega (arith, size (c .before), c .if2 .taken)) in
+    (sym told, output-refused 1 (a .packed .now) (a .kinds .now) (a .flags .now) (a .lengths .now) (a .day) (a .out .now) told)
+
+-- an image that is not too long
+small : (c : tie.Else2) →
+    let a = c .before .before .before .before .before .before .before .before .before .args in
+    sizeOf 1 (a .packed .now) (a .kinds .now) ≤ 262144
+small c = omega (arith, size (c .before), c .if2 .left)
 
 returns-3 : tie.Need-returns-3
-unfolding sizeOf
 returns-3 c =
     let back4 = c .before .before .before .before in
     let back8 = back4 .before .before .before .before in
-    let a = back8 .before .args in
-    let told = refused-short (a .packed .now) (a .kinds .now) (a .flags .now) (a .lengths .now) (a .day) (a .out .now) (good (c .before .before)) (c .before .if2 .left) (c .if3 .taken) in
-    (sym told, output-refused (a .packed .now) (a .kinds .now) (a .flags .now) (a .lengths .now) (a .day) (a .out .now) told)
+    let a = back8 .before .before .args in
+    let told = refused-short 1 (a .packed .now) (a .kinds .now) (a .flags .now) (a .lengths .now) (a .day) (a .out .now) (good (c .before .before .before)) (small (c .before)) (omega (arith, size (c .before .before), c .if3 .taken)) in
+    (sym told, output-refused 1 (a .packed .now) (a .kinds .now) (a .flags .now) (a .lengths .now) (a .day) (a .out .now) told)
 
 put-index-requires : tie.Need-put-index-requires
+unfolding sizeOf
 put-index-requires c κs =
     let back4 = c .before .before .before .before in
     let back8 = back4 .before .before .before .before in
     let back12 = back8 .before .before .before .before in
-    let a = back12 .before .before .args in
-    let tell = arguments-tell (a .packed .now) (a .kinds .now) (a .flags .now) (a .lengths .now) (a .day) (good (back4 .before .before .before)) in
-    (tell .1, tell .2, tell .0, simp (length-take, length-drop) (omega (arith, c .before .before .out .given, c .before .before .before .copy .kept)))
+    let a = back12 .before .before .before .args in
+    let tell = arguments-tell (a .packed .now) (a .kinds .now) (a .flags .now) (a .lengths .now) (a .day) (good back8) in
+    (tell .1, tell .2, tell .0, simp (length-take, length-drop) (omega (arith, size (back4 .before .before .before), back4 .before .if3 .left, c .before .before .out .given, c .before .before .before .copy .kept)))
 
 returns-4 : tie.Need-returns-4
-unfolding sizeOf
 returns-4 c =
     let back4 = c .before .before .before .before in
     let back8 = back4 .before .before .before .before in
     let back12 = back8 .before .before .before .before in
     let back16 = back12 .before .before .before .before in
     let back20 = back16 .before .before .before .before in
-    let a = back20 .before .args in
+    let a = back20 .before .before .args in
     let octets = a .packed .now in
     let kinds = a .kinds .now in
-    let rows = rowsBytes 0 kinds (a .flags .now) (a .lengths .now) in
+    let rows = rowsBytes 1 0 kinds (a .flags .now) (a .lengths .now) in
+    let trailer = trailerBytes 1 (length octets) (length kinds) (a .day) in
     let old = a .out .now in
-    let sum : length (octets ++ rows) ≡ length octets + 8 * length kinds =
-    length-append octets rows ∙ rw (rows-length kinds (a .flags .now) (a .lengths .now) 0) in
-    let index = put-next old octets rows _ _ (length octets) (8 * length kinds) refl (back8 .before .before .copy .ensures) (back4 .before .before .put-index .ensures) in
-    let trailer = put-next old (octets ++ rows) (trailerBytes (length octets) (length kinds) (a .day)) _ _ (length octets + 8 * length kinds) 12 sum index (c .before .before .put-trailer .ensures) in
-    let told = output-written (a .packed .now) (a .kinds .now) (a .flags .now) (a .lengths .now) (a .day) old (good (back12 .before .before)) (back12 .before .if2 .left) (back12 .if3 .left) in
-    (sym (all-written (a .packed .now) (a .kinds .now) (a .flags .now) (a .lengths .now) (a .day) old (good (back12 .before .before)) (back12 .before .if2 .left) (back12 .if3 .left)), trailer ∙ sym told)
+    let wide = back12 .before .before .width .result in
+    let same : width 1 ≡ wide = sym (back12 .before .before .width .ensures) in
+    let counted = size (back12 .before .before) in
+    let sum : length (octets ++ rows) ≡ length octets + wide * length kinds =
+    length-append octets rows ∙ rw (rows-length 1 kinds (a .flags .now) (a .lengths .now) 0, same) in
+    let index = put-next old octets rows _ _ (length octets) (width 1 * length kinds) refl (back8 .before .before .copy .ensures) (back4 .before .before .put-index .ensures) in
+    let index′ = index ∙ ap (λ (n : ℕ). (octets ++ rows) ++ drop (length octets + n * length kinds) old) same in
+    let all = put-next old (octets ++ rows) trailer _ _ (length octets + wide * length kinds) 12 sum index′ (c .before .before .put-trailer .ensures) in
+    let room : sizeOf 1 octets kinds ≤ length old = omega (arith, counted, back12 .if3 .left) in
+    let answer = all-written 1 octets kinds (a .flags .now) (a .lengths .now) (a .day) old (good (back12 .before .before .before)) (small (back12 .before)) room in
+    let told = output-written 1 octets kinds (a .flags .now) (a .lengths .now) (a .day) old (good (back12 .before .before .before)) (small (back12 .before)) room in
+    (ap Length counted ∙ sym answer, all ∙ ap (λ (n : ℕ). ((octets ++ rows) ++ trailer) ++ drop n old) counted ∙ sym told)
 
 pub write-spec : {M : Type 1} → statement M
 write-spec =
@@ -100,6 +129,7 @@ write-spec =
     (tie.spec
     (λ c κs. search needs)
     returns
+    (λ c κs. search needs)
     mul-trailer
     add-trailer
     add-size
