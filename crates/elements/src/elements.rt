@@ -13,7 +13,7 @@ ghost use Rattle.octets.specs.Alike.{alike};
 
 // An element by its identifier and three offsets: of its first octet, of its contents, and after it.
 pub struct Element {
-    pub tag: u8,
+    pub tag: usize,
     pub at: usize,
     pub contents: usize,
     pub end: usize,
@@ -40,7 +40,7 @@ pub fn element_at(item: &[u8], from: usize, end: usize) -> Found
 }
 
 // The same, if it has the tag. Most headers are short: the fast path.
-pub fn element_tagged(item: &[u8], from: usize, end: usize, tag: u8) -> Found
+pub fn element_tagged(item: &[u8], from: usize, end: usize, tag: usize) -> Found
     ensures { λ r. ⌜ r ≡ foundTagged (now (item .entry)) from end tag ⌝ }
 {
     let next = short_end(item, from, end, tag);
@@ -58,7 +58,7 @@ pub fn element_tagged(item: &[u8], from: usize, end: usize, tag: u8) -> Found
 }
 
 // Tags that the profiles ask for; each is a good identifier.
-fn usual(tag: u8) -> bool
+fn usual(tag: usize) -> bool
     ensures { λ r. ⌜ (r ≡ true → identifierGood tag ≡ true) ⌝ }
 {
     match tag {
@@ -77,11 +77,11 @@ fn usual(tag: u8) -> bool
 }
 
 // The same with a header of any kind, which is not read where the first octet is another.
-fn any_tagged(item: &[u8], from: usize, end: usize, tag: u8) -> Found
+fn any_tagged(item: &[u8], from: usize, end: usize, tag: usize) -> Found
     ensures { λ r. ⌜ r ≡ foundTagged (now (item .entry)) from end tag ⌝ }
 {
     if from < item.len() {
-        if item[from] != tag {
+        if item[from] as usize != tag {
             return Found::Missing;
         }
     }

@@ -6,7 +6,7 @@ ghost use mathlib.Core.Path.{_≡_};
 ghost use Rattle.elements.specs.Steps.{onlyOf, pastOf};
 
 // The one member of an element, if it has the tag.
-pub fn only_member(item: &[u8], e: Element, tag: u8) -> Found
+pub fn only_member(item: &[u8], e: Element, tag: usize) -> Found
     ensures { λ r. ⌜ r ≡ onlyOf (now (item .entry)) e tag ⌝ }
 {
     let Found::One(member) = element_tagged(item, e.contents, e.end, tag) else {
@@ -19,7 +19,7 @@ pub fn only_member(item: &[u8], e: Element, tag: u8) -> Found
 }
 
 // Where an element with that tag ends, or where it would start if it is left out.
-pub fn past(item: &[u8], from: usize, end: usize, tag: u8) -> usize
+pub fn past(item: &[u8], from: usize, end: usize, tag: usize) -> usize
     ensures { λ r. ⌜ r ≡ pastOf (now (item .entry)) from end tag ⌝ }
 {
     let Found::One(e) = element_tagged(item, from, end, tag) else {

@@ -30,7 +30,7 @@ pub fn time_of(item: &[u8], e: Element) -> Time
 }
 
 // The year at the front of a time, with ten octets and a Z after it; 10000 where there is none.
-fn year_of(tag: u8, c: &[u8]) -> u64
+fn year_of(tag: usize, c: &[u8]) -> u64
     ensures { λ r. ⌜ YearOf tag (now (c .entry)) r ⌝ }
 {
     match tag {
