@@ -56,7 +56,7 @@ heading-tagged s =
     Is : Heading → Type 0
     Is = Tagged (getD s 0 0)
 
-pub found-other : (s : List ℕ) (from end tag : ℕ) → (getD s from 0 ≡ tag → ⊥) → withTag tag (foundAt s from end) ≡ Missing
+pub found-other : (s : List ℕ) (from end tag : ℕ) → (getD s from 0 ≡ tag → ⊥) → withTag tag (foundAt paper s from end) ≡ Missing
 unfolding foundAt stepped memberOf placed withTag Tagged
 found-other s from end tag other =
     cond-by Lost (leb from end)

@@ -7,6 +7,7 @@ use octets::part;
 use octets::same;
 ghost use mathlib.Core.Path.{_≡_};
 ghost use mathlib.Core.Bool.{true};
+ghost use Rattle.der.specs.Forms.{paper};
 ghost use Rattle.der.specs.Heading.{identifierGood};
 ghost use Rattle.elements.specs.Elements.{foundAt, foundTagged, wholeOf, contentsOf};
 ghost use Rattle.octets.specs.Alike.{alike};
@@ -26,7 +27,7 @@ pub enum Found {
 
 // The element that starts at `from`, before `end`.
 pub fn element_at(item: &[u8], from: usize, end: usize) -> Found
-    ensures { λ r. ⌜ r ≡ foundAt (now (item .entry)) from end ⌝ }
+    ensures { λ r. ⌜ r ≡ foundAt paper (now (item .entry)) from end ⌝ }
 {
     match member(item, from, end) {
         Step::At { tag, contents, end } => Found::One(Element {
@@ -41,7 +42,7 @@ pub fn element_at(item: &[u8], from: usize, end: usize) -> Found
 
 // The same, if it has the tag. Most headers are short: the fast path.
 pub fn element_tagged(item: &[u8], from: usize, end: usize, tag: usize) -> Found
-    ensures { λ r. ⌜ r ≡ foundTagged (now (item .entry)) from end tag ⌝ }
+    ensures { λ r. ⌜ r ≡ foundTagged paper (now (item .entry)) from end tag ⌝ }
 {
     let next = short_end(item, from, end, tag);
     if 0 < next {
@@ -78,7 +79,7 @@ fn usual(tag: usize) -> bool
 
 // The same with a header of any kind, which is not read where the first octet is another.
 fn any_tagged(item: &[u8], from: usize, end: usize, tag: usize) -> Found
-    ensures { λ r. ⌜ r ≡ foundTagged (now (item .entry)) from end tag ⌝ }
+    ensures { λ r. ⌜ r ≡ foundTagged paper (now (item .entry)) from end tag ⌝ }
 {
     if from < item.len() {
         if item[from] as usize != tag {

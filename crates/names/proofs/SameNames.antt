@@ -63,7 +63,7 @@ heading-skip s tag skip count e =
     go false true false fits true true true p = cc
 
 -- where the contents of an element start, by its second octet
-contents-at : (s : List ℕ) (from end : ℕ) (e : Element) → foundAt s from end ≡ One e → e .contents ≡ from + skipOf (getD s (from + 1) 0)
+contents-at : (s : List ℕ) (from end : ℕ) (e : Element) → foundAt paper s from end ≡ One e → e .contents ≡ from + skipOf (getD s (from + 1) 0)
 unfolding foundAt stepped memberOf placed
 contents-at s from end e h =
     let w = found-within s from end h in
@@ -86,10 +86,10 @@ contents-at s from end e h =
 pub record NameAt (s : List ℕ) (at size first second : ℕ) : Type 0 where
   pub element : Element
   pub end : ℕ
-  pub found : foundTagged s at end 0x30 ≡ One element
+  pub found : foundTagged paper s at end 0x30 ≡ One element
   pub long : size ≡ element .end - at
   pub seen : Seen
-  pub named : nameOf s element ≡ Holds seen
+  pub named : nameOf paper s element ≡ Holds seen
   pub letters : lettersOf s seen ≡ Two first second
 
 tagged-found : (f : Found) (tag : ℕ) (e : Element) → withTag tag f ≡ One e → (f ≡ One e) × (e .tag ≡ tag)
@@ -109,8 +109,8 @@ unfolding foundTagged
 same-letters {s} {t} {at} {size} {from} {other} {a} {b} {c} {d} x y same =
     let e = x .element in
     let f = y .element in
-    let u = tagged-found (foundAt s at (x .end)) 0x30 e (x .found) in
-    let v = tagged-found (foundAt t from (y .end)) 0x30 f (y .found) in
+    let u = tagged-found (foundAt paper s at (x .end)) 0x30 e (x .found) in
+    let v = tagged-found (foundAt paper t from (y .end)) 0x30 f (y .found) in
     let g = found-within s at (x .end) (u .0) in
     let h = found-within t from (y .end) (v .0) in
     let wide : length (take size (drop at s)) ≡ size = length-take-le size (drop at s) (rw length-drop (omega (arith, g, x .long))) in

@@ -54,7 +54,7 @@ pub record Tagged (s : List ℕ) (from end tag : ℕ) (trees : Trees) (e : Eleme
   pub named : tagOf tree ≡ tag
 
 pub tagged-first :
-    (s : List ℕ) (from end tag : ℕ) (trees : Trees) (e : Element) → Spans s from end trees → foundTagged s from end tag ≡ One e
+    (s : List ℕ) (from end tag : ℕ) (trees : Trees) (e : Element) → Spans s from end trees → foundTagged paper s from end tag ≡ One e
     → Tagged s from end tag trees e
 tagged-first s from end tag trees e sp f =
     let h : (_) × (e .tag ≡ tag) = tagged-found s from end tag e f in
@@ -78,11 +78,11 @@ only-tree s from end tag trees e t h = t .split ∙ ap (more (t .tree)) (rest-no
 
 -- the one member of an element
 pub only-inside :
-    (s : List ℕ) (e : Element) (tag : ℕ) (members : Trees) (x : Element) → Spans s (e .contents) (e .end) members → onlyOf s e tag ≡ One x
+    (s : List ℕ) (e : Element) (tag : ℕ) (members : Trees) (x : Element) → Spans s (e .contents) (e .end) members → onlyOf paper s e tag ≡ One x
     → (t : Tagged s (e .contents) (e .end) tag members x) × (members ≡ more (t .tree) none)
 unfolding onlyOf
 only-inside s e tag members x sp h =
-    let f = went (foundTagged s (e .contents) (e .end) tag) Missing _ (One x) missing h in
+    let f = went (foundTagged paper s (e .contents) (e .end) tag) Missing _ (One x) missing h in
     let k = kept (eqb (f .element .end) (e .end)) (One (f .element)) Missing (One x) missing (f .then) in
     let same : f .element ≡ x = one (f .element) (k .1) in
     let t = tagged-first s (e .contents) (e .end) tag members x sp (f .there ∙ k .1) in
@@ -113,19 +113,19 @@ parts-same e = cc
 
 -- where the outermost tree's stretch was left, the envelope tells its members
 pub envelope-members :
-    (s : List ℕ) (tree : Tree) (tbs outer : Element) → Spans s 0 (length s) (more tree none) → envelopeOf s ≡ Parts tbs outer
+    (s : List ℕ) (tree : Tree) (tbs outer : Element) → Spans s 0 (length s) (more tree none) → envelopeOf paper s ≡ Parts tbs outer
     → Enveloped s tree tbs
 unfolding envelopeOf constructed placeIn along numbered
 envelope-members s tree tbs outer root e =
-    let a = went (foundTagged s 0 (length s) 0x30) Formless _ (Parts tbs outer) formless e in
+    let a = went (foundTagged paper s 0 (length s) 0x30) Formless _ (Parts tbs outer) formless e in
     let o = tagged-first s 0 (length s) 0x30 (more tree none) (a .element) root (a .there) in
     let i = members-inside s 0 (length s) 0x30 (more tree none) (a .element) refl o in
-    let b = went (foundTagged s (a .element .contents) (a .element .end) 0x30) Formless _ (Parts tbs outer) formless (a .then) in
+    let b = went (foundTagged paper s (a .element .contents) (a .element .end) 0x30) Formless _ (Parts tbs outer) formless (a .then) in
     let t = tagged-first s (a .element .contents) (a .element .end) 0x30 (i .0) (b .element) (i .2) (b .there) in
     let j = members-inside s (a .element .contents) (a .element .end) 0x30 (i .0) (b .element) refl t in
-    let c = went (foundTagged s (b .element .end) (a .element .end) 0x30) Formless _ (Parts tbs outer) formless (b .then) in
+    let c = went (foundTagged paper s (b .element .end) (a .element .end) 0x30) Formless _ (Parts tbs outer) formless (b .then) in
     let u = tagged-first s (b .element .end) (a .element .end) 0x30 (t .rest) (c .element) (t .member .next) (c .there) in
-    let d = went (foundTagged s (c .element .end) (a .element .end) 0x03) Formless _ (Parts tbs outer) formless (c .then) in
+    let d = went (foundTagged paper s (c .element .end) (a .element .end) 0x03) Formless _ (Parts tbs outer) formless (c .then) in
     let v = tagged-first s (c .element .end) (a .element .end) 0x03 (u .rest) (d .element) (u .member .next) (d .there) in
     let k = kept (eqb (d .element .end) (a .element .end)) _ Formless (Parts tbs outer) formless (d .then) in
     let gone = only-tree s (c .element .end) (a .element .end) 0x03 (u .rest) (d .element) v (eqb-true _ _ (k .0)) in

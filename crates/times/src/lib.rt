@@ -5,6 +5,7 @@ use elements::Found;
 use elements::contents;
 use elements::element_tagged;
 ghost use mathlib.Core.Path.{_≡_};
+ghost use Rattle.der.specs.Forms.{paper};
 ghost use Rattle.times.specs.Times.{figures, realNumber, timeOf, momentOf, inOrder, timeAt};
 ghost use Rattle.times.specs.Pairs.{Pair, YearOf};
 ghost use Prim.Native.Nat.{_≤_};
@@ -159,7 +160,7 @@ pub fn in_order(start: Time, end: Time) -> bool
 
 // The element at `from`, if it has the tag of a UTCTime or a GeneralizedTime.
 pub fn time_at(item: &[u8], from: usize, end: usize) -> Found
-    ensures { λ r. ⌜ r ≡ timeAt (now (item .entry)) from end ⌝ }
+    ensures { λ r. ⌜ r ≡ timeAt paper (now (item .entry)) from end ⌝ }
 {
     match element_tagged(item, from, end, 0x17) {
         Found::One(e) => Found::One(e),
