@@ -1,5 +1,5 @@
 // OIDs without a slot that stand twice.
-use crate::rows::Row;
+use crate::rows::VACANT;
 use crate::rows::equal_rows;
 use crate::rows::row_of;
 use crate::stranger::Stranger;
@@ -32,13 +32,7 @@ pub struct Round {
 fn compared(item: &[u8], from: usize, end: usize) -> Round
     ensures { λ r. ⌜ Compared paper (now (item .entry)) from end r ⌝ }
 {
-    let vacant = Row {
-        last: 0,
-        first: 0,
-        start: 0,
-        end: 0,
-    };
-    let mut table = [vacant; 64];
+    let mut table = [VACANT; 64];
     let mut count = 0;
     let mut rest = end;
     let mut twice = false;
