@@ -1,15 +1,15 @@
 -- A signed item's outermost element is a node of tbs, algorithm and signature, and the tbs's contents encode its members.
-use Prim.Native.Nat.{ℕ, _+_}
+use Prim.Native.Nat.{ℕ, _+_, _/_, _%_}
 use mathlib.Core.Path.{_≡_, refl, sym, ap, subst, _∙_}
-use mathlib.Core.Bool.{true, false, true≢false}
+use mathlib.Core.Bool.{Bool, true, false, cond, _&&_, true≢false}
 use mathlib.Core.List.{List, [], _∷_}
 use native.Mathlib.Omega.{arith}
 use borrow.Author.Tests.{eqb-true}
-use lib.Dec.{eqb}
+use lib.Dec.{ltb, eqb}
 use lib.ListN.{length}
 use Rattle.der.specs.Forms.{paper}
-use Rattle.der.specs.Heading.{constructed}
-use Rattle.tree.specs.Tree.{Tree, leaf, node, Trees, none, more, encodedAll, tagOf, contentsOf, Sound, sound-leaf, sound-node}
+use Rattle.der.specs.Heading.{constructed, identifierGood, wideGood}
+use Rattle.tree.specs.Tree.{Tree, leaf, node, Trees, none, more, encodedAll, tagOf, contentsOf, tagGood, leading, Sound, sound-leaf, sound-node}
 use Rattle.tree.proofs.Members.{length-more}
 use Rattle.tree.proofs.Reading.{encoded-some}
 use Rattle.elements.specs.declared.elements.Element.{Element}
@@ -26,18 +26,27 @@ use Rattle.parts.proofs.Inverse.{went, kept, tagged-found}
 use Rattle.parts.proofs.Spans.{Spans, Member, first-of}
 use Rattle.parts.proofs.Standing.{row-here, part-at, members-place}
 
+-- the paper's tags have one octet
+narrow : (tag : ℕ) → tagGood paper tag ≡ true → leading tag ≡ tag
+unfolding tagGood leading
+narrow tag = go (ltb tag 256)
+  where
+    go : (one : Bool) → cond one (identifierGood tag) (false && wideGood (tag / 256) (tag % 256)) ≡ true → cond one tag (tag / 256) ≡ tag
+    go true p = refl
+    go false p = absurd (true≢false (sym p))
+
 -- a sound tree with a constructed tag is a node, and one with a primitive tag a leaf
 pub is-node : (tree : Tree) (tag : ℕ) → constructed tag ≡ true → Sound paper tree → tagOf tree ≡ tag → (members : Trees) × (tree ≡ node tag members)
 unfolding tagOf
 is-node (leaf own c) tag built (sound-leaf small good flat octets fits contents) e =
-    absurd (true≢false (sym built ∙ sym (ap constructed e) ∙ flat))
+    absurd (true≢false (sym built ∙ sym (ap constructed e) ∙ sym (ap constructed (narrow own good)) ∙ flat))
 is-node (node own members) tag built sound e = (members, ap (λ (t : ℕ). node t members) e)
 
 pub is-leaf : (tree : Tree) (tag : ℕ) → constructed tag ≡ false → Sound paper tree → tagOf tree ≡ tag → tree ≡ leaf tag (contentsOf tree)
 unfolding tagOf contentsOf
 is-leaf (leaf own c) tag flat sound e = ap (λ (t : ℕ). leaf t c) e
 is-leaf (node own members) tag flat (sound-node small good built fits all) e =
-    absurd (true≢false (sym built ∙ ap constructed e ∙ flat))
+    absurd (true≢false (sym built ∙ ap constructed (narrow own good) ∙ ap constructed e ∙ flat))
 
 -- no tree stands in a stretch without octets
 span-none : (s : List ℕ) (at : ℕ) (trees : Trees) → Spans s at at trees → trees ≡ none

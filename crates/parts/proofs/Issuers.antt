@@ -198,7 +198,7 @@ crl-country item f e =
     let p = list-theorems.passes-exactly item f .0 e in
     let y = p .parts in
     let l = lists.laid-out item y (p .meets .shape) in
-    country-there item (l .tbs) (l .outer) (y .issuer) list-countries.issuerOf paper (l .around) (list-issuer-front item (l .tbs) _ _ _ _ _ (l .front) .0)
+    country-there item (l .tbs) (l .outer) (y .issuer) (list-countries.issuerOf paper) (l .around) (list-issuer-front item (l .tbs) _ _ _ _ _ (l .front) .0)
     ∙ country-letters item (y .issuer) (y .country) _ _ (l .named) (two-there (lettersOf item (y .country)) (p .meets .country))
     ∙ sym (ap (λ (g : crl.Fields). Two (g .first) (g .second)) (p .fields))
 
