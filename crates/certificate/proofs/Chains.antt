@@ -4,6 +4,7 @@ use mathlib.Core.Bool.{Bool, true, false}
 use mathlib.Core.List.{List}
 use mathlib.Core.Path.{_≡_}
 use borrow.Author.Tests.{eq-eqb, ne-eqb}
+use Rattle.der.specs.Forms.{paper}
 use Rattle.refusal.specs.declared.Refusal.the-variants.{Profile}
 use Rattle.elements.specs.declared.elements.Element.{Element}
 use Rattle.extensions.specs.Extensions.{extensionsShaped}
@@ -74,10 +75,10 @@ module _ (s : List ℕ) where
   laid-none h = rw h
 
   module _ {l : Layout} (h : partsOf s ≡ Parts l) where
-    pub laid-bad : extensionsShaped s (l .extensions) ≡ false → layoutOf s ≡ Broken
+    pub laid-bad : extensionsShaped paper s (l .extensions) ≡ false → layoutOf s ≡ Broken
     unfolding layoutOf onParts
     laid-bad g = rw (h, g)
 
-    pub laid-good : extensionsShaped s (l .extensions) ≡ true → layoutOf s ≡ Parts l
+    pub laid-good : extensionsShaped paper s (l .extensions) ≡ true → layoutOf s ≡ Parts l
     unfolding layoutOf onParts
     laid-good g = rw (h, g)

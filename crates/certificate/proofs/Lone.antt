@@ -20,7 +20,7 @@ use Rattle.elements.proofs.Shorts.{ShortAt, short-told}
 use Rattle.certificate.specs.Keys.{passes, walks}
 
 -- an item that one element fills
-alone : (s : List ℕ) (at end n : ℕ) → end ≤ length s → end ≤ at + 129 → Reads (stretch s at end) 1 0 (end - at) n → walkOf paper (stretch s at end) ≡ Passed n
+alone : (s : List ℕ) (at end n : ℕ) → end ≤ length s → end ≤ at + 129 → Reads paper (stretch s at end) 1 0 (end - at) n → walkOf paper (stretch s at end) ≡ Passed n
 alone s at end n inside short f =
     let long : length (stretch s at end) ≡ end - at = omega (arith, length-take (end - at) (drop at s), length-drop at s) in
     walk-passed paper (stretch s at end) (omega (arith, long)) (sym (f 0 (2 * length (stretch s at end) + 2) (omega arith))) (sym long)
@@ -45,7 +45,7 @@ module _ (s : List ℕ) (value : Element) (some : 0 < value .end) where
       let t = facts at 0x04 is in
       passed
       (alone s at end 1 (t .inside) (omega (arith, t .ends, t .short))
-      (leaf-reads s at end (t .two) (t .inside) (t .ends) (omega arith) (t .short) (rw (t .same) refl) 1 0 (omega arith) (omega arith) (rw (t .same) refl) (rw (t .same) refl)))
+      (leaf-reads paper s at end (t .two) (t .inside) (t .ends) (omega arith) (t .short) (rw (t .same) refl) 1 0 (omega arith) (omega arith) (rw (t .same) refl) (rw (t .same) refl)))
 
   pub lone-sequence : end ≡ shortEnd s at end 0x30 → end ≡ shortEnd s (at + 2) end 0x80 → walks s value ≡ true
   unfolding identifierGood constructed contentsGood
@@ -55,8 +55,8 @@ module _ (s : List ℕ) (value : Element) (some : 0 < value .end) where
       let used : 2 + getD s (at + 1) 0 ≡ end - at = omega (arith, t .ends) in
       passed
       (alone s at end 2 (t .inside) (omega (arith, t .ends, t .short))
-      (subst (λ (k : ℕ). Reads (stretch s at end) 1 0 k 2) used
-      (node-reads s at end (t .two) (t .inside) (t .ends) (omega arith) (t .short) (rw (t .same) refl) 1 0 (omega arith) (omega arith) (rw (t .same) refl)
-      (reads-on s (at + 2) end (u .two) (u .inside) 2 1 end 2 2
-      (leaf-reads s (at + 2) end (u .two) (u .inside) (u .ends) (omega arith) (u .short) (rw (u .same) refl) 2 1 (omega arith) (omega arith) (rw (u .same) refl) (rw (u .same) refl))
-      (fills-none s end 2 2 (t .inside))))))
+      (subst (λ (k : ℕ). Reads paper (stretch s at end) 1 0 k 2) used
+      (node-reads paper s at end (t .two) (t .inside) (t .ends) (omega arith) (t .short) (rw (t .same) refl) 1 0 (omega arith) (omega arith) (rw (t .same) refl)
+      (reads-on paper s (at + 2) end (u .two) (u .inside) 2 1 end 2 2
+      (leaf-reads paper s (at + 2) end (u .two) (u .inside) (u .ends) (omega arith) (u .short) (rw (u .same) refl) 2 1 (omega arith) (omega arith) (rw (u .same) refl) (rw (u .same) refl))
+      (fills-none paper s end 2 2 (t .inside))))))

@@ -3,6 +3,7 @@
 use Prim.Native.Nat.{ℕ}
 use mathlib.Core.List.{List}
 use lib.ListN.{length}
+use Rattle.der.specs.Forms.{paper}
 use Rattle.elements.specs.declared.elements.Element.{Element}
 use Rattle.elements.specs.declared.elements.Found.{Found}
 use Rattle.elements.specs.declared.elements.Found.the-variants.{Missing}
@@ -14,14 +15,14 @@ use Rattle.names.specs.Country.{countryIn}
 -- after the version's A0, INTEGER and algorithm
 unfoldable pub issuerOf : List ℕ → Element → Found
 issuerOf s tbs =
-    onFound (foundTagged s (tbs .contents) (tbs .end) 0xA0) Missing λ explicit.
-    onFound (foundTagged s (explicit .end) (tbs .end) 0x02) Missing λ serial.
-    onFound (foundTagged s (serial .end) (tbs .end) 0x30) Missing λ inner.
-    foundTagged s (inner .end) (tbs .end) 0x30
+    onFound (foundTagged paper s (tbs .contents) (tbs .end) 0xA0) Missing λ explicit.
+    onFound (foundTagged paper s (explicit .end) (tbs .end) 0x02) Missing λ serial.
+    onFound (foundTagged paper s (serial .end) (tbs .end) 0x30) Missing λ inner.
+    foundTagged paper s (inner .end) (tbs .end) 0x30
 
 unfoldable pub countryOf : List ℕ → Letters
 countryOf s =
-    onFound (foundTagged s 0 (length s) 0x30) Unfit λ outermost.
-    onFound (foundTagged s (outermost .contents) (outermost .end) 0x30) Unfit λ tbs.
+    onFound (foundTagged paper s 0 (length s) 0x30) Unfit λ outermost.
+    onFound (foundTagged paper s (outermost .contents) (outermost .end) 0x30) Unfit λ tbs.
     onFound (issuerOf s tbs) Unfit λ issuer.
-    countryIn s issuer
+    countryIn paper s issuer

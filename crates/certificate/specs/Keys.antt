@@ -43,19 +43,19 @@ keyIn s (Is oid critical value) form = cond critical Misformed (cond (walks s va
 -- one OCTET STRING
 unfoldable pub octetString : List ℕ → Element → KeyId
 octetString s value =
-    onFound (foundTagged s (value .contents) (value .end) 0x04) Misformed λ key. Key (key .contents) (key .end)
+    onFound (foundTagged paper s (value .contents) (value .end) 0x04) Misformed λ key. Key (key .contents) (key .end)
 
 -- a SEQUENCE whose first member is tag 80
 unfoldable pub firstOf : List ℕ → Element → KeyId
 firstOf s value =
-    onFound (foundTagged s (value .contents) (value .end) 0x30) Misformed λ sequence.
-    onFound (foundTagged s (sequence .contents) (sequence .end) 0x80) Misformed λ key. Key (key .contents) (key .end)
+    onFound (foundTagged paper s (value .contents) (value .end) 0x30) Misformed λ sequence.
+    onFound (foundTagged paper s (sequence .contents) (sequence .end) 0x80) Misformed λ key. Key (key .contents) (key .end)
 
 unfoldable pub subjectKey : List ℕ → Element → KeyId
-subjectKey s extensions = keyIn s (lookupOf s extensions subjectKeyIdentifier) (octetString s)
+subjectKey s extensions = keyIn s (lookupOf paper s extensions subjectKeyIdentifier) (octetString s)
 
 unfoldable pub authorityKey : List ℕ → Element → KeyId
-authorityKey s extensions = keyIn s (lookupOf s extensions authorityKeyIdentifier) (firstOf s)
+authorityKey s extensions = keyIn s (lookupOf paper s extensions authorityKeyIdentifier) (firstOf s)
 
 -- PrintableStrings of 1 or 2 octets
 unfoldable pub typesGood : List ℕ → List Element → Bool
@@ -65,14 +65,14 @@ typesGood s (e ∷ rest) =
 
 -- one or more of them
 unfoldable pub typesIn : List ℕ → Element → Bool
-typesIn s types = not (eqb (length (inside s types)) 0) && typesGood s (inside s types)
+typesIn s types = not (eqb (length (inside paper s types)) 0) && typesGood s (inside paper s types)
 
 -- SEQUENCE {INTEGER 0, SET of one or more PrintableStrings of 1 or 2 octets}
 unfoldable pub listGood : List ℕ → Element → Bool
 listGood s value =
-    onFound (foundTagged s (value .contents) (value .end) 0x30) false λ sequence.
-    onFound (foundTagged s (sequence .contents) (sequence .end) 0x02) false λ version.
-    onFound (foundTagged s (version .end) (sequence .end) 0x31) false λ types.
+    onFound (foundTagged paper s (value .contents) (value .end) 0x30) false λ sequence.
+    onFound (foundTagged paper s (sequence .contents) (sequence .end) 0x02) false λ version.
+    onFound (foundTagged paper s (version .end) (sequence .end) 0x31) false λ types.
     eqb (types .end) (sequence .end)
     && (alike (contentsOf s version) (0 ∷ []) && typesIn s types)
 
@@ -81,4 +81,4 @@ documentsIn s Absent = false
 documentsIn s (Is oid critical value) = not critical && (walks s value && listGood s value)
 
 unfoldable pub documentTypes : List ℕ → Element → Bool
-documentTypes s extensions = documentsIn s (lookupOf s extensions documentTypeList)
+documentTypes s extensions = documentsIn s (lookupOf paper s extensions documentTypeList)

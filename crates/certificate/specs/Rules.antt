@@ -4,6 +4,7 @@ use mathlib.Core.Bool.{Bool, true, false, cond, _&&_, not}
 use mathlib.Core.List.{List, [], _∷_}
 use lib.Dec.{leb, ltb, eqb}
 use lib.ListN.{length, getD}
+use Rattle.der.specs.Forms.{paper}
 use Rattle.elements.specs.declared.elements.Element.{Element}
 use Rattle.extensions.specs.declared.Extension.{Extension}
 use Rattle.extensions.specs.declared.Extension.the-variants.{Is, Absent}
@@ -66,7 +67,7 @@ rule7 r = inOrder (r .start) (r .finish)
 
 -- 8: at least one extension, and no extension OID stands twice
 unfoldable pub rule8 : List ℕ → Layout → Bool
-rule8 s l = not (eqb (length (inside s (l .extensions))) 0) && not (doubledOf s (l .extensions))
+rule8 s l = not (eqb (length (inside paper s (l .extensions))) 0) && not (doubledOf paper s (l .extensions))
 
 -- an extension that is critical and has those contents
 unfoldable pub criticalWith : List ℕ → List ℕ → Extension → Bool
@@ -81,7 +82,7 @@ unfoldable pub usageOf : ℕ → List ℕ
 usageOf role = cond (eqb role 3) (0x03 ∷ 0x02 ∷ 0x07 ∷ 0x80 ∷ []) (0x03 ∷ 0x02 ∷ 0x01 ∷ 0x06 ∷ [])
 
 unfoldable pub rule9 : List ℕ → Element → ℕ → Bool
-rule9 s extensions role = criticalWith s (usageOf role) (lookupOf s extensions keyUsage)
+rule9 s extensions role = criticalWith s (usageOf role) (lookupOf paper s extensions keyUsage)
 
 -- 10: basicConstraints 2.5.29.19: critical and as here for anchor and link; absent in a DS
 abbrev pub basicConstraints : List ℕ
@@ -94,7 +95,7 @@ unfoldable pub constrained : List ℕ → ℕ → Extension → Bool
 constrained s role constraints = cond (eqb role 3) (not (present constraints)) (criticalWith s signingOnce constraints)
 
 unfoldable pub rule10 : List ℕ → Element → ℕ → Bool
-rule10 s extensions role = constrained s role (lookupOf s extensions basicConstraints)
+rule10 s extensions role = constrained s role (lookupOf paper s extensions basicConstraints)
 
 -- 11: subject key identifier in anchor and link, authority key identifier in link and DS; each of its form where it stands
 unfoldable pub keyGood : Bool → KeyId → Bool
@@ -115,10 +116,10 @@ uncritical (Is oid critical value) = not critical
 
 unfoldable pub rule12 : List ℕ → Element → Bool
 rule12 s extensions =
-    uncritical (lookupOf s extensions (0x55 ∷ 0x1D ∷ 0x10 ∷ []))
-    && (uncritical (lookupOf s extensions (0x55 ∷ 0x1D ∷ 0x11 ∷ []))
-    && (uncritical (lookupOf s extensions (0x55 ∷ 0x1D ∷ 0x12 ∷ []))
-    && uncritical (lookupOf s extensions (0x55 ∷ 0x1D ∷ 0x1F ∷ []))))
+    uncritical (lookupOf paper s extensions (0x55 ∷ 0x1D ∷ 0x10 ∷ []))
+    && (uncritical (lookupOf paper s extensions (0x55 ∷ 0x1D ∷ 0x11 ∷ []))
+    && (uncritical (lookupOf paper s extensions (0x55 ∷ 0x1D ∷ 0x12 ∷ []))
+    && uncritical (lookupOf paper s extensions (0x55 ∷ 0x1D ∷ 0x1F ∷ []))))
 
 -- 13: DS: the document type list
 unfoldable pub rule13 : List ℕ → Element → ℕ → Bool
@@ -126,7 +127,7 @@ rule13 s extensions role = cond (eqb role 3) (documentTypes s extensions) true
 
 -- 14: no critical extension but those of rules 9 and 10
 unfoldable pub rule14 : List ℕ → Element → Bool
-rule14 s extensions = not (criticalOf s extensions true)
+rule14 s extensions = not (criticalOf paper s extensions true)
 
 -- rules 2 to 8, and rules 9 to 14
 unfoldable pub rules2to8 : List ℕ → Layout → Readings → List Bool

@@ -3,6 +3,7 @@ use Prim.Native.Nat.{ℕ}
 use mathlib.Core.Bool.{Bool, cond, not}
 use mathlib.Core.List.{List}
 use lib.Dec.{eqb}
+use Rattle.der.specs.Forms.{paper}
 use Rattle.elements.specs.declared.elements.Element.{Element}
 use Rattle.elements.specs.Elements.{foundTagged, onFound}
 use Rattle.elements.specs.Envelope.{envelopeOf, onEnvelope}
@@ -27,33 +28,33 @@ onValidity (Times start finish) next = next start finish
 -- a SEQUENCE of two times
 unfoldable pub validityOf : List ℕ → Element → Validity
 validityOf s validity =
-    onFound (timeAt s (validity .contents) (validity .end)) Timeless λ start.
-    onFound (timeAt s (start .end) (validity .end)) Timeless λ finish.
+    onFound (timeAt paper s (validity .contents) (validity .end)) Timeless λ start.
+    onFound (timeAt paper s (start .end) (validity .end)) Timeless λ finish.
     cond (eqb (finish .end) (validity .end)) (Times start finish) Timeless
 
 -- the first members of the tbs: A0 around one INTEGER; INTEGER; algorithm SEQUENCE; issuer SEQUENCE; SEQUENCE of times
 unfoldable pub frontOf : List ℕ → Element → Front
 frontOf s tbs =
-    onFound (foundTagged s (tbs .contents) (tbs .end) 0xA0) Frontless λ explicit.
-    onFound (onlyOf s explicit 0x02) Frontless λ version.
-    onFound (foundTagged s (explicit .end) (tbs .end) 0x02) Frontless λ serial.
-    onFound (foundTagged s (serial .end) (tbs .end) 0x30) Frontless λ inner.
-    onFound (foundTagged s (inner .end) (tbs .end) 0x30) Frontless λ issuer.
-    onFound (foundTagged s (issuer .end) (tbs .end) 0x30) Frontless λ validity.
+    onFound (foundTagged paper s (tbs .contents) (tbs .end) 0xA0) Frontless λ explicit.
+    onFound (onlyOf paper s explicit 0x02) Frontless λ version.
+    onFound (foundTagged paper s (explicit .end) (tbs .end) 0x02) Frontless λ serial.
+    onFound (foundTagged paper s (serial .end) (tbs .end) 0x30) Frontless λ inner.
+    onFound (foundTagged paper s (inner .end) (tbs .end) 0x30) Frontless λ issuer.
+    onFound (foundTagged paper s (issuer .end) (tbs .end) 0x30) Frontless λ validity.
     Opens version serial inner issuer validity
 
 -- where an 81 and then an 82 end, each if it is there
 unfoldable pub uniqueEnd : List ℕ → ℕ → ℕ → ℕ
-uniqueEnd s from end = pastOf s (pastOf s from end 0x81) end 0x82
+uniqueEnd s from end = pastOf paper s (pastOf paper s from end 0x81) end 0x82
 
 -- the last members: subject SEQUENCE; key SEQUENCE; optional 81; optional 82; A3 around one SEQUENCE
 unfoldable pub backOf : List ℕ → ℕ → ℕ → Back
 backOf s from end =
-    onFound (foundTagged s from end 0x30) Backless λ subject.
-    onFound (foundTagged s (subject .end) end 0x30) Backless λ key.
-    onFound (foundTagged s (uniqueEnd s (key .end) end) end 0xA3) Backless λ last.
+    onFound (foundTagged paper s from end 0x30) Backless λ subject.
+    onFound (foundTagged paper s (subject .end) end 0x30) Backless λ key.
+    onFound (foundTagged paper s (uniqueEnd s (key .end) end) end 0xA3) Backless λ last.
     cond (eqb (last .end) end)
-    (onFound (onlyOf s last 0x30) Backless λ extensions.
+    (onFound (onlyOf paper s last 0x30) Backless λ extensions.
     Closes subject key (not (eqb (uniqueEnd s (key .end) end) (key .end))) extensions)
     Backless
 
@@ -72,12 +73,12 @@ onParts (Parts l) next = next l
 -- SEQUENCE of tbs, algorithm, BIT STRING; the tbs's members in order; names of their shape
 unfoldable pub partsOf : List ℕ → Shape
 partsOf s =
-    onEnvelope (envelopeOf s) Broken λ tbs outer.
+    onEnvelope (envelopeOf paper s) Broken λ tbs outer.
     onFront (frontOf s tbs) λ version serial inner issuer validity.
     onValidity (validityOf s validity) λ start finish.
     onBack (backOf s (validity .end) (tbs .end)) λ subject key unique extensions.
-    onName (nameOf s issuer) Broken λ issuerCountry.
-    onName (nameOf s subject) Broken λ subjectCountry.
+    onName (nameOf paper s issuer) Broken λ issuerCountry.
+    onName (nameOf paper s subject) Broken λ subjectCountry.
     Parts (record {
       version = version;
       serial = serial;
@@ -96,4 +97,4 @@ partsOf s =
 
 -- rule 1: these parts, and extensions of their shape
 unfoldable pub layoutOf : List ℕ → Shape
-layoutOf s = onParts (partsOf s) λ l. cond (extensionsShaped s (l .extensions)) (Parts l) Broken
+layoutOf s = onParts (partsOf s) λ l. cond (extensionsShaped paper s (l .extensions)) (Parts l) Broken

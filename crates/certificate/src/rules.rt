@@ -23,6 +23,7 @@ ghost use mathlib.Core.List.{List};
 ghost use mathlib.Core.Path.{_≡_};
 ghost use Prim.Native.Nat.{ℕ};
 ghost use lib.Dec.{eqb};
+ghost use Rattle.der.specs.Forms.{paper};
 ghost use Rattle.extensions.specs.declared.Extension.{Extension};
 ghost use Rattle.extensions.specs.Extensions.{heldOf, Placed, criticalOf, doubledOf};
 ghost use Rattle.refusal.specs.Rules.{firstBroken};
@@ -40,7 +41,7 @@ pub struct Readings {
 }
 
 pub(crate) fn readings_of(item: &[u8], l: Layout, slots: [Held; 23]) -> Readings
-    requires { ⌜ Placed (now item) (l .extensions) slots ⌝ }
+    requires { ⌜ Placed paper (now item) (l .extensions) slots ⌝ }
     ensures { λ r. ⌜ r ≡ readingsOf (now (item .entry)) l ⌝ }
 {
     let first = l.start;
@@ -67,7 +68,7 @@ pub(crate) fn readings_of(item: &[u8], l: Layout, slots: [Held; 23]) -> Readings
 
 // The first of rules 2 to 8 that is broken, else 0.
 pub(crate) fn rules_2_to_8(item: &[u8], l: Layout, r: Readings, doubled: bool) -> u64
-    requires { ⌜ doubled ≡ doubledOf (now item) (l .extensions) ⌝ }
+    requires { ⌜ doubled ≡ doubledOf paper (now item) (l .extensions) ⌝ }
     ensures { λ rule. ⌜ rule ≡ firstBroken 2 (rules2to8 (now (item .entry)) l r) ⌝ }
 {
     let version = l.version;
@@ -109,7 +110,7 @@ pub(crate) fn rules_9_to_14(
     r: Readings,
     role: u64,
 ) -> u64
-    ensures { λ rule. ⌜ ((x : Element) → Placed (now (item .entry)) x slots → critical ≡ criticalOf (now (item .entry)) x true → rule ≡ firstBroken 9 (rules9to14 (now (item .entry)) x r role)) ⌝ }
+    ensures { λ rule. ⌜ ((x : Element) → Placed paper (now (item .entry)) x slots → critical ≡ criticalOf paper (now (item .entry)) x true → rule ≡ firstBroken 9 (rules9to14 (now (item .entry)) x r role)) ⌝ }
 {
     let usage = slots[1];
     if !usage_good(item, usage, role) {
@@ -181,7 +182,7 @@ fn same_two(one: Letters, other: Letters) -> bool
 
 // 8: at least one extension, and no extension OID stands twice.
 fn extensions_once(item: &[u8], l: Layout, doubled: bool) -> bool
-    requires { ⌜ doubled ≡ doubledOf (now item) (l .extensions) ⌝ }
+    requires { ⌜ doubled ≡ doubledOf paper (now item) (l .extensions) ⌝ }
     ensures { λ r. ⌜ r ≡ rule8 (now (item .entry)) l ⌝ }
 {
     let extensions = l.extensions;
@@ -243,7 +244,7 @@ fn key_good(wanted: bool, key: KeyId) -> bool
 
 // 12: 2.5.29.16, .17, .18 and .31 present, not critical.
 fn four_there(slots: [Held; 23]) -> bool
-    ensures { λ r. ⌜ ((s : List ℕ) (x : Element) → Placed s x slots → r ≡ rule12 s x) ⌝ }
+    ensures { λ r. ⌜ ((s : List ℕ) (x : Element) → Placed paper s x slots → r ≡ rule12 s x) ⌝ }
 {
     if !there_uncritical(slots[2]) {
         return false;

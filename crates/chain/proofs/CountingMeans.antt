@@ -9,6 +9,7 @@ use native.Mathlib.Omega.{arith}
 use borrow.Author.Tests.{eqb-true, eq-eqb, ne-eqb}
 use lib.Dec.{eqb}
 use lib.ListN.{getD}
+use Rattle.der.specs.Forms.{paper}
 use Rattle.certificate.specs.declared.Fields as certificates
 use Rattle.certificate.specs.declared.Judged.the-variants.{Passed}
 use Rattle.certificate.specs.Answer.{judgedOf}
@@ -56,7 +57,7 @@ Certificate s rows p =
 
 abbrev pub Crl : List ℕ → List (List ℕ) → ℕ → Type 0
 Crl s rows p =
-    (f : crls.Fields) × (lists.judgedOf (bytesAt s (entryIn s p)) ≡ list-judged.Passed f) × (rowAt rows p ≡ listTold (entryIn s p) f)
+    (f : crls.Fields) × (lists.judgedOf paper (bytesAt s (entryIn s p)) ≡ list-judged.Passed f) × (rowAt rows p ≡ listTold (entryIn s p) f)
 
 -- two tests that agree where a third holds
 under : (x y k r : Bool) → (k ≡ true → x ≡ y) → (x && (k && r)) ≡ (y && (k && r))

@@ -7,6 +7,7 @@ use mathlib.Core.List.{List}
 use native.Mathlib.Omega.{arith}
 use borrow.Author.Tests.{eqb-true, eqb-false, ne-eqb}
 use lib.Dec.{eqb}
+use Rattle.der.specs.Forms.{paper}
 use Rattle.names.proofs.SameNames.{same-letters}
 use Rattle.certificate.specs.declared.Fields as certificates
 use Rattle.certificate.specs.declared.Judged.{Judged}
@@ -47,7 +48,7 @@ abbrev pub CertificateAt : List ℕ → ℕ → certificates.Fields → Type 0
 CertificateAt s p f = judgedOf (bytesAt s (entryIn s p)) (entryIn s p .kind) ≡ Passed f
 
 abbrev pub CrlAt : List ℕ → ℕ → crls.Fields → Type 0
-CrlAt s p f = lists.judgedOf (bytesAt s (entryIn s p)) ≡ list-judged.Passed f
+CrlAt s p f = lists.judgedOf paper (bytesAt s (entryIn s p)) ≡ list-judged.Passed f
 
 -- a test that holds is of a certificate, or CRL, that passes
 pub certificate-there :
@@ -66,10 +67,10 @@ pub list-there :
     (s : List ℕ) (p : ℕ) → p < entryCount s → (test : crls.Fields → Bool) → listAt (itemsIn s) p test ≡ true
     → (f : crls.Fields) × CrlAt s p f × (test f ≡ true)
 unfolding listAt onList
-list-there s p h test e = go (lists.judgedOf (bytesAt s (entryIn s p))) refl (rw (item-told s p h) at e)
+list-there s p h test e = go (lists.judgedOf paper (bytesAt s (entryIn s p))) refl (rw (item-told s p h) at e)
   where
     go :
-        (j : list-answer.Judged) → lists.judgedOf (bytesAt s (entryIn s p)) ≡ j → onList j test ≡ true
+        (j : list-answer.Judged) → lists.judgedOf paper (bytesAt s (entryIn s p)) ≡ j → onList j test ≡ true
         → (f : crls.Fields) × CrlAt s p f × (test f ≡ true)
     go (list-judged.Refused why) k t = false-true t
     go (list-judged.Passed f) k t = (f, k, t)

@@ -5,6 +5,7 @@ use mathlib.Core.Bool.{Bool}
 use mathlib.Core.List.{List}
 use lib.Dec.{eqb}
 use lib.ListN.{take, drop}
+use Rattle.der.specs.Forms.{paper}
 use Rattle.certificate.specs.declared.Fields as certificates
 use Rattle.certificate.specs.declared.Judged.the-variants.{Passed}
 use Rattle.certificate.specs.Answer.{judgedOf}
@@ -53,7 +54,7 @@ module _ (s : List ℕ) (place : ℕ) (h : place < entryCount s) where
   certificate-told f j test = rw (item-told s place h, j)
 
   pub list-told :
-      (f : crls.Fields) → lists.judgedOf (bytesAt s (entryIn s place)) ≡ list-judged.Passed f
+      (f : crls.Fields) → lists.judgedOf paper (bytesAt s (entryIn s place)) ≡ list-judged.Passed f
       → (test : crls.Fields → Bool) → listAt (itemsIn s) place test ≡ test f
   unfolding listAt onList
   list-told f j test = rw (item-told s place h, j)

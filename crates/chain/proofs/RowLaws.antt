@@ -12,6 +12,7 @@ use borrow.Author.Count.{below-more}
 use lib.Dec.{eqb}
 use lib.ListN.{length, getD, set, take, drop, replicate, length-take}
 use lib.Seq.{getD-set-same, getD-set-other, getD-take, getD-drop}
+use Rattle.der.specs.Forms.{paper}
 use Rattle.crl.specs.Listed.{listedOf}
 use Rattle.octets.specs.Alike.{alike}
 use Rattle.image.specs.declared.IndexEntry.{IndexEntry}
@@ -112,7 +113,7 @@ module _ (s : List ℕ) (list row : Row) where
   covers-parts e f g h = cc
 
   pub lists-parts :
-      {x y : List ℕ} {r : Bool} → r ≡ listedOf x (list .from) (list .end) y → x ≡ take (list .size) (drop (list .at) s)
+      {x y : List ℕ} {r : Bool} → r ≡ listedOf paper x (list .from) (list .end) y → x ≡ take (list .size) (drop (list .at) s)
       → y ≡ pieceOf s row (row .«serial_at») (row .«serial_len») → r ≡ listsOf s list row
   unfolding listsOf
   lists-parts e f g = cc

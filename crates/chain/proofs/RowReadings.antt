@@ -29,7 +29,7 @@ unfoldable pub validOf : ℕ → List ℕ → IndexEntry → Bool
 validOf moment s e = onCertificate (judgedOf (bytesAt s e) (e .kind)) λ f. within (f .start) (f .end) moment
 
 unfoldable pub currentOf : ℕ → List ℕ → IndexEntry → Bool
-currentOf moment s e = onList (lists.judgedOf (bytesAt s e)) λ f. within (f .«this_update») (f .«next_update») moment
+currentOf moment s e = onList (lists.judgedOf paper (bytesAt s e)) λ f. within (f .«this_update») (f .«next_update») moment
 
 unfoldable pub anchorOf : ℕ → List ℕ → IndexEntry → Bool
 anchorOf moment s e = eqb (e .kind) 1 && (eqb (e .flags) 1 && validOf moment s e)
@@ -39,7 +39,7 @@ pub data Reading (moment : ℕ) (s : List ℕ) (e : IndexEntry) (there : Bool) (
       (f : certificates.Fields) → there ≡ true → judgedOf (bytesAt s e) (e .kind) ≡ Passed f → validOf moment s e ≡ true → 1 ≤ e .kind → e .kind ≤ 3
       → (e .kind ≡ 1 → e .flags ≡ 1) → row ≡ certificateTold e f → Reading moment s e there row
   list :
-      (f : crls.Fields) → there ≡ true → e .kind ≡ 4 → lists.judgedOf (bytesAt s e) ≡ list-judged.Passed f → currentOf moment s e ≡ true
+      (f : crls.Fields) → there ≡ true → e .kind ≡ 4 → lists.judgedOf paper (bytesAt s e) ≡ list-judged.Passed f → currentOf moment s e ≡ true
       → row ≡ listTold e f → Reading moment s e there row
   neither :
       (there && anchorOf moment s e) ≡ false → ((k : ℕ) → 2 ≤ k → k ≤ 3 → (there && (eqb (e .kind) k && validOf moment s e)) ≡ false)
@@ -85,7 +85,7 @@ module _ (moment : ℕ) (s : List ℕ) (e : IndexEntry) where
       neither (rw four) (λ k l h. rw (ne-eqb (e .kind) k (λ z. omega arith))) (rw (v, and-false (eqb (e .kind) 4))) refl
 
   on-list :
-      (j : list-answer.Judged) → lists.judgedOf (bytesAt s e) ≡ j → e .kind ≡ 4 → Reading moment s e true (listRow moment e j)
+      (j : list-answer.Judged) → lists.judgedOf paper (bytesAt s e) ≡ j → e .kind ≡ 4 → Reading moment s e true (listRow moment e j)
   unfolding listRow currentOf onList
   on-list (list-judged.Refused refusal) j four = stale (rw j) four
   on-list (list-judged.Passed f) j four = go (within (f .«this_update») (f .«next_update») moment) refl
@@ -110,7 +110,7 @@ module _ (moment : ℕ) (s : List ℕ) (e : IndexEntry) where
       go :
           (a : Bool) → eqb (e .kind) 4 ≡ a → (b : Bool) → eqb (e .kind) 1 ≡ b → (c : Bool) → eqb (e .flags) 1 ≡ c
           → Reading moment s e true
-          (cond a (listRow moment e (lists.judgedOf (bytesAt s e)))
+          (cond a (listRow moment e (lists.judgedOf paper (bytesAt s e)))
           (cond b (cond c (certificateRow moment e (judgedOf (bytesAt s e) (e .kind))) blank)
           (certificateRow moment e (judgedOf (bytesAt s e) (e .kind)))))
       go true four b one c on = on-list _ refl (eqb-true (e .kind) 4 four)

@@ -6,6 +6,7 @@ use mathlib.Core.List.{List}
 use native.Mathlib.Omega.{arith}
 use borrow.Author.Tests.{eqb-true, eq-eqb, ne-eqb}
 use lib.Dec.{eqb}
+use Rattle.der.specs.Forms.{paper}
 use Rattle.certificate.specs.declared.Fields as certificates
 use Rattle.certificate.specs.declared.Judged.the-variants.{Passed}
 use Rattle.certificate.specs.Answer.{judgedOf}
@@ -73,7 +74,7 @@ module _ {moment : ℕ} {s : List ℕ} {e : IndexEntry} {there : Bool} {row : Ro
   -- the row of a CRL
   pub list-row :
       Reading moment s e there row → row .standing ≡ 4
-      → (f : crls.Fields) × (lists.judgedOf (bytesAt s e) ≡ list-judged.Passed f) × (row ≡ listTold e f)
+      → (f : crls.Fields) × (lists.judgedOf paper (bytesAt s e) ≡ list-judged.Passed f) × (row ≡ listTold e f)
   unfolding blank
   list-row (certificate f n j v lo hi on h) l =
       absurd (let z : row .standing ≡ e .kind = ap (λ (r : Row). r .standing) h in omega arith)

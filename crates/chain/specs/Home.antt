@@ -6,6 +6,7 @@ use mathlib.Core.Bool.{Bool, true, false, cond}
 use mathlib.Core.List.{List}
 use lib.Dec.{eqb}
 use lib.ListN.{getD}
+use Rattle.der.specs.Forms.{paper}
 use Rattle.names.specs.declared.Letters.{Letters}
 use Rattle.names.specs.declared.Letters.the-variants.{Two, Unfit}
 use Rattle.certificate.specs.Country as certificates
@@ -18,7 +19,7 @@ use Rattle.chain.specs.Rows.{bytesAt, rowOf, rowAt}
 
 -- the letters of an item's issuer
 unfoldable pub countryAt : List ℕ → IndexEntry → Letters
-countryAt s e = cond (eqb (e .kind) 4) (lists.countryOf (bytesAt s e)) (certificates.countryOf (bytesAt s e))
+countryAt s e = cond (eqb (e .kind) 4) (lists.countryOf paper (bytesAt s e)) (certificates.countryOf (bytesAt s e))
 
 -- whether letters are these two
 unfoldable pub isOf : ℕ → ℕ → Letters → Bool

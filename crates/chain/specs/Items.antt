@@ -4,6 +4,7 @@ use mathlib.Core.Bool.{Bool, true, false, _&&_, _||_}
 use mathlib.Core.List.{List, []}
 use lib.Dec.{leb}
 use lib.ListN.{length, getD, take, drop}
+use Rattle.der.specs.Forms.{paper}
 use Rattle.certificate.specs.declared.Fields as certificate
 use Rattle.certificate.specs.declared.Judged.{Judged}
 use Rattle.certificate.specs.declared.Judged.the-variants.{Passed, Refused}
@@ -32,7 +33,7 @@ onList (list-judged.Refused refusal) test = false
 onList (list-judged.Passed fields) test = test fields
 
 unfoldable pub listAt : List Item → ℕ → (list.Fields → Bool) → Bool
-listAt items place test = onList (lists.judgedOf (itemAt items place .bytes)) test
+listAt items place test = onList (lists.judgedOf paper (itemAt items place .bytes)) test
 
 -- some of so many places meets a test
 unfoldable pub someBelow : ℕ → (ℕ → Bool) → Bool

@@ -6,6 +6,7 @@ use mathlib.Core.Bool.{Bool, true, false, cond}
 use mathlib.Core.List.{List, [], _∷_, _++_}
 use lib.Dec.{eqb, leb}
 use lib.ListN.{getD, take, drop, replicate}
+use Rattle.der.specs.Forms.{paper}
 use Rattle.certificate.specs.declared.Fields as certificate
 use Rattle.certificate.specs.declared.Judged.{Judged}
 use Rattle.certificate.specs.declared.Judged.the-variants.{Passed, Refused}
@@ -82,7 +83,7 @@ bytesAt s e = take (e .length) (drop (e .offset) s)
 -- the row of an entry; a disabled anchor has none
 unfoldable pub rowOf : ℕ → List ℕ → IndexEntry → Row
 rowOf moment s e =
-    cond (eqb (e .kind) 4) (listRow moment e (lists.judgedOf (bytesAt s e)))
+    cond (eqb (e .kind) 4) (listRow moment e (lists.judgedOf paper (bytesAt s e)))
     (cond (eqb (e .kind) 1)
     (cond (eqb (e .flags) 1) (certificateRow moment e (judgedOf (bytesAt s e) (e .kind))) blank)
     (certificateRow moment e (judgedOf (bytesAt s e) (e .kind))))
@@ -116,7 +117,7 @@ coversOf s list row =
 
 unfoldable pub listsOf : List ℕ → Row → Row → Bool
 listsOf s list row =
-    listedOf (take (list .size) (drop (list .at) s)) (list .from) (list .end) (pieceOf s row (row .«serial_at») (row .«serial_len»))
+    listedOf paper (take (list .size) (drop (list .at) s)) (list .from) (list .end) (pieceOf s row (row .«serial_at») (row .«serial_len»))
 
 -- what one more counting CRL says: 0 none covers the certificate, 1 one covers it, 2 one that covers it lists its serial
 unfoldable pub spokenOf : List ℕ → Row → Row → ℕ → ℕ

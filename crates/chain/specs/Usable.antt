@@ -3,6 +3,7 @@ use Prim.Native.Nat.{ℕ}
 use mathlib.Core.Bool.{Bool, _&&_, not}
 use mathlib.Core.List.{List}
 use lib.Dec.{eqb}
+use Rattle.der.specs.Forms.{paper}
 use Rattle.octets.specs.Alike.{alike}
 use Rattle.crl.specs.Listed.{listedOf}
 use Rattle.image.specs.Items.{Item}
@@ -42,7 +43,7 @@ unfoldable pub lists : List Item → ℕ → ℕ → Bool
 lists items crl place =
     listAt items crl λ g.
     certificateAt items place λ f.
-    listedOf (itemAt items crl .bytes) (g .«entries_from») (g .«entries_end»)
+    listedOf paper (itemAt items crl .bytes) (g .«entries_from») (g .«entries_end»)
     (partOf items place (f .«serial_at») (f .«serial_len»))
 
 -- a counting CRL that covers a certificate

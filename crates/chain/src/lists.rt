@@ -3,11 +3,12 @@ use crl::Judged;
 use crl::judge;
 use image::IndexEntry;
 ghost use mathlib.Core.Path.{_≡_};
+ghost use Rattle.der.specs.Forms.{paper};
 ghost use Rattle.chain.specs.Rows.{rowFrom, listRow};
 ghost use Rattle.crl.specs.Answer.{judgedOf};
 
 pub(crate) fn list_row(item: &[u8], e: IndexEntry, moment: u64) -> [usize; 17]
-    ensures { λ r. ⌜ rowFrom r ≡ listRow moment e (judgedOf (now (item .entry))) ⌝ }
+    ensures { λ r. ⌜ rowFrom r ≡ listRow moment e (judgedOf paper (now (item .entry))) ⌝ }
 {
     let Judged::Passed(f) = judge(item) else {
         return [0; 17];

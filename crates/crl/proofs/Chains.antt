@@ -3,6 +3,7 @@ use Prim.Native.Nat.{ℕ, suc}
 use mathlib.Core.Bool.{Bool, true, false}
 use mathlib.Core.List.{List, [], _∷_}
 use mathlib.Core.Path.{_≡_, sym, _∙_}
+use Rattle.der.specs.Forms.{paper}
 use Rattle.refusal.specs.declared.Refusal.the-variants.{Profile}
 use Rattle.elements.specs.declared.elements.Element.{Element}
 use Rattle.extensions.specs.Extensions.{extensionsShaped}
@@ -39,16 +40,16 @@ module _ {f : Survey} (next : ℕ → Bool → Bool → Shape) where
   survey-there h g = rw h g
 
 module _ (s : List ℕ) where
-  pub laid-none : partsOf s ≡ Broken → layoutOf s ≡ Broken
+  pub laid-none : partsOf paper s ≡ Broken → layoutOf paper s ≡ Broken
   unfolding layoutOf onParts
   laid-none h = rw h
 
-  module _ {l : Layout} (h : partsOf s ≡ Parts l) where
-    pub laid-bad : extensionsShaped s (l .extensions) ≡ false → layoutOf s ≡ Broken
+  module _ {l : Layout} (h : partsOf paper s ≡ Parts l) where
+    pub laid-bad : extensionsShaped paper s (l .extensions) ≡ false → layoutOf paper s ≡ Broken
     unfolding layoutOf onParts
     laid-bad g = rw (h, g)
 
-    pub laid-good : extensionsShaped s (l .extensions) ≡ true → layoutOf s ≡ Parts l
+    pub laid-good : extensionsShaped paper s (l .extensions) ≡ true → layoutOf paper s ≡ Parts l
     unfolding layoutOf onParts
     laid-good g = rw (h, g)
 

@@ -9,6 +9,7 @@ use borrow.Author.Tests.{eq-eqb, ne-eqb, leb-true}
 use lib.Dec.{leb}
 use lib.ListN.{length, getD, drop, length-drop}
 use lib.Seq.{length-take-le, getD-take, getD-drop}
+use Rattle.der.specs.Forms.{paper}
 use Rattle.der.specs.Heading.{identifierGood}
 use Rattle.elements.specs.declared.elements.Element.{Element}
 use Rattle.elements.specs.declared.elements.Found.the-variants.{One}
@@ -29,7 +30,7 @@ pub record Short (s : List ℕ) (at end tag r : ℕ) : Type 0 where
   pub inside : end ≤ length s
   pub low : at + 2 ≤ r
   pub high : r ≤ end
-  pub found : foundAt s at end ≡ One (brief tag at r)
+  pub found : foundAt paper s at end ≡ One (brief tag at r)
 
 pub short : {s : List ℕ} {at end r : ℕ} (tag : ℕ) → identifierGood tag ≡ true → r ≡ shortEnd s at end tag → 0 < r → Short s at end tag r
 short {s} {at} {end} tag good is some =
@@ -73,7 +74,7 @@ module _
 
 -- the entry is passed by
 module _ {s : List ℕ} {at end : ℕ} {serial : List ℕ} {r : ℕ} (a : Another s at end serial r) where
-  pub none-lost : someLists s serial (membersOf s at end) ≡ someLists s serial (membersOf s r end)
+  pub none-lost : someLists paper s serial (membersOf paper s at end) ≡ someLists paper s serial (membersOf paper s r end)
   unfolding someLists
   none-lost = rw (members-more s at end (a .found), a .other, a .ends)
 
@@ -85,14 +86,14 @@ module _
     {s : List ℕ} {at end next time : ℕ} {t : Element}
     (entry : Short s at end 0x30 next)
     (first : Short s (at + 2) next 0x02 time)
-    (found : foundAt s time next ≡ One t)
+    (found : foundAt paper s time next ≡ One t)
     (tag : timeTag (t .tag) ≡ true)
     (long : next ≡ at + 2 + getD s (at + 1) 0) where
-  bare : t .end ≡ next → entryOf s (brief 0x30 at next) ≡ Bare (brief 0x02 (at + 2) time) t
+  bare : t .end ≡ next → entryOf paper s (brief 0x30 at next) ≡ Bare (brief 0x02 (at + 2) time) t
   unfolding entryOf foundTagged timeAt onFound
   bare ends = simp (tag-kept 0x02 (first .found) refl, found, tag, eq-eqb (t .end) next ends)
 
-  milder : Mild s (t .end) next → entryOf s (brief 0x30 at next) ≡ Extended (brief 0x02 (at + 2) time) t false
+  milder : Mild s (t .end) next → entryOf paper s (brief 0x30 at next) ≡ Extended (brief 0x02 (at + 2) time) t false
   unfolding entryOf extended foundTagged timeAt onFound
   milder m =
       let more : t .end ≡ next → ⊥ = λ e. omega (arith, m .low, e) in
@@ -119,7 +120,7 @@ module _ (s : List ℕ) (from end tag size r : ℕ) (few : size < 128) (is : r �
       ∙ ap (λ (n : ℕ). from + 2 + n) (sym second)
       ∙ short-there s from end tag inside (omega (arith, is, fits)) first (omega (arith, second, few)) (omega (arith, second, is, fits))
 
-  pub header-found : identifierGood tag ≡ true → getD s from 0 ≡ tag → getD s (from + 1) 0 ≡ size → foundAt s from end ≡ One (brief tag from r)
+  pub header-found : identifierGood tag ≡ true → getD s from 0 ≡ tag → getD s (from + 1) 0 ≡ size → foundAt paper s from end ≡ One (brief tag from r)
   header-found good first second = short tag good (header-end first second) (omega (arith, is)) .found
 
 own-size : (at n : ℕ) → at + 4 + n - at - 4 ≡ n
@@ -154,7 +155,7 @@ module _ {s : List ℕ} {at end : ℕ} (o : Opening s at end) where
       (first : getD s (at + 4 + getD s (at + 3) 0) 0 ≡ tag)
       (second : getD s (at + 4 + getD s (at + 3) 0 + 1) 0 ≡ octets) where
     stamp : at + 4 + getD s (at + 3) 0 + 2 + octets ≤ at + 2 + getD s (at + 1) 0
-        → foundAt s (at + 4 + getD s (at + 3) 0) (at + 2 + getD s (at + 1) 0) ≡ One (stampAt tag octets (at + 4 + getD s (at + 3) 0))
+        → foundAt paper s (at + 4 + getD s (at + 3) 0) (at + 2 + getD s (at + 1) 0) ≡ One (stampAt tag octets (at + 4 + getD s (at + 3) 0))
     stamp h =
         let inside : at + 2 + getD s (at + 1) 0 ≤ length s = omega (arith, o .fits, o .inside) in
         header-found s (at + 4 + getD s (at + 3) 0) (at + 2 + getD s (at + 1) 0) tag octets (at + 4 + getD s (at + 3) 0 + 2 + octets) few refl h inside good first second

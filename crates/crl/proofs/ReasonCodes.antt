@@ -6,6 +6,7 @@ use mathlib.Core.Path.{_≡_, refl, ap, sym, _∙_}
 use native.Mathlib.Omega.{arith}
 use lib.ListN.{length, getD, take, drop}
 use lib.Seq.{getD-take, getD-drop}
+use Rattle.der.specs.Forms.{paper}
 use Rattle.der.specs.Heading.{identifierGood}
 use Rattle.elements.specs.declared.elements.Found.{Found}
 use Rattle.elements.specs.declared.elements.Found.the-variants.{One, Missing}
@@ -29,10 +30,10 @@ four-told {a} {b} {c} {d} p q u v ha hb hc hp hq hu is so =
     let (c1, d1) = apart d c v u hc hu more in
     (a1, b1, c1, d1)
 
-none-after : (s : List ℕ) (at end : ℕ) → end ≤ at → foundAt s at end ≡ Missing
-none-after s at end past = go (foundAt s at end) refl
+none-after : (s : List ℕ) (at end : ℕ) → end ≤ at → foundAt paper s at end ≡ Missing
+none-after s at end past = go (foundAt paper s at end) refl
   where
-    go : (f : Found) → foundAt s at end ≡ f → f ≡ Missing
+    go : (f : Found) → foundAt paper s at end ≡ f → f ≡ Missing
     go Missing h = refl
     go (One e) h = absurd (omega (arith, past, found-within s at end h))
 
@@ -65,10 +66,10 @@ module _ (s : List ℕ) (from end : ℕ) (fits : end ≤ length s) (long : end �
       (octet 9 (from + 9) (omega arith) (r .value .0) (omega arith)) (octet 10 (from + 9 + 1) (omega arith) (r .value .1) (omega arith)) in
       member-uncritical s (from + 2) end (omega (arith, long)) here (omega arith) oid last
 
-  members : membersOf s (from + 2) end ≡ member .e ∷ []
+  members : membersOf paper s (from + 2) end ≡ member .e ∷ []
   members =
       members-more s (from + 2) end (member .found)
-      ∙ ap (λ (n : ℕ). member .e ∷ membersOf s n end) (sym (member .ends))
+      ∙ ap (λ (n : ℕ). member .e ∷ membersOf paper s n end) (sym (member .ends))
       ∙ ap (_∷_ (member .e)) (members-none s end end (none-after s end end (omega arith)))
 
   pub reason-mild : Mild s from end

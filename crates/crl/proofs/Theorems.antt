@@ -32,7 +32,7 @@ use Rattle.crl.proofs.Firsts.{differ, none-broken, graded-passed, grade
 use Rattle.crl.proofs.Serials.{listed-in, in-listed}
 
 module _ (s : List ℕ) where
-  rules-met : (l : Layout) → layoutOf s ≡ Parts l → firstBroken 2 (rules2to8 s l (readingsOf s l)) ≡ 0 → Meets s l
+  rules-met : (l : Layout) → layoutOf paper s ≡ Parts l → firstBroken 2 (rules2to8 paper s l (readingsOf s l)) ≡ 0 → Meets paper s l
   unfolding rules2to8
   rules-met l h e2 =
       let r2 = none-broken 1 _ _ e2 in
@@ -44,35 +44,35 @@ module _ (s : List ℕ) where
       let r8 = none-broken 7 _ _ (r7 .1) in
       record { shape = h; version = r2 .0; algorithms = r3 .0; country = r4 .0; times = r5 .0; entries = r6 .0; extensions = r7 .0; critical = r8 .0 }
 
-  met-rules : {l : Layout} → Meets s l → 0 ≡ firstBroken 2 (rules2to8 s l (readingsOf s l))
+  met-rules : {l : Layout} → Meets paper s l → 0 ≡ firstBroken 2 (rules2to8 paper s l (readingsOf s l))
   unfolding rules2to8
   met-rules m =
       broken-later _ _ (m .version) (broken-later _ _ (m .algorithms) (broken-later _ _ (m .country) (broken-later _ _ (m .times)
       (broken-later _ _ (m .entries) (broken-later _ _ (m .extensions) (broken-later _ _ (m .critical) (broken-none _)))))))
 
-  passes-only : (f : Fields) → judgedOf s ≡ Passed f → Passes s f
+  passes-only : (f : Fields) → judgedOf paper s ≡ Passed f → Passes paper s f
   unfolding judgedOf onWalk profileOf onShape
   passes-only f e = go (walkOf paper s) refl e
     where
-      shaped : (count : ℕ) → walkOf paper s ≡ walked.Passed count → (shape : Shape) → layoutOf s ≡ shape → onShape shape (λ l. graded (firstBroken 2 (rules2to8 s l (readingsOf s l))) (fieldsOf l (readingsOf s l))) ≡ Passed f → Passes s f
+      shaped : (count : ℕ) → walkOf paper s ≡ walked.Passed count → (shape : Shape) → layoutOf paper s ≡ shape → onShape shape (λ l. graded (firstBroken 2 (rules2to8 paper s l (readingsOf s l))) (fieldsOf l (readingsOf s l))) ≡ Passed f → Passes paper s f
       shaped count w Broken h e = absurd (differ e)
       shaped count w (Parts l) h e =
           let g = graded-passed _ _ e in
           record { count = count; walks = w; parts = l; meets = rules-met l h (g .0); fields = g .1 }
 
-      go : (w : Walked) → walkOf paper s ≡ w → onWalk w (profileOf s) ≡ Passed f → Passes s f
+      go : (w : Walked) → walkOf paper s ≡ w → onWalk w (profileOf paper s) ≡ Passed f → Passes paper s f
       go (walked.Refused refusal) w e = absurd (differ e)
-      go (walked.Passed count) w e = shaped count w (layoutOf s) refl e
+      go (walked.Passed count) w e = shaped count w (layoutOf paper s) refl e
 
-  passes-all : (f : Fields) → Passes s f → judgedOf s ≡ Passed f
+  passes-all : (f : Fields) → Passes paper s f → judgedOf paper s ≡ Passed f
   unfolding judgedOf onWalk profileOf onShape graded
   passes-all f p = rw (p .walks, p .meets .shape, ← met-rules (p .meets), p .fields)
 
   -- A CRL passes, with these fields, exactly when the walk passes, rules 1 to 8 are met, and the fields are its own.
-  pub passes-exactly : (f : Fields) → (judgedOf s ≡ Passed f) ↔ Passes s f
+  pub passes-exactly : (f : Fields) → (judgedOf paper s ≡ Passed f) ↔ Passes paper s f
   passes-exactly f = (passes-only f, passes-all f)
 
-  refused-by : (refusal : Refusal) → judgedOf s ≡ Refused refusal → RefusedFor s refusal
+  refused-by : (refusal : Refusal) → judgedOf paper s ≡ Refused refusal → RefusedFor paper s refusal
   unfolding judgedOf onWalk profileOf onShape rules1to8 rulesIn firstBroken
   refused-by refusal e = go (walkOf paper s) refl e
     where
@@ -80,52 +80,52 @@ module _ (s : List ℕ) where
       same e = cc
 
       shaped :
-          (count : ℕ) → walkOf paper s ≡ walked.Passed count → (shape : Shape) → layoutOf s ≡ shape
-          → onShape shape (λ l. graded (firstBroken 2 (rules2to8 s l (readingsOf s l))) (fieldsOf l (readingsOf s l))) ≡ Refused refusal
-          → RefusedFor s refusal
+          (count : ℕ) → walkOf paper s ≡ walked.Passed count → (shape : Shape) → layoutOf paper s ≡ shape
+          → onShape shape (λ l. graded (firstBroken 2 (rules2to8 paper s l (readingsOf s l))) (fieldsOf l (readingsOf s l))) ≡ Refused refusal
+          → RefusedFor paper s refusal
       shaped count w Broken h e =
-          subst (RefusedFor s) (same e)
+          subst (RefusedFor paper s) (same e)
           (by-rule (record { count = count; walks = w; smallest = rw h (told-smallest 1 (false ∷ []) refl λ (z : 1 ≡ 0). omega arith) }))
       shaped count w (Parts l) h e =
           let g = graded-refused _ _ e in
-          subst (RefusedFor s) (sym (g .0))
-          (by-rule (record { count = count; walks = w; smallest = rw h (told-smallest 1 (true ∷ rules2to8 s l (readingsOf s l)) refl (g .1)) }))
+          subst (RefusedFor paper s) (sym (g .0))
+          (by-rule (record { count = count; walks = w; smallest = rw h (told-smallest 1 (true ∷ rules2to8 paper s l (readingsOf s l)) refl (g .1)) }))
 
-      go : (w : Walked) → walkOf paper s ≡ w → onWalk w (profileOf s) ≡ Refused refusal → RefusedFor s refusal
-      go (walked.Refused own) w e = subst (RefusedFor s) (same e) (by-walk w)
-      go (walked.Passed count) w e = shaped count w (layoutOf s) refl e
+      go : (w : Walked) → walkOf paper s ≡ w → onWalk w (profileOf paper s) ≡ Refused refusal → RefusedFor paper s refusal
+      go (walked.Refused own) w e = subst (RefusedFor paper s) (same e) (by-walk w)
+      go (walked.Passed count) w e = shaped count w (layoutOf paper s) refl e
 
-  broken-refused : (k : ℕ) → Breaks s k → judgedOf s ≡ Refused (Profile k)
+  broken-refused : (k : ℕ) → Breaks paper s k → judgedOf paper s ≡ Refused (Profile k)
   unfolding judgedOf onWalk profileOf onShape graded rules1to8 rulesIn firstBroken
-  broken-refused k b = rw (b .walks) (go (layoutOf s) (b .smallest))
+  broken-refused k b = rw (b .walks) (go (layoutOf paper s) (b .smallest))
     where
       go :
-          (shape : Shape) → Smallest 1 (rulesIn s shape) k
-          → onShape shape (λ l. graded (firstBroken 2 (rules2to8 s l (readingsOf s l))) (fieldsOf l (readingsOf s l))) ≡ Refused (Profile k)
+          (shape : Shape) → Smallest 1 (rulesIn paper s shape) k
+          → onShape shape (λ l. graded (firstBroken 2 (rules2to8 paper s l (readingsOf s l))) (fieldsOf l (readingsOf s l))) ≡ Refused (Profile k)
       go Broken least = ap (λ (n : ℕ). Refused (Profile n)) (smallest-told 1 (false ∷ []) least)
       go (Parts l) least =
-          let told : firstBroken 2 (rules2to8 s l (readingsOf s l)) ≡ k = smallest-told 1 (true ∷ rules2to8 s l (readingsOf s l)) least in
+          let told : firstBroken 2 (rules2to8 paper s l (readingsOf s l)) ≡ k = smallest-told 1 (true ∷ rules2to8 paper s l (readingsOf s l)) least in
           rw (told, ne-eqb k 0 (λ (z : k ≡ 0). omega (arith, least .numbered)))
 
-  refusals-told : (refusal : Refusal) → RefusedFor s refusal → judgedOf s ≡ Refused refusal
+  refusals-told : (refusal : Refusal) → RefusedFor paper s refusal → judgedOf paper s ≡ Refused refusal
   unfolding judgedOf onWalk
   refusals-told refusal (by-walk w) = rw w
   refusals-told refusal (by-rule {k = k} b) = broken-refused k b
 
   -- A CRL is refused exactly as the walk refuses it, and with 4 for a rule.
-  pub refusals : (refusal : Refusal) → (judgedOf s ≡ Refused refusal) ↔ RefusedFor s refusal
+  pub refusals : (refusal : Refusal) → (judgedOf paper s ≡ Refused refusal) ↔ RefusedFor paper s refusal
   refusals refusal = (refused-by refusal, refusals-told refusal)
 
   -- Rule k of the profile is told exactly when the walk passes and rule k is the smallest broken.
-  pub detail-smallest : (k : ℕ) → (judgedOf s ≡ Refused (Profile k)) ↔ Breaks s k
+  pub detail-smallest : (k : ℕ) → (judgedOf paper s ≡ Refused (Profile k)) ↔ Breaks paper s k
   detail-smallest k = ((λ e. only (Profile k) refl (refused-by (Profile k) e)), broken-refused k)
     where
-      only : (refusal : Refusal) → refusal ≡ Profile k → RefusedFor s refusal → Breaks s k
+      only : (refusal : Refusal) → refusal ≡ Profile k → RefusedFor paper s refusal → Breaks paper s k
       only refusal e (by-walk w) = absurd (no-profile paper s {k = k} (w ∙ ap walked.Refused e))
-      only refusal e (by-rule {k = own} b) = let same : own ≡ k = cc in subst (Breaks s) same b
+      only refusal e (by-rule {k = own} b) = let same : own ≡ k = cc in subst (Breaks paper s) same b
 
 module _ (s serial : List ℕ) where
   -- A serial is listed exactly when an entry has an INTEGER first whose contents are the serial.
-  pub listed-exactly : (from end : ℕ) → (listedOf s from end serial ≡ true) ↔ InList s serial (membersOf s from end)
+  pub listed-exactly : (from end : ℕ) → (listedOf paper s from end serial ≡ true) ↔ InList paper s serial (membersOf paper s from end)
   unfolding listedOf
   listed-exactly from end = (listed-in s serial _, in-listed s serial _)

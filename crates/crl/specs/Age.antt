@@ -3,6 +3,7 @@
 use Prim.Native.Nat.{ℕ, _/_}
 use mathlib.Core.Bool.{cond}
 use mathlib.Core.List.{List}
+use Rattle.der.specs.Forms.{paper}
 use Rattle.refusal.specs.declared.Refusal.the-variants.{Argument}
 use Rattle.calendar.specs.declared.Difference.{Difference}
 use Rattle.calendar.specs.declared.Difference.the-variants.{Refused}
@@ -17,4 +18,4 @@ agedBy day (judged.Refused refusal) = Refused refusal
 agedBy day (judged.Passed fields) = differenceOf (fields .«this_update» / 1000000) day
 
 unfoldable pub ageOf : List ℕ → ℕ → Difference
-ageOf s day = cond (realDay 1950 2099 day) (agedBy day (judgedOf s)) (Refused Argument)
+ageOf s day = cond (realDay 1950 2099 day) (agedBy day (judgedOf paper s)) (Refused Argument)

@@ -6,7 +6,7 @@ use lib.Dec.{eqb}
 use Rattle.refusal.specs.declared.Refusal.the-variants.{Profile}
 use Rattle.der.specs.declared.walking.Walked.{Walked}
 use Rattle.der.specs.declared.walking.Walked.the-variants as walked
-use Rattle.der.specs.Forms.{paper}
+use Rattle.der.specs.Forms.{Forms}
 use Rattle.der.specs.Walk.{walkOf}
 use Rattle.names.specs.Names.{firstLetter, secondLetter}
 use Rattle.refusal.specs.Rules.{firstBroken}
@@ -48,9 +48,9 @@ onWalk (walked.Refused refusal) next = Refused refusal
 onWalk (walked.Passed count) next = next
 
 -- rules 1 to 8 of a walked item
-unfoldable pub profileOf : List ℕ → Judged
-profileOf s =
-    onShape (layoutOf s) λ l. graded (firstBroken 2 (rules2to8 s l (readingsOf s l))) (fieldsOf l (readingsOf s l))
+unfoldable pub profileOf : Forms → List ℕ → Judged
+profileOf forms s =
+    onShape (layoutOf forms s) λ l. graded (firstBroken 2 (rules2to8 forms s l (readingsOf s l))) (fieldsOf l (readingsOf s l))
 
-unfoldable pub judgedOf : List ℕ → Judged
-judgedOf s = onWalk (walkOf paper s) (profileOf s)
+unfoldable pub judgedOf : Forms → List ℕ → Judged
+judgedOf forms s = onWalk (walkOf forms s) (profileOf forms s)

@@ -3,6 +3,7 @@
 use Prim.Native.Nat.{ℕ}
 use mathlib.Core.List.{List}
 use lib.ListN.{length}
+use Rattle.der.specs.Forms.{Forms}
 use Rattle.elements.specs.declared.elements.Element.{Element}
 use Rattle.elements.specs.declared.elements.Found.{Found}
 use Rattle.elements.specs.declared.elements.Found.the-variants.{Missing}
@@ -12,15 +13,15 @@ use Rattle.names.specs.declared.Letters.the-variants.{Unfit}
 use Rattle.names.specs.Country.{countryIn}
 
 -- after INTEGER and algorithm
-unfoldable pub issuerOf : List ℕ → Element → Found
-issuerOf s tbs =
-    onFound (foundTagged s (tbs .contents) (tbs .end) 0x02) Missing λ version.
-    onFound (foundTagged s (version .end) (tbs .end) 0x30) Missing λ inner.
-    foundTagged s (inner .end) (tbs .end) 0x30
+unfoldable pub issuerOf : Forms → List ℕ → Element → Found
+issuerOf forms s tbs =
+    onFound (foundTagged forms s (tbs .contents) (tbs .end) 0x02) Missing λ version.
+    onFound (foundTagged forms s (version .end) (tbs .end) 0x30) Missing λ inner.
+    foundTagged forms s (inner .end) (tbs .end) 0x30
 
-unfoldable pub countryOf : List ℕ → Letters
-countryOf s =
-    onFound (foundTagged s 0 (length s) 0x30) Unfit λ outermost.
-    onFound (foundTagged s (outermost .contents) (outermost .end) 0x30) Unfit λ tbs.
-    onFound (issuerOf s tbs) Unfit λ issuer.
-    countryIn s issuer
+unfoldable pub countryOf : Forms → List ℕ → Letters
+countryOf forms s =
+    onFound (foundTagged forms s 0 (length s) 0x30) Unfit λ outermost.
+    onFound (foundTagged forms s (outermost .contents) (outermost .end) 0x30) Unfit λ tbs.
+    onFound (issuerOf forms s tbs) Unfit λ issuer.
+    countryIn forms s issuer

@@ -4,6 +4,7 @@ use mathlib.Core.Bool.{Bool, true, false, cond, _&&_, not}
 use mathlib.Core.List.{List, [], _∷_}
 use lib.Dec.{eqb}
 use lib.ListN.{length}
+use Rattle.der.specs.Forms.{Forms}
 use Rattle.elements.specs.declared.elements.Element.{Element}
 use Rattle.times.specs.declared.Time.{Time}
 use Rattle.times.specs.declared.Time.the-variants.{Moment, Untimely}
@@ -16,17 +17,17 @@ use Rattle.crl.specs.declared.entries.Survey.{Survey}
 use Rattle.crl.specs.declared.entries.Survey.the-variants.{Entries, Shapeless}
 
 -- the extensions, where there are octets after the time, and whether one is critical
-unfoldable pub extended : List ℕ → Element → Element → Element → Entry
-extended s entry serial time =
-    onFound (foundTagged s (time .end) (entry .end) 0x30) Misshapen λ extensions.
-    cond (eqb (extensions .end) (entry .end) && extensionsShaped s extensions) (Extended serial time (criticalOf s extensions false)) Misshapen
+unfoldable pub extended : Forms → List ℕ → Element → Element → Element → Entry
+extended forms s entry serial time =
+    onFound (foundTagged forms s (time .end) (entry .end) 0x30) Misshapen λ extensions.
+    cond (eqb (extensions .end) (entry .end) && extensionsShaped forms s extensions) (Extended serial time (criticalOf forms s extensions false)) Misshapen
 
-unfoldable pub entryOf : List ℕ → Element → Entry
-entryOf s e =
+unfoldable pub entryOf : Forms → List ℕ → Element → Entry
+entryOf forms s e =
     cond (eqb (e .tag) 0x30)
-    (onFound (foundTagged s (e .contents) (e .end) 0x02) Misshapen λ serial.
-    onFound (timeAt s (serial .end) (e .end)) Misshapen λ time.
-    cond (eqb (time .end) (e .end)) (Bare serial time) (extended s e serial time))
+    (onFound (foundTagged forms s (e .contents) (e .end) 0x02) Misshapen λ serial.
+    onFound (timeAt forms s (serial .end) (e .end)) Misshapen λ time.
+    cond (eqb (time .end) (e .end)) (Bare serial time) (extended forms s e serial time))
     Misshapen
 
 unfoldable pub shaped : Entry → Bool
@@ -50,21 +51,21 @@ calm Misshapen = true
 calm (Bare serial time) = true
 calm (Extended serial time marked) = not marked
 
-unfoldable pub allShaped : List ℕ → List Element → Bool
-allShaped s [] = true
-allShaped s (e ∷ rest) = shaped (entryOf s e) && allShaped s rest
+unfoldable pub allShaped : Forms → List ℕ → List Element → Bool
+allShaped forms s [] = true
+allShaped forms s (e ∷ rest) = shaped (entryOf forms s e) && allShaped forms s rest
 
-unfoldable pub allTimely : List ℕ → List Element → Bool
-allTimely s [] = true
-allTimely s (e ∷ rest) = timely s (entryOf s e) && allTimely s rest
+unfoldable pub allTimely : Forms → List ℕ → List Element → Bool
+allTimely forms s [] = true
+allTimely forms s (e ∷ rest) = timely s (entryOf forms s e) && allTimely forms s rest
 
-unfoldable pub allCalm : List ℕ → List Element → Bool
-allCalm s [] = true
-allCalm s (e ∷ rest) = calm (entryOf s e) && allCalm s rest
+unfoldable pub allCalm : Forms → List ℕ → List Element → Bool
+allCalm forms s [] = true
+allCalm forms s (e ∷ rest) = calm (entryOf forms s e) && allCalm forms s rest
 
 -- what the rules ask of all the entries in a stretch, found in one pass
-unfoldable pub surveyOf : List ℕ → ℕ → ℕ → Survey
-surveyOf s from end =
-    cond (allShaped s (membersOf s from end))
-    (Entries (length (membersOf s from end)) (allTimely s (membersOf s from end)) (allCalm s (membersOf s from end)))
+unfoldable pub surveyOf : Forms → List ℕ → ℕ → ℕ → Survey
+surveyOf forms s from end =
+    cond (allShaped forms s (membersOf forms s from end))
+    (Entries (length (membersOf forms s from end)) (allTimely forms s (membersOf forms s from end)) (allCalm forms s (membersOf forms s from end)))
     Shapeless

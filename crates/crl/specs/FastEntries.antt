@@ -4,6 +4,7 @@ use mathlib.Core.Bool.{true, false}
 use mathlib.Core.List.{List}
 use mathlib.Core.Path.{_≡_}
 use lib.ListN.{length, getD}
+use Rattle.der.specs.Forms.{paper}
 use Rattle.elements.specs.declared.elements.Element.{Element}
 use Rattle.elements.specs.declared.elements.Found.the-variants.{One, Missing}
 use Rattle.elements.specs.Elements.{foundAt, membersOf}
@@ -33,9 +34,9 @@ sequenceAt from end = record { tag = 0x30; at = from; contents = from + 2; end =
 -- such a SEQUENCE stands there, and holds extensions none of which is critical
 pub record Mild (s : List ℕ) (from end : ℕ) : Type 0 where
   pub low : from + 2 ≤ end
-  pub found : foundAt s from end ≡ One (sequenceAt from end)
-  pub fit : extensionsShaped s (sequenceAt from end) ≡ true
-  pub calm : criticalOf s (sequenceAt from end) false ≡ false
+  pub found : foundAt paper s from end ≡ One (sequenceAt from end)
+  pub fit : extensionsShaped paper s (sequenceAt from end) ≡ true
+  pub calm : criticalOf paper s (sequenceAt from end) false ≡ false
 
 -- the headers of a list of one extension, of the OID 2.5.29.21, and of its OID and value
 pub record Reason (c : List ℕ) : Type 0 where
@@ -48,34 +49,34 @@ pub record Reason (c : List ℕ) : Type 0 where
 pub record Usual (s : List ℕ) (at end : ℕ) (time : Element) : Type 0 where
   pub room : time .end ≤ length s
   pub entry : Element
-  pub found : foundAt s at end ≡ One entry
+  pub found : foundAt paper s at end ≡ One entry
   pub ends : entry .end ≡ at + 2 + getD s (at + 1) 0
-  pub fit : shaped (entryOf s entry) ≡ true
-  pub timed : timely s (entryOf s entry) ≡ isTime (timeOf s time)
-  pub calmed : calm (entryOf s entry) ≡ true
+  pub fit : shaped (entryOf paper s entry) ≡ true
+  pub timed : timely s (entryOf paper s entry) ≡ isTime (timeOf s time)
+  pub calmed : calm (entryOf paper s entry) ≡ true
 
 -- an element stands at `at`, and this is what is to be said of it as an entry
 pub record TakenAs (s : List ℕ) (at end : ℕ) (t : Taken) : Type 0 where
   pub entry : Element
-  pub found : foundAt s at end ≡ One entry
+  pub found : foundAt paper s at end ≡ One entry
   pub ends : entry .end ≡ t .next
-  pub fit : t .shaped ≡ shaped (entryOf s entry)
-  pub timed : t .timely ≡ timely s (entryOf s entry)
-  pub calmed : t .calm ≡ calm (entryOf s entry)
+  pub fit : t .shaped ≡ shaped (entryOf paper s entry)
+  pub timed : t .timely ≡ timely s (entryOf paper s entry)
+  pub calmed : t .calm ≡ calm (entryOf paper s entry)
 
 -- what is taken at `at`: an element, or none
 pub record Takes (s : List ℕ) (at end : ℕ) (t : Taken) : Type 0 where
   pub some : t .found ≡ true → TakenAs s at end t
-  pub none : t .found ≡ false → foundAt s at end ≡ Missing
+  pub none : t .found ≡ false → foundAt paper s at end ≡ Missing
 
 -- the entry that stands at `at` ends at r, and has another serial
 pub record Another (s : List ℕ) (at end : ℕ) (serial : List ℕ) (r : ℕ) : Type 0 where
   pub entry : Element
-  pub found : foundAt s at end ≡ One entry
+  pub found : foundAt paper s at end ≡ One entry
   pub ends : entry .end ≡ r
-  pub other : lists s serial entry ≡ false
+  pub other : lists paper s serial entry ≡ false
 
 -- none of the entries from `from` to r has the serial
 pub record NoneBefore (s : List ℕ) (from end : ℕ) (serial : List ℕ) (r : ℕ) : Type 0 where
-  pub none : someLists s serial (membersOf s from end) ≡ someLists s serial (membersOf s r end)
+  pub none : someLists paper s serial (membersOf paper s from end) ≡ someLists paper s serial (membersOf paper s r end)
   pub nearer : end - r ≤ end - from

@@ -7,7 +7,7 @@ use Rattle.refusal.specs.declared.Refusal.{Refusal}
 use Rattle.refusal.specs.declared.Refusal.the-variants.{Profile}
 use Rattle.refusal.specs.Rules.{Smallest}
 use Rattle.der.specs.declared.walking.Walked.the-variants as walked
-use Rattle.der.specs.Forms.{paper}
+use Rattle.der.specs.Forms.{Forms}
 use Rattle.der.specs.Walk.{walkOf}
 use Rattle.elements.specs.declared.elements.Element.{Element}
 use Rattle.elements.specs.declared.elements.Found.the-variants.{One}
@@ -21,9 +21,9 @@ use Rattle.crl.specs.Rules.{readingsOf, rule2, rule3, rule4, rule5, rule
 use Rattle.crl.specs.Shape.{layoutOf}
 
 -- rules 1 to 8, of a CRL that has the parts `l`
-pub record Meets (s : List ℕ) (l : Layout) : Type 0 where
+pub record Meets (forms : Forms) (s : List ℕ) (l : Layout) : Type 0 where
   -- 1: the shape
-  pub shape : layoutOf s ≡ Parts l
+  pub shape : layoutOf forms s ≡ Parts l
   -- 2: version number 1
   pub version : rule2 s l ≡ true
   -- 3: algorithms equal
@@ -35,41 +35,41 @@ pub record Meets (s : List ℕ) (l : Layout) : Type 0 where
   -- 6: no empty entry list
   pub entries : rule6 l ≡ true
   -- 7: the extensions
-  pub extensions : rule7 s l ≡ true
+  pub extensions : rule7 forms s l ≡ true
   -- 8: nothing critical
-  pub critical : rule8 s l ≡ true
+  pub critical : rule8 forms s l ≡ true
 
 -- the walk passes, each rule is met, and the fields are those of the parts
-pub record Passes (s : List ℕ) (f : Fields) : Type 0 where
+pub record Passes (forms : Forms) (s : List ℕ) (f : Fields) : Type 0 where
   pub count : ℕ
-  pub walks : walkOf paper s ≡ walked.Passed count
+  pub walks : walkOf forms s ≡ walked.Passed count
   pub parts : Layout
-  pub meets : Meets s parts
+  pub meets : Meets forms s parts
   pub fields : f ≡ fieldsOf parts (readingsOf s parts)
 
 -- rules 1 to 8; where the shape is broken there is nothing that the others could read
-unfoldable pub rulesIn : List ℕ → Shape → List Bool
-rulesIn s Broken = false ∷ []
-rulesIn s (Parts l) = true ∷ rules2to8 s l (readingsOf s l)
+unfoldable pub rulesIn : Forms → List ℕ → Shape → List Bool
+rulesIn forms s Broken = false ∷ []
+rulesIn forms s (Parts l) = true ∷ rules2to8 forms s l (readingsOf s l)
 
-unfoldable pub rules1to8 : List ℕ → List Bool
-rules1to8 s = rulesIn s (layoutOf s)
+unfoldable pub rules1to8 : Forms → List ℕ → List Bool
+rules1to8 forms s = rulesIn forms s (layoutOf forms s)
 
 -- an item that is walked, and of whose rules k is the smallest broken
-pub record Breaks (s : List ℕ) (k : ℕ) : Type 0 where
+pub record Breaks (forms : Forms) (s : List ℕ) (k : ℕ) : Type 0 where
   pub count : ℕ
-  pub walks : walkOf paper s ≡ walked.Passed count
-  pub smallest : Smallest 1 (rules1to8 s) k
+  pub walks : walkOf forms s ≡ walked.Passed count
+  pub smallest : Smallest 1 (rules1to8 forms s) k
 
 -- what an item is refused for: what the walk refuses, 4 for a rule
-pub data RefusedFor (s : List ℕ) : Refusal → Type 0 where
-  by-walk : {refusal : Refusal} → walkOf paper s ≡ walked.Refused refusal → RefusedFor s refusal
-  by-rule : {k : ℕ} → Breaks s k → RefusedFor s (Profile k)
+pub data RefusedFor (forms : Forms) (s : List ℕ) : Refusal → Type 0 where
+  by-walk : {refusal : Refusal} → walkOf forms s ≡ walked.Refused refusal → RefusedFor forms s refusal
+  by-rule : {k : ℕ} → Breaks forms s k → RefusedFor forms s (Profile k)
 
 -- one of the entries has an INTEGER first whose contents are the serial
-pub record InList (s : List ℕ) (serial : List ℕ) (entries : List Element) : Type 0 where
+pub record InList (forms : Forms) (s : List ℕ) (serial : List ℕ) (entries : List Element) : Type 0 where
   pub entry : Element
   pub own : Element
   pub member : List·Memᴰ entry entries
-  pub first : foundTagged s (entry .contents) (entry .end) 0x02 ≡ One own
+  pub first : foundTagged forms s (entry .contents) (entry .end) 0x02 ≡ One own
   pub same : contentsOf s own ≡ serial

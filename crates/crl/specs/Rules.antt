@@ -3,6 +3,7 @@ use Prim.Native.Nat.{ℕ}
 use mathlib.Core.Bool.{Bool, true, false, _&&_, not}
 use mathlib.Core.List.{List, [], _∷_}
 use lib.Dec.{eqb}
+use Rattle.der.specs.Forms.{Forms}
 use Rattle.names.specs.declared.Letters.{Letters}
 use Rattle.names.specs.declared.Letters.the-variants.{Two, Unfit}
 use Rattle.octets.specs.Alike.{alike}
@@ -44,20 +45,20 @@ unfoldable pub rule6 : Layout → Bool
 rule6 l = not (l .listing .there && eqb (l .count) 0)
 
 -- authorityKeyIdentifier (2.5.29.35) is there
-unfoldable pub keyThere : List ℕ → Element → Bool
-keyThere s extensions = present (lookupOf s extensions (0x55 ∷ 0x1D ∷ 0x23 ∷ []))
+unfoldable pub keyThere : Forms → List ℕ → Element → Bool
+keyThere forms s extensions = present (lookupOf forms s extensions (0x55 ∷ 0x1D ∷ 0x23 ∷ []))
 
 -- cRLNumber (2.5.29.20) is there
-unfoldable pub numberThere : List ℕ → Element → Bool
-numberThere s extensions = present (lookupOf s extensions (0x55 ∷ 0x1D ∷ 0x14 ∷ []))
+unfoldable pub numberThere : Forms → List ℕ → Element → Bool
+numberThere forms s extensions = present (lookupOf forms s extensions (0x55 ∷ 0x1D ∷ 0x14 ∷ []))
 
 -- 7: no OID twice, authorityKeyIdentifier and cRLNumber there
-unfoldable pub rule7 : List ℕ → Layout → Bool
-rule7 s l = not (doubledOf s (l .extensions)) && (keyThere s (l .extensions) && numberThere s (l .extensions))
+unfoldable pub rule7 : Forms → List ℕ → Layout → Bool
+rule7 forms s l = not (doubledOf forms s (l .extensions)) && (keyThere forms s (l .extensions) && numberThere forms s (l .extensions))
 
 -- 8: nothing critical, in entries either
-unfoldable pub rule8 : List ℕ → Layout → Bool
-rule8 s l = not (criticalOf s (l .extensions) false) && l .calm
+unfoldable pub rule8 : Forms → List ℕ → Layout → Bool
+rule8 forms s l = not (criticalOf forms s (l .extensions) false) && l .calm
 
-unfoldable pub rules2to8 : List ℕ → Layout → Readings → List Bool
-rules2to8 s l r = rule2 s l ∷ rule3 s l ∷ rule4 r ∷ rule5 l r ∷ rule6 l ∷ rule7 s l ∷ rule8 s l ∷ []
+unfoldable pub rules2to8 : Forms → List ℕ → Layout → Readings → List Bool
+rules2to8 forms s l r = rule2 s l ∷ rule3 s l ∷ rule4 r ∷ rule5 l r ∷ rule6 l ∷ rule7 forms s l ∷ rule8 forms s l ∷ []

@@ -4,6 +4,7 @@ use Prim.Native.Nat.{ℕ}
 use mathlib.Core.Bool.{Bool, true, false, cond}
 use mathlib.Core.List.{List}
 use lib.Dec.{eqb}
+use Rattle.der.specs.Forms.{Forms}
 use Rattle.elements.specs.declared.elements.Element.{Element}
 use Rattle.elements.specs.declared.elements.Found.{Found}
 use Rattle.elements.specs.declared.elements.Found.the-variants.{One, Missing}
@@ -33,19 +34,19 @@ onSurvey survey.Shapeless next = Broken
 onSurvey (survey.Entries count timely calm) next = next count timely calm
 
 -- the first members of the tbs: INTEGER, algorithm, issuer, time, time
-unfoldable pub frontOf : List ℕ → Element → Front
-frontOf s tbs =
-    onFound (foundTagged s (tbs .contents) (tbs .end) 0x02) Frontless λ version.
-    onFound (foundTagged s (version .end) (tbs .end) 0x30) Frontless λ inner.
-    onFound (foundTagged s (inner .end) (tbs .end) 0x30) Frontless λ issuer.
-    onFound (timeAt s (issuer .end) (tbs .end)) Frontless λ current.
-    onFound (timeAt s (current .end) (tbs .end)) Frontless λ coming.
+unfoldable pub frontOf : Forms → List ℕ → Element → Front
+frontOf forms s tbs =
+    onFound (foundTagged forms s (tbs .contents) (tbs .end) 0x02) Frontless λ version.
+    onFound (foundTagged forms s (version .end) (tbs .end) 0x30) Frontless λ inner.
+    onFound (foundTagged forms s (inner .end) (tbs .end) 0x30) Frontless λ issuer.
+    onFound (timeAt forms s (issuer .end) (tbs .end)) Frontless λ current.
+    onFound (timeAt forms s (current .end) (tbs .end)) Frontless λ coming.
     Opens version inner issuer current coming
 
 -- the last: A0 around one SEQUENCE
-unfoldable pub lastOf : List ℕ → ℕ → ℕ → Found
-lastOf s from end =
-    onFound (foundTagged s from end 0xA0) Missing λ last. cond (eqb (last .end) end) (onlyOf s last 0x30) Missing
+unfoldable pub lastOf : Forms → List ℕ → ℕ → ℕ → Found
+lastOf forms s from end =
+    onFound (foundTagged forms s from end 0xA0) Missing λ last. cond (eqb (last .end) end) (onlyOf forms s last 0x30) Missing
 
 unfoldable pub onFront : Front → (Element → Element → Element → Element → Element → Shape) → Shape
 onFront Frontless next = Broken
@@ -56,14 +57,14 @@ onParts Broken next = Broken
 onParts (Parts l) next = next l
 
 -- SEQUENCE of tbs, algorithm, BIT STRING; between the first members and the last an entry list may stand
-unfoldable pub partsOf : List ℕ → Shape
-partsOf s =
-    onEnvelope (envelopeOf s) Broken λ tbs outer.
-    onFront (frontOf s tbs) λ version inner issuer current coming.
-    onName (nameOf s issuer) Broken λ country.
-    let listing = listingOf (coming .end) (foundTagged s (coming .end) (tbs .end) 0x30) in
-    onFound (lastOf s (listing .after) (tbs .end)) Broken λ extensions.
-    onSurvey (surveyOf s (listing .from) (listing .end)) λ count timely calm.
+unfoldable pub partsOf : Forms → List ℕ → Shape
+partsOf forms s =
+    onEnvelope (envelopeOf forms s) Broken λ tbs outer.
+    onFront (frontOf forms s tbs) λ version inner issuer current coming.
+    onName (nameOf forms s issuer) Broken λ country.
+    let listing = listingOf (coming .end) (foundTagged forms s (coming .end) (tbs .end) 0x30) in
+    onFound (lastOf forms s (listing .after) (tbs .end)) Broken λ extensions.
+    onSurvey (surveyOf forms s (listing .from) (listing .end)) λ count timely calm.
     Parts (record {
       version = version;
       inner = inner;
@@ -80,5 +81,5 @@ partsOf s =
     })
 
 -- rule 1: these parts, and extensions of their shape
-unfoldable pub layoutOf : List ℕ → Shape
-layoutOf s = onParts (partsOf s) λ l. cond (extensionsShaped s (l .extensions)) (Parts l) Broken
+unfoldable pub layoutOf : Forms → List ℕ → Shape
+layoutOf forms s = onParts (partsOf forms s) λ l. cond (extensionsShaped forms s (l .extensions)) (Parts l) Broken

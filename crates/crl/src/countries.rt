@@ -5,11 +5,12 @@ use elements::element_tagged;
 use names::Letters;
 use names::country_in;
 ghost use mathlib.Core.Path.{_≡_};
+ghost use Rattle.der.specs.Forms.{paper};
 ghost use Rattle.crl.specs.Country.{issuerOf, countryOf};
 
 // The letters that a CRL which passes reports; of another item whatever stands there, if anything does.
 pub fn country(item: &[u8]) -> Letters
-    ensures { λ r. ⌜ r ≡ countryOf (now (item .entry)) ⌝ }
+    ensures { λ r. ⌜ r ≡ countryOf paper (now (item .entry)) ⌝ }
 {
     let Found::One(outermost) = element_tagged(item, 0, item.len(), 0x30) else {
         return Letters::Unfit;
@@ -25,7 +26,7 @@ pub fn country(item: &[u8]) -> Letters
 
 // The third member of the tbs, after INTEGER and algorithm.
 fn issuer_of(item: &[u8], tbs: Element) -> Found
-    ensures { λ r. ⌜ r ≡ issuerOf (now (item .entry)) tbs ⌝ }
+    ensures { λ r. ⌜ r ≡ issuerOf paper (now (item .entry)) tbs ⌝ }
 {
     let end = tbs.end;
     let Found::One(version) = element_tagged(item, tbs.contents, end, 0x02) else {

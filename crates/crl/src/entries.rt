@@ -10,6 +10,7 @@ use elements::element_tagged;
 use extensions::outline_of;
 use times::time_at;
 ghost use mathlib.Core.Path.{_≡_};
+ghost use Rattle.der.specs.Forms.{paper};
 ghost use Rattle.crl.specs.Entries.{entryOf, surveyOf};
 ghost use Rattle.crl.specs.FastEntries.{Takes};
 
@@ -39,7 +40,7 @@ pub enum Survey {
 
 // Most entries are taken by the fast path, with a UTCTime or a GeneralizedTime.
 pub(crate) fn survey_of(item: &[u8], from: usize, end: usize) -> Survey
-    ensures { λ r. ⌜ r ≡ surveyOf (now (item .entry)) from end ⌝ }
+    ensures { λ r. ⌜ r ≡ surveyOf paper (now (item .entry)) from end ⌝ }
 {
     let mut count = 0;
     let mut timely = true;
@@ -133,7 +134,7 @@ fn any_entry(item: &[u8], at: usize, end: usize) -> Taken
 
 // SEQUENCE {INTEGER, time, optional SEQUENCE of extensions}.
 fn entry_of(item: &[u8], e: Element) -> Entry
-    ensures { λ r. ⌜ r ≡ entryOf (now (item .entry)) e ⌝ }
+    ensures { λ r. ⌜ r ≡ entryOf paper (now (item .entry)) e ⌝ }
 {
     if e.tag != 0x30 {
         return Entry::Misshapen;

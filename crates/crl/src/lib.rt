@@ -28,6 +28,7 @@ use shapes::Shape;
 use shapes::parts_of;
 use times::moment;
 ghost use mathlib.Core.Path.{_≡_};
+ghost use Rattle.der.specs.Forms.{paper};
 ghost use Rattle.crl.specs.Age.{ageOf};
 ghost use Rattle.crl.specs.Answer.{fieldsOf, profileOf, judgedOf};
 pub use countries::country;
@@ -53,7 +54,7 @@ pub enum Judged {
 }
 
 pub fn judge(item: &[u8]) -> Judged
-    ensures { λ r. ⌜ r ≡ judgedOf (now (item .entry)) ⌝ }
+    ensures { λ r. ⌜ r ≡ judgedOf paper (now (item .entry)) ⌝ }
 {
     if let Walked::Refused(refusal) = walk(item) {
         return Judged::Refused(refusal);
@@ -63,7 +64,7 @@ pub fn judge(item: &[u8]) -> Judged
 
 // The rules in order, and the fields where all of them hold.
 fn profile(item: &[u8]) -> Judged
-    ensures { λ r. ⌜ r ≡ profileOf (now (item .entry)) ⌝ }
+    ensures { λ r. ⌜ r ≡ profileOf paper (now (item .entry)) ⌝ }
 {
     let Shape::Parts(l) = parts_of(item) else {
         return Judged::Refused(Refusal::Profile { rule: 1 });

@@ -7,12 +7,13 @@ use elements::element_tagged;
 use elements::holds;
 ghost use mathlib.Core.Path.{_≡_};
 ghost use Prim.Native.Nat.{_<_};
+ghost use Rattle.der.specs.Forms.{paper};
 ghost use Rattle.crl.specs.Listed.{lists, listedOf};
 ghost use Rattle.crl.specs.FastEntries.{Another, NoneBefore};
 
 // Whether an entry between two offsets of a CRL has a serial of those contents octets.
 pub fn listed(item: &[u8], from: usize, end: usize, serial: &[u8]) -> bool
-    ensures { λ r. ⌜ r ≡ listedOf (now (item .entry)) from end (now (serial .entry)) ⌝ }
+    ensures { λ r. ⌜ r ≡ listedOf paper (now (item .entry)) from end (now (serial .entry)) ⌝ }
 {
     let mut at = from;
     loop {
@@ -69,7 +70,7 @@ fn passed_by(item: &[u8], at: usize, end: usize, serial: &[u8]) -> usize
 }
 
 fn has_serial(item: &[u8], serial: &[u8], e: Element) -> bool
-    ensures { λ r. ⌜ r ≡ lists (now (item .entry)) (now (serial .entry)) e ⌝ }
+    ensures { λ r. ⌜ r ≡ lists paper (now (item .entry)) (now (serial .entry)) e ⌝ }
 {
     let Found::One(own) = element_tagged(item, e.contents, e.end, 0x02) else {
         return false;

@@ -2,6 +2,7 @@
 use elements::Element;
 use extensions::one_pass;
 ghost use mathlib.Core.Path.{_≡_};
+ghost use Rattle.der.specs.Forms.{paper};
 ghost use Rattle.crl.specs.Own.{ownOf};
 
 // Whether each is an extension, whether one is critical, whether an OID stands twice, and whether
@@ -15,7 +16,7 @@ pub struct Own {
 }
 
 pub(crate) fn own_of(item: &[u8], extensions: Element) -> Own
-    ensures { λ r. ⌜ r ≡ ownOf (now (item .entry)) extensions ⌝ }
+    ensures { λ r. ⌜ r ≡ ownOf paper (now (item .entry)) extensions ⌝ }
 {
     let seen = one_pass(item, extensions);
     let slots = seen.slots;

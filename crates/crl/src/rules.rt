@@ -11,6 +11,7 @@ use times::time_of;
 ghost use mathlib.Core.Path.{_≡_};
 ghost use mathlib.Core.List.{List};
 ghost use Prim.Native.Nat.{ℕ};
+ghost use Rattle.der.specs.Forms.{paper};
 ghost use Rattle.refusal.specs.Rules.{firstBroken};
 ghost use Rattle.crl.specs.Own.{ownOf};
 ghost use Rattle.crl.specs.Rules.{readingsOf, rule4, rule5, rule6, rule7, rule8, rules2to8};
@@ -40,8 +41,8 @@ pub(crate) fn readings_of(item: &[u8], l: Layout) -> Readings
 
 // The first of rules 2 to 8 that is broken, else 0.
 pub(crate) fn rules_2_to_8(item: &[u8], l: Layout, r: Readings, own: Own) -> u64
-    requires { ⌜ own ≡ ownOf (now item) (l .extensions) ⌝ }
-    ensures { λ rule. ⌜ rule ≡ firstBroken 2 (rules2to8 (now (item .entry)) l r) ⌝ }
+    requires { ⌜ own ≡ ownOf paper (now item) (l .extensions) ⌝ }
+    ensures { λ rule. ⌜ rule ≡ firstBroken 2 (rules2to8 paper (now (item .entry)) l r) ⌝ }
 {
     let version = l.version;
     if !holds(item, version, b"\x01") {
@@ -108,7 +109,7 @@ fn list_filled(l: Layout) -> bool
 
 // 7: no OID twice, authorityKeyIdentifier and cRLNumber there.
 fn extensions_good(own: Own) -> bool
-    ensures { λ r. ⌜ ((s : List ℕ) (l : Layout) → own ≡ ownOf s (l .extensions) → r ≡ rule7 s l) ⌝ }
+    ensures { λ r. ⌜ ((s : List ℕ) (l : Layout) → own ≡ ownOf paper s (l .extensions) → r ≡ rule7 paper s l) ⌝ }
 {
     if own.doubled {
         return false;
@@ -121,7 +122,7 @@ fn extensions_good(own: Own) -> bool
 
 // 8: nothing critical, in entries either.
 fn nothing_critical(l: Layout, own: Own) -> bool
-    ensures { λ r. ⌜ ((s : List ℕ) → own ≡ ownOf s (l .extensions) → r ≡ rule8 s l) ⌝ }
+    ensures { λ r. ⌜ ((s : List ℕ) → own ≡ ownOf paper s (l .extensions) → r ≡ rule8 paper s l) ⌝ }
 {
     if own.marked {
         return false;

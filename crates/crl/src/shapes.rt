@@ -12,6 +12,7 @@ use names::Seen;
 use names::name_of;
 use times::time_at;
 ghost use mathlib.Core.Path.{_≡_};
+ghost use Rattle.der.specs.Forms.{paper};
 ghost use Rattle.crl.specs.Shape.{frontOf, lastOf, listingOf, partsOf};
 
 // Whether the entry list is there, where its contents start and end, and the offset after it.
@@ -57,7 +58,7 @@ pub enum Front {
 
 // All of rule 1 but the shape of the extensions.
 pub(crate) fn parts_of(item: &[u8]) -> Shape
-    ensures { λ r. ⌜ r ≡ partsOf (now (item .entry)) ⌝ }
+    ensures { λ r. ⌜ r ≡ partsOf paper (now (item .entry)) ⌝ }
 {
     let Envelope::Parts { tbs, algorithm } = envelope_of(item) else {
         return Shape::Broken;
@@ -106,7 +107,7 @@ pub(crate) fn parts_of(item: &[u8]) -> Shape
 
 // INTEGER, algorithm, issuer, time, time.
 fn front_of(item: &[u8], tbs: Element) -> Front
-    ensures { λ r. ⌜ r ≡ frontOf (now (item .entry)) tbs ⌝ }
+    ensures { λ r. ⌜ r ≡ frontOf paper (now (item .entry)) tbs ⌝ }
 {
     let end = tbs.end;
     let Found::One(version) = element_tagged(item, tbs.contents, end, 0x02) else {
@@ -135,7 +136,7 @@ fn front_of(item: &[u8], tbs: Element) -> Front
 
 // A0 around one SEQUENCE, which ends the tbs.
 fn last_of(item: &[u8], from: usize, end: usize) -> Found
-    ensures { λ r. ⌜ r ≡ lastOf (now (item .entry)) from end ⌝ }
+    ensures { λ r. ⌜ r ≡ lastOf paper (now (item .entry)) from end ⌝ }
 {
     let Found::One(last) = element_tagged(item, from, end, 0xa0) else {
         return Found::Missing;

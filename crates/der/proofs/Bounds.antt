@@ -18,7 +18,7 @@ use Rattle.der.specs.declared.walking.Walked.{Walked}
 use Rattle.der.specs.declared.walking.Walked.the-variants.{Passed, Refused}
 use Rattle.der.specs.Forms.{Forms}
 use Rattle.octets.specs.Octets.{number}
-use Rattle.der.specs.Heading.{identifierGood, within, smallest, long, headingOf, constructed}
+use Rattle.der.specs.Heading.{identifierGood, within, smallest, long, sized, wideGood, wideHeading, headingOf, constructed}
 use Rattle.der.specs.Contents.{contentsGood}
 use Rattle.der.specs.Walk.{opened, filled, after, elementAt, listAt, whole, walkOf, counted}
 
@@ -35,20 +35,31 @@ within-keeps : (s : List ℕ) (tag skip size : ℕ) → 2 ≤ skip → HeadWithi
 unfolding within
 within-keeps s tag skip size h = cond-by (HeadWithin s) (leb (skip + size) (length s)) (λ e. header-in h (leb-true _ _ e)) (λ e. bad-in)
 
-long-keeps : (forms : Forms) (s : List ℕ) (tag k : ℕ) → HeadWithin s (long forms s tag k)
+long-keeps : (forms : Forms) (s : List ℕ) (tag at k : ℕ) → 2 ≤ at → HeadWithin s (long forms s tag at k)
 unfolding long
-long-keeps forms s tag k =
-    cond-by (HeadWithin s) (leb 1 k && (leb k (forms .lengthOctets) && leb (2 + k) (length s)))
-    (λ e. cond-by (HeadWithin s) (leb (smallest k) (number (take k (drop 2 s)))) (λ e. within-keeps s tag (2 + k) (number (take k (drop 2 s))) (omega arith)) (λ e. bad-in))
+long-keeps forms s tag at k h =
+    cond-by (HeadWithin s) (leb 1 k && (leb k (forms .lengthOctets) && leb (at + k) (length s)))
+    (λ e. cond-by (HeadWithin s) (leb (smallest k) (number (take k (drop at s)))) (λ e. within-keeps s tag (at + k) (number (take k (drop at s))) (omega arith)) (λ e. bad-in))
+    (λ e. bad-in)
+
+sized-keeps : (forms : Forms) (s : List ℕ) (tag at : ℕ) → 1 ≤ at → HeadWithin s (sized forms s tag at)
+unfolding sized
+sized-keeps forms s tag at h =
+    cond-by (HeadWithin s) (leb (length s) at) (λ e. bad-in)
+    (λ e. cond-by (HeadWithin s) (ltb (getD s at 0) 128) (λ e. within-keeps s tag (at + 1) (getD s at 0) (omega arith)) (λ e. long-keeps forms s tag (at + 1) (getD s at 0 - 128) (omega arith)))
+
+wide-keeps : (forms : Forms) (s : List ℕ) → HeadWithin s (wideHeading forms s)
+unfolding wideHeading
+wide-keeps forms s =
+    cond-by (HeadWithin s) (forms .wideTags)
+    (λ e. cond-by (HeadWithin s) (wideGood (getD s 0 0) (getD s 1 0)) (λ e. sized-keeps forms s (getD s 0 0 * 256 + getD s 1 0) 2 (lit≤ tt)) (λ e. bad-in))
     (λ e. bad-in)
 
 heading-keeps : (forms : Forms) (s : List ℕ) → HeadWithin s (headingOf forms s)
 unfolding headingOf
 heading-keeps forms s =
     cond-by (HeadWithin s) (ltb (length s) 2) (λ e. bad-in)
-    (λ e. cond-by (HeadWithin s) (identifierGood (getD s 0 0))
-    (λ e. cond-by (HeadWithin s) (ltb (getD s 1 0) 128) (λ e. within-keeps s (getD s 0 0) 2 (getD s 1 0) (lit≤ tt)) (λ e. long-keeps forms s (getD s 0 0) (getD s 1 0 - 128)))
-    (λ e. bad-in))
+    (λ e. cond-by (HeadWithin s) (identifierGood (getD s 0 0)) (λ e. sized-keeps forms s (getD s 0 0) 1 (lit≤ tt)) (λ e. wide-keeps forms s))
 
 pub heading-within :
     (forms : Forms) (s : List ℕ) (tag skip size : ℕ) → headingOf forms s ≡ Header tag skip size → (2 ≤ skip) × (skip + size ≤ length s)
@@ -84,14 +95,14 @@ element-keeps forms fuel below s base depth count = go (headingOf forms s) (head
     go : (h : Heading) → HeadWithin s h → ReadWithin forms s (opened h (Fault (Der base)) λ tag skip size.
         cond (ltb (forms .depth) depth) (Fault (Limit base))
         (cond (leb (forms .elements) count) (Fault (Limit base))
-        (cond (constructed tag)
+        (cond (constructed (getD s 0 0))
         (filled (skip + size) (listAt fuel forms (take size (drop skip s)) (base + skip) (depth + 1) (count + 1)))
         (cond (contentsGood tag (take size (drop skip s))) (Past (skip + size) (count + 1)) (Fault (Der base))))))
     go Bad h = fault-in
     go (Header tag skip size) (header-in h g) =
         cond-by (ReadWithin forms s) (ltb (forms .depth) depth) (λ e. fault-in)
         (λ e. cond-by (ReadWithin forms s) (leb (forms .elements) count) (λ e. fault-in)
-        (λ e. let few : count < forms .elements = leb-false _ _ e in cond-by (ReadWithin forms s) (constructed tag)
+        (λ e. let few : count < forms .elements = leb-false _ _ e in cond-by (ReadWithin forms s) (constructed (getD s 0 0))
         (λ e. filled-keeps forms s (skip + size) (listAt fuel forms (take size (drop skip s)) (base + skip) (depth + 1) (count + 1)) (omega arith) g (below .1 (take size (drop skip s)) (base + skip) (depth + 1) (count + 1) (omega arith)))
         (λ e. cond-by (ReadWithin forms s) (contentsGood tag (take size (drop skip s))) (λ e. past-in {m = count + 1} (omega arith) g (omega arith)) (λ e. fault-in))))
 

@@ -4,7 +4,7 @@ use mathlib.Core.Bool.{Bool, true, false}
 use mathlib.Core.List.{List}
 use Prim.Native.Nat.{ℕ, zero, suc, _+_, _-_, _*_, _≤_, _<_}
 use native.Mathlib.Omega.{arith}
-use lib.ListN.{length, take, drop, length-take, length-drop}
+use lib.ListN.{length, getD, take, drop, length-take, length-drop}
 use lib.Seq.{take-all, drop-drop}
 use native.Mathlib.Nat.{add-zero, add-assoc}
 use Rattle.refusal.specs.declared.Refusal.{Refusal}
@@ -47,13 +47,13 @@ module _ (forms : Forms) (s : List ℕ) (base depth count : ℕ) where
       many-is h = spend _ (2 * length s) λ fuel _. sym (element-many forms fuel s base depth count tag skip size e shallow h)
 
       module _ (few : count < forms .elements) where
-        pub leaf-is : constructed tag ≡ false → contentsGood tag (take (skip + size - skip) (drop skip s)) ≡ true → ElementIs forms s base depth count (Past (skip + size) (count + 1))
+        pub leaf-is : constructed (getD s 0 0) ≡ false → contentsGood tag (take (skip + size - skip) (drop skip s)) ≡ true → ElementIs forms s base depth count (Past (skip + size) (count + 1))
         leaf-is h g = spend _ (2 * length s) λ fuel _. sym (element-leaf forms fuel s base depth count tag skip size e shallow few h (subst (λ n. contentsGood tag (take n (drop skip s)) ≡ true) (back skip size) g))
 
-        pub spoilt-is : constructed tag ≡ false → contentsGood tag (take (skip + size - skip) (drop skip s)) ≡ false → ElementIs forms s base depth count (Fault (Der base))
+        pub spoilt-is : constructed (getD s 0 0) ≡ false → contentsGood tag (take (skip + size - skip) (drop skip s)) ≡ false → ElementIs forms s base depth count (Fault (Der base))
         spoilt-is h g = spend _ (2 * length s) λ fuel _. sym (element-spoilt forms fuel s base depth count tag skip size e shallow few h (subst (λ n. contentsGood tag (take n (drop skip s)) ≡ false) (back skip size) g))
 
-        pub node-is : {w : Walked} → constructed tag ≡ true → ListIs forms (take (skip + size - skip) (drop skip s)) (base + skip) (depth + 1) (count + 1) w → ElementIs forms s base depth count (filled (skip + size) w)
+        pub node-is : {w : Walked} → constructed (getD s 0 0) ≡ true → ListIs forms (take (skip + size - skip) (drop skip s)) (base + skip) (depth + 1) (count + 1) w → ElementIs forms s base depth count (filled (skip + size) w)
         node-is {w} h f = spend _ (2 * length s) λ fuel enough. ap (filled (skip + size)) (members fuel enough) ∙ sym (element-node forms fuel s base depth count tag skip size e shallow few h)
           where
             same : ListIs forms (take size (drop skip s)) (base + skip) (depth + 1) (count + 1) w

@@ -5,7 +5,7 @@ use mathlib.Core.List.{List}
 use mathlib.Core.Path.{_≡_, refl, subst}
 use native.Mathlib.Omega.{arith}
 use lib.Dec.{leb, ltb, eqb}
-use lib.ListN.{length, take, drop}
+use lib.ListN.{length, getD, take, drop}
 use Rattle.refusal.specs.declared.Refusal.{Refusal}
 use Rattle.refusal.specs.declared.Refusal.the-variants.{Der, Limit, Profile}
 use Rattle.der.specs.declared.heading.Heading.{Heading}
@@ -51,14 +51,14 @@ module _ (forms : Forms) where
       go : (h : Heading) → ReadFaulty (opened h (Fault (Der base)) λ tag skip size.
           cond (ltb (forms .depth) depth) (Fault (Limit base))
           (cond (leb (forms .elements) count) (Fault (Limit base))
-          (cond (constructed tag)
+          (cond (constructed (getD s 0 0))
           (filled (skip + size) (listAt fuel forms (take size (drop skip s)) (base + skip) (depth + 1) (count + 1)))
           (cond (contentsGood tag (take size (drop skip s))) (Past (skip + size) (count + 1)) (Fault (Der base))))))
       go Bad = fault-by by-der
       go (Header tag skip size) =
           cond-by ReadFaulty (ltb (forms .depth) depth) (λ e. fault-by by-limit)
           (λ e. cond-by ReadFaulty (leb (forms .elements) count) (λ e. fault-by by-limit)
-          (λ e. cond-by ReadFaulty (constructed tag)
+          (λ e. cond-by ReadFaulty (constructed (getD s 0 0))
           (λ e. filled-faulty (skip + size) (listAt fuel forms (take size (drop skip s)) (base + skip) (depth + 1) (count + 1)) (below .1 (take size (drop skip s)) (base + skip) (depth + 1) (count + 1)))
           (λ e. cond-by ReadFaulty (contentsGood tag (take size (drop skip s))) (λ e. past-no) (λ e. fault-by by-der))))
 

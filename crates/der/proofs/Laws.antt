@@ -14,7 +14,7 @@ use Rattle.der.specs.declared.walking.Read.the-variants.{Past, Fault}
 use Rattle.der.specs.declared.walking.Walked.{Walked}
 use Rattle.der.specs.declared.walking.Walked.the-variants.{Passed, Refused}
 use Rattle.der.specs.Forms.{Forms}
-use Rattle.der.specs.Heading.{identifierGood, within, headingOf, constructed}
+use Rattle.der.specs.Heading.{identifierGood, within, sized, headingOf, constructed}
 use Rattle.der.specs.Contents.{contentsGood}
 use Rattle.der.specs.Walk.{opened, filled, after, elementAt, listAt, whole, walkOf}
 
@@ -30,8 +30,8 @@ and-right false b e = let z : _≡_ {A = ℕ} 0 1 = cc in absurd (omega arith)
 pub short-header :
     (forms : Forms) (s : List ℕ) → 2 ≤ length s → identifierGood (getD s 0 0) ≡ true → getD s 1 0 < 128 → 2 + getD s 1 0 ≤ length s
     → headingOf forms s ≡ Header (getD s 0 0) 2 (getD s 1 0)
-unfolding headingOf within
-short-header forms s two good short fits = simp (le-ltb _ _ two, good, lt-ltb _ _ short, le-leb _ _ fits)
+unfolding headingOf sized within
+short-header forms s two good short fits = simp (le-ltb _ _ two, good, lt-leb _ 1 two, lt-ltb _ _ short, le-leb _ _ fits)
 
 -- a primitive that is not judged
 pub unjudged : (tag : ℕ) (c : List ℕ) → 6 < tag → contentsGood tag c ≡ true
@@ -61,17 +61,17 @@ module _ (forms : Forms) (fuel : ℕ) (s : List ℕ) (base depth count : ℕ) wh
       element-many h = simp (e, le-ltb _ _ shallow, le-leb _ _ h)
 
       module _ (few : count < forms .elements) where
-        pub element-node : constructed tag ≡ true
+        pub element-node : constructed (getD s 0 0) ≡ true
             → elementAt (suc fuel) forms s base depth count ≡ filled (skip + size) (listAt fuel forms (take size (drop skip s)) (base + skip) (depth + 1) (count + 1))
         unfolding elementAt opened
         element-node h = simp (e, le-ltb _ _ shallow, lt-leb _ _ few, h)
 
-        pub element-leaf : constructed tag ≡ false → contentsGood tag (take size (drop skip s)) ≡ true
+        pub element-leaf : constructed (getD s 0 0) ≡ false → contentsGood tag (take size (drop skip s)) ≡ true
             → elementAt (suc fuel) forms s base depth count ≡ Past (skip + size) (count + 1)
         unfolding elementAt opened
         element-leaf h g = simp (e, le-ltb _ _ shallow, lt-leb _ _ few, h, g)
 
-        pub element-spoilt : constructed tag ≡ false → contentsGood tag (take size (drop skip s)) ≡ false
+        pub element-spoilt : constructed (getD s 0 0) ≡ false → contentsGood tag (take size (drop skip s)) ≡ false
             → elementAt (suc fuel) forms s base depth count ≡ Fault (Der base)
         unfolding elementAt opened
         element-spoilt h g = simp (e, le-ltb _ _ shallow, lt-leb _ _ few, h, g)

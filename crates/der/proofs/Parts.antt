@@ -7,22 +7,22 @@ use native.Mathlib.Omega.{arith}
 use lib.ListN.{length, take, drop, length-take, length-drop}
 use lib.Seq.{take-take, drop-drop}
 use Rattle.der.specs.declared.walking.Read.the-variants.{Past}
-use Rattle.der.specs.Forms.{paper}
+use Rattle.der.specs.Forms.{Forms}
 use Rattle.der.specs.Fast.{stretch, Fills}
 use Rattle.der.proofs.Laws.{list-done, list-more}
 use Rattle.der.proofs.Enough.{ElementIs}
 
-pub passes-none : (s : List ℕ) (depth count : ℕ) → length s ≡ 0 → Fills s depth count count
-passes-none s depth count h base zero enough = absurd (omega arith)
-passes-none s depth count h base (suc fuel) enough = sym (list-done paper fuel s base depth count h)
+pub passes-none : (forms : Forms) (s : List ℕ) (depth count : ℕ) → length s ≡ 0 → Fills forms s depth count count
+passes-none forms s depth count h base zero enough = absurd (omega arith)
+passes-none forms s depth count h base (suc fuel) enough = sym (list-done forms fuel s base depth count h)
 
 pub passes-more :
-    (s : List ℕ) (depth count : ℕ) {used m n : ℕ} → ((base : ℕ) → ElementIs paper s base depth count (Past used m)) → 0 < length s → 2 ≤ used
-    → used ≤ length s → Fills (drop used s) depth m n → Fills s depth count n
-passes-more s depth count f some wide within g base zero enough = absurd (omega arith)
-passes-more s depth count {used} {m} {n} f some wide within g base (suc fuel) enough =
+    (forms : Forms) (s : List ℕ) (depth count : ℕ) {used m n : ℕ} → ((base : ℕ) → ElementIs forms s base depth count (Past used m)) → 0 < length s → 2 ≤ used
+    → used ≤ length s → Fills forms (drop used s) depth m n → Fills forms s depth count n
+passes-more forms s depth count f some wide within g base zero enough = absurd (omega arith)
+passes-more forms s depth count {used} {m} {n} f some wide within g base (suc fuel) enough =
     g (base + used) fuel (omega (arith, length-drop used s))
-    ∙ sym (list-more paper fuel s base depth count (λ e. omega arith) used m (sym (f base fuel (omega arith))))
+    ∙ sym (list-more forms fuel s base depth count (λ e. omega arith) used m (sym (f base fuel (omega arith))))
 
 -- a stretch without its first octets
 drop-taken : (k n : ℕ) (l : List ℕ) → drop k (take n l) ≡ take (n - k) (drop k l)

@@ -7,7 +7,7 @@ use mathlib.Core.Path.{_≡_}
 use lib.ListN.{length, getD, take, drop}
 use Rattle.der.specs.declared.walking.Read.the-variants.{Past}
 use Rattle.der.specs.declared.walking.Walked.the-variants.{Passed}
-use Rattle.der.specs.Forms.{paper}
+use Rattle.der.specs.Forms.{Forms}
 use Rattle.der.specs.Heading.{identifierGood, constructed}
 use Rattle.der.specs.Contents.{contentsGood}
 use Rattle.der.specs.Walk.{elementAt, listAt}
@@ -17,12 +17,12 @@ abbrev pub stretch : List ℕ → ℕ → ℕ → List ℕ
 stretch s i e = take (e - i) (drop i s)
 
 -- the element at the front of s is read, and takes `used` octets
-abbrev pub Reads : List ℕ → ℕ → ℕ → ℕ → ℕ → Type 0
-Reads s depth count used m = (base fuel : ℕ) → 2 * length s + 1 ≤ fuel → Past used m ≡ elementAt fuel paper s base depth count
+abbrev pub Reads : Forms → List ℕ → ℕ → ℕ → ℕ → ℕ → Type 0
+Reads forms s depth count used m = (base fuel : ℕ) → 2 * length s + 1 ≤ fuel → Past used m ≡ elementAt fuel forms s base depth count
 
 -- the elements that fill s are read
-abbrev pub Fills : List ℕ → ℕ → ℕ → ℕ → Type 0
-Fills s depth count m = (base fuel : ℕ) → 2 * length s + 2 ≤ fuel → Passed m ≡ listAt fuel paper s base depth count
+abbrev pub Fills : Forms → List ℕ → ℕ → ℕ → ℕ → Type 0
+Fills forms s depth count m = (base fuel : ℕ) → 2 * length s + 2 ≤ fuel → Passed m ≡ listAt fuel forms s base depth count
 
 -- the header of a SEQUENCE or SET that ends at e
 pub record Last (s : List ℕ) (i e : ℕ) : Type 0 where

@@ -1,5 +1,6 @@
 -- The limits and forms that a walk goes by, and those of the rules paper.
 use Prim.Native.Nat.{ℕ}
+use mathlib.Core.Bool.{Bool, false}
 
 pub record Forms : Type 0 where
   -- the octets of an item
@@ -10,6 +11,8 @@ pub record Forms : Type 0 where
   pub elements : ℕ
   -- the octets that a length in the long form may have after its first
   pub lengthOctets : ℕ
+  -- whether a tag may have two octets
+  pub wideTags : Bool
 
 abbrev pub paper : Forms
-paper = record { itemSize = 16384; depth = 16; elements = 4096; lengthOctets = 2 }
+paper = record { itemSize = 16384; depth = 16; elements = 4096; lengthOctets = 2; wideTags = false }

@@ -1,4 +1,5 @@
 pub mod Forms
+pub mod Given
 pub mod Heading
 pub mod Contents
 pub mod Walk

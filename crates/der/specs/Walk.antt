@@ -3,7 +3,7 @@ use Prim.Native.Nat.{ℕ, zero, suc, _+_, _*_}
 use mathlib.Core.Bool.{cond}
 use mathlib.Core.List.{List}
 use lib.Dec.{leb, ltb, eqb}
-use lib.ListN.{length, take, drop}
+use lib.ListN.{length, getD, take, drop}
 use Rattle.refusal.specs.declared.Refusal.{Refusal}
 use Rattle.refusal.specs.declared.Refusal.the-variants.{Der, Limit}
 use Rattle.der.specs.declared.heading.Heading.{Heading}
@@ -41,7 +41,7 @@ unfoldable mutual
       opened (headingOf forms s) (Fault (Der base)) λ tag skip size.
       cond (ltb (forms .depth) depth) (Fault (Limit base))
       (cond (leb (forms .elements) count) (Fault (Limit base))
-      (cond (constructed tag)
+      (cond (constructed (getD s 0 0))
       (filled (skip + size) (listAt fuel forms (take size (drop skip s)) (base + skip) (depth + 1) (count + 1)))
       (cond (contentsGood tag (take size (drop skip s))) (Past (skip + size) (count + 1)) (Fault (Der base)))))
 

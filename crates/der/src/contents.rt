@@ -3,7 +3,7 @@ ghost use mathlib.Core.Bool.{true};
 ghost use mathlib.Core.Path.{_≡_};
 ghost use Rattle.der.specs.Contents.{booleanGood, integerGood, bitStringGood, oidGood, contentsGood};
 
-pub(crate) fn contents_good(tag: u8, c: &[u8]) -> bool
+pub(crate) fn contents_good(tag: usize, c: &[u8]) -> bool
     ensures { λ r. ⌜ r ≡ contentsGood tag (now (c .entry)) ⌝ }
 {
     match tag {

@@ -6,16 +6,17 @@ use crate::contents::integer_good;
 use crate::contents::oid_good;
 ghost use mathlib.Core.Path.{_≡_};
 ghost use mathlib.Core.Bool.{true, false};
-ghost use Prim.Native.Nat.{ℕ, _+_, _-_, _≤_, _<_};
+ghost use Prim.Native.Nat.{ℕ, _+_, _-_, _^_, _≤_, _<_};
 ghost use lib.ListN.{length, getD};
+ghost use Rattle.der.specs.Forms.{Forms};
 ghost use Rattle.der.specs.Heading.{constructed};
 ghost use Rattle.der.specs.Fast.{stretch, Reads, Fills, Last, Unjudged, Leaf};
 
 // The count of elements when the one at `at` has been read, if nothing is wrong with it and it is a primitive with a header of two
 // octets, or holds nothing but such; else 0.
-pub(crate) fn fast_path(s: &[u8], at: usize, left: usize, count: usize) -> usize
-    requires { ⌜ (at ≤ length (now s)) × (length (now s) ≤ 16384) × (left ≤ 16) × (count ≤ 4096) ⌝ }
-    ensures { λ r. ⌜ (0 < r → (at + 2 ≤ length (now (s .entry))) × Reads (stretch (now (s .entry)) at (length (now (s .entry)))) (17 - left) count (2 + getD (now (s .entry)) (at + 1) 0) r) ⌝ }
+pub(crate) fn fast_path(s: &[u8], at: usize, left: usize, most: usize, count: usize) -> usize
+    requires { ⌜ (at ≤ length (now s)) × (length (now s) < 2 ^ 32) × (count < 2 ^ 32) ⌝ }
+    ensures { λ r. ⌜ (0 < r → (at + 2 ≤ length (now (s .entry))) × ((forms : Forms) → forms .elements ≡ most → left ≤ forms .depth → Reads forms (stretch (now (s .entry)) at (length (now (s .entry)))) (forms .depth + 1 - left) count (2 + getD (now (s .entry)) (at + 1) 0) r)) ⌝ }
 {
     let end = s.len();
     if end < at + 2 {
@@ -25,7 +26,7 @@ pub(crate) fn fast_path(s: &[u8], at: usize, left: usize, count: usize) -> usize
         if left < 2 {
             return 0;
         }
-        if 4032 <= count {
+        if most < count + 64 {
             return 0;
         }
         return flat(s, at, end, left, count);
@@ -33,7 +34,7 @@ pub(crate) fn fast_path(s: &[u8], at: usize, left: usize, count: usize) -> usize
     if left == 0 {
         return 0;
     }
-    if 4096 <= count {
+    if most <= count {
         return 0;
     }
     if primitive(s, at, end) {
@@ -44,8 +45,8 @@ pub(crate) fn fast_path(s: &[u8], at: usize, left: usize, count: usize) -> usize
 
 // Whether the element at `at`, a primitive, has a header of two octets and nothing is wrong with it.
 fn primitive(s: &[u8], at: usize, end: usize) -> bool
-    requires { ⌜ (at + 2 ≤ end) × (end ≤ length (now s)) × (length (now s) ≤ 16384) × (constructed (getD (now s) at 0) ≡ false) ⌝ }
-    ensures { λ r. ⌜ (r ≡ true → (depth count : ℕ) → depth ≤ 16 → count < 4096 → Reads (stretch (now (s .entry)) at end) depth count (2 + getD (now (s .entry)) (at + 1) 0) (count + 1)) ⌝ }
+    requires { ⌜ (at + 2 ≤ end) × (end ≤ length (now s)) × (length (now s) < 2 ^ 32) × (constructed (getD (now s) at 0) ≡ false) ⌝ }
+    ensures { λ r. ⌜ (r ≡ true → (forms : Forms) (depth count : ℕ) → depth ≤ forms .depth → count < forms .elements → Reads forms (stretch (now (s .entry)) at end) depth count (2 + getD (now (s .entry)) (at + 1) 0) (count + 1)) ⌝ }
 {
     let size = s[at + 1] as usize;
     if 128 <= size {
@@ -91,8 +92,8 @@ fn judged(tag: u8, c: &[u8]) -> bool
 // The count of elements when the one at `i` has been read, if it is a SEQUENCE or SET whose members are leaves, but that the last
 // one may again be such an element; else 0.
 fn flat(s: &[u8], i: usize, end: usize, left: usize, count: usize) -> usize
-    requires { ⌜ (i + 2 ≤ end) × (end ≤ length (now s)) × (length (now s) ≤ 16384) × (2 ≤ left) × (left ≤ 16) × (count < 4032) ⌝ }
-    ensures { λ r. ⌜ (0 < r → Reads (stretch (now (s .entry)) i end) (17 - left) count (2 + getD (now (s .entry)) (i + 1) 0) r) ⌝ }
+    requires { ⌜ (i + 2 ≤ end) × (end ≤ length (now s)) × (length (now s) < 2 ^ 32) × (2 ≤ left) × (count < 2 ^ 32) ⌝ }
+    ensures { λ r. ⌜ (0 < r → (forms : Forms) → count + 64 ≤ forms .elements → left ≤ forms .depth → Reads forms (stretch (now (s .entry)) i end) (forms .depth + 1 - left) count (2 + getD (now (s .entry)) (i + 1) 0) r) ⌝ }
 {
     if s[i] / 2 != 24 {
         return 0;
@@ -112,8 +113,8 @@ fn flat(s: &[u8], i: usize, end: usize, left: usize, count: usize) -> usize
 // The count of elements when those from `from` to `end` have been read, if each is a leaf, but the last; else 0. A SEQUENCE or SET that
 // ends where the list ends is read as the rest of the list, one deeper.
 fn leaves(s: &[u8], from: usize, end: usize, left: usize, count: usize) -> usize
-    requires { ⌜ (from ≤ end) × (end ≤ from + 127) × (end ≤ length (now s)) × (length (now s) ≤ 16384) × (1 ≤ left) × (left ≤ 16) × (count ≤ 4032) ⌝ }
-    ensures { λ r. ⌜ (0 < r → Fills (stretch (now (s .entry)) from end) (17 - left) count r) ⌝ }
+    requires { ⌜ (from ≤ end) × (end ≤ from + 127) × (end ≤ length (now s)) × (length (now s) < 2 ^ 32) × (1 ≤ left) × (count ≤ 2 ^ 32) ⌝ }
+    ensures { λ r. ⌜ (0 < r → (forms : Forms) → count + 63 ≤ forms .elements → left ≤ forms .depth → Fills forms (stretch (now (s .entry)) from end) (forms .depth + 1 - left) count r) ⌝ }
 {
     let mut i = from;
     let mut read = count;
@@ -146,7 +147,7 @@ fn leaves(s: &[u8], from: usize, end: usize, left: usize, count: usize) -> usize
 
 // Whether the element at `i` is a SEQUENCE or SET that ends at `end`.
 fn last(s: &[u8], i: usize, end: usize) -> bool
-    requires { ⌜ (i + 2 ≤ end) × (end ≤ i + 127) × (end ≤ length (now s)) × (length (now s) ≤ 16384) ⌝ }
+    requires { ⌜ (i + 2 ≤ end) × (end ≤ i + 127) × (end ≤ length (now s)) × (length (now s) < 2 ^ 32) ⌝ }
     ensures { λ r. ⌜ (r ≡ true → Last (now (s .entry)) i end) ⌝ }
 {
     if s[i] / 2 != 24 {
@@ -158,8 +159,8 @@ fn last(s: &[u8], i: usize, end: usize) -> bool
 // The end of the element at `i` if it is a primitive of the universal class and nothing is wrong with it, but that it may
 // end beyond `end`; else 0.
 fn leaf(s: &[u8], i: usize, end: usize) -> usize
-    requires { ⌜ (i + 2 ≤ end) × (end ≤ i + 127) × (end ≤ length (now s)) × (length (now s) ≤ 16384) ⌝ }
-    ensures { λ r. ⌜ (r ≤ i + 257) × (0 < r → (i + 2 ≤ r) × (r ≤ end → (depth count : ℕ) → depth ≤ 16 → count < 4096 → Reads (stretch (now (s .entry)) i end) depth count (r - i) (count + 1))) ⌝ }
+    requires { ⌜ (i + 2 ≤ end) × (end ≤ i + 127) × (end ≤ length (now s)) × (length (now s) < 2 ^ 32) ⌝ }
+    ensures { λ r. ⌜ (r ≤ i + 257) × (0 < r → (i + 2 ≤ r) × (r ≤ end → (forms : Forms) (depth count : ℕ) → depth ≤ forms .depth → count < forms .elements → Reads forms (stretch (now (s .entry)) i end) depth count (r - i) (count + 1))) ⌝ }
 {
     let size = s[i + 1] as usize;
     let from = i + 2;

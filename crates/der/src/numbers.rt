@@ -22,7 +22,7 @@ pub fn integer(item: &[u8]) -> Number
     if let Walked::Refused(refusal) = walk(item) {
         return Number::Refused(refusal);
     }
-    let Heading::Header { tag, skip, size } = header(item) else {
+    let Heading::Header { tag, skip, size } = header(2, false, item) else {
         return Number::Refused(Refusal::Argument);
     };
     if tag != 2 {

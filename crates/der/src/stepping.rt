@@ -8,7 +8,7 @@ ghost use Rattle.der.specs.Member.{memberOf};
 // An element by its identifier, the offset of its contents and the offset after it.
 pub enum Step {
     At {
-        tag: u8,
+        tag: usize,
         contents: usize,
         end: usize,
     },
@@ -25,7 +25,7 @@ pub fn member(item: &[u8], from: usize, end: usize) -> Step
     if item.len() < end {
         return Step::Nothing;
     }
-    match header(&item[from..end]) {
+    match header(2, false, &item[from..end]) {
         Heading::Header { tag, skip, size } => {
             let contents = from + skip;
             let after = contents + size;

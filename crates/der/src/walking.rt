@@ -5,9 +5,10 @@ use crate::heading::Heading;
 use crate::heading::header;
 use refusal::Refusal;
 ghost use mathlib.Core.Path.{_≡_};
-ghost use Prim.Native.Nat.{ℕ, _+_, _-_, _*_, _≤_};
+ghost use Prim.Native.Nat.{ℕ, _+_, _-_, _*_, _^_, _≤_, _<_};
 ghost use lib.ListN.{length};
-ghost use Rattle.der.specs.Forms.{paper};
+ghost use Rattle.der.specs.Forms.{Forms, paper};
+ghost use Rattle.der.specs.Given.{Given};
 ghost use Rattle.der.specs.Walk.{elementAt, listAt, walkOf, counted};
 
 // The count of elements read, at most 4,096, or the first fault.
@@ -29,7 +30,7 @@ pub fn walk(item: &[u8]) -> Walked
     if 16384 < item.len() {
         return Walked::Refused(Refusal::Limit { at: 0 });
     }
-    match element(item, 0, 16, 0) {
+    match element(2, false, 4096, item, 0, 16, 0) {
         Read::Fault(refusal) => Walked::Refused(refusal),
         Read::Past { used, count } => {
             if used == item.len() {
@@ -42,23 +43,40 @@ pub fn walk(item: &[u8]) -> Walked
 }
 
 // The element at the front of `s`, whose first octet is number `base` of the item. `left` levels of depth are left: at 0 no element
-// may stand here.
-fn element(s: &[u8], base: usize, left: usize, count: usize) -> Read
-    requires { ⌜ (base + length (now s) ≤ 16384) × (left ≤ 16) × (count ≤ 4096) ⌝ }
-    ensures { λ r. ⌜ ((fuel : ℕ) → 2 * length (now (s .entry)) + 1 ≤ fuel → r ≡ elementAt fuel paper (now (s .entry)) base (17 - left) count) ⌝ }
+// may stand here. `digits`, `wide` and `most`, the limit of elements, are the forms that the walk goes by, numbers and not a struct: the
+// compiler folds them where they are the same at every outer call.
+fn element(
+    digits: usize,
+    wide: bool,
+    most: usize,
+    s: &[u8],
+    base: usize,
+    left: usize,
+    count: usize,
+) -> Read
+    requires { ⌜ (digits ≤ 3) × (most < 2 ^ 32) × (base + length (now s) < 2 ^ 32) × (count ≤ most) ⌝ }
+    ensures { λ r. ⌜ ((forms : Forms) → Given digits wide most left forms → (fuel : ℕ) → 2 * length (now (s .entry)) + 1 ≤ fuel → r ≡ elementAt fuel forms (now (s .entry)) base (forms .depth + 1 - left) count) ⌝ }
 {
-    let Heading::Header { tag, skip, size } = header(s) else {
+    let Heading::Header { tag, skip, size } = header(digits, wide, s) else {
         return Read::Fault(Refusal::Der { at: base });
     };
     if left == 0 {
         return Read::Fault(Refusal::Limit { at: base });
     }
-    if 4096 <= count {
+    if most <= count {
         return Read::Fault(Refusal::Limit { at: base });
     }
     let end = skip + size;
-    if tag / 32 % 2 == 1 {
-        return match list(&s[skip..end], base + skip, left - 1, count + 1) {
+    if s[0] / 32 % 2 == 1 {
+        return match list(
+            digits,
+            wide,
+            most,
+            &s[skip..end],
+            base + skip,
+            left - 1,
+            count + 1,
+        ) {
             Walked::Refused(refusal) => Read::Fault(refusal),
             Walked::Passed { count } => Read::Past { used: end, count },
         };
@@ -73,20 +91,28 @@ fn element(s: &[u8], base: usize, left: usize, count: usize) -> Read
 }
 
 // The elements that fill `s`.
-fn list(s: &[u8], base: usize, left: usize, count: usize) -> Walked
-    requires { ⌜ (base + length (now s) ≤ 16384) × (left ≤ 16) × (count ≤ 4096) ⌝ }
-    ensures { λ r. ⌜ ((fuel : ℕ) → 2 * length (now (s .entry)) + 2 ≤ fuel → r ≡ listAt fuel paper (now (s .entry)) base (17 - left) count) ⌝ }
+fn list(
+    digits: usize,
+    wide: bool,
+    most: usize,
+    s: &[u8],
+    base: usize,
+    left: usize,
+    count: usize,
+) -> Walked
+    requires { ⌜ (digits ≤ 3) × (most < 2 ^ 32) × (base + length (now s) < 2 ^ 32) × (count ≤ most) ⌝ }
+    ensures { λ r. ⌜ ((forms : Forms) → Given digits wide most left forms → (fuel : ℕ) → 2 * length (now (s .entry)) + 2 ≤ fuel → r ≡ listAt fuel forms (now (s .entry)) base (forms .depth + 1 - left) count) ⌝ }
 {
     let mut at = 0;
     let mut read = count;
     while at < s.len() {
-        let more = fast_path(s, at, left, read);
+        let more = fast_path(s, at, left, most, read);
         if 0 < more {
             at = at + 2 + s[at + 1] as usize;
             read = more;
             continue;
         }
-        match element(&s[at..], base + at, left, read) {
+        match element(digits, wide, most, &s[at..], base + at, left, read) {
             Read::Fault(refusal) => return Walked::Refused(refusal),
             Read::Past { used, count } => {
                 at += used;

@@ -53,7 +53,7 @@ data FoundWithin (s : List ℕ) (from end : ℕ) : Found → Type 0 where
   one-in : {e : Element} → Within s from end e → FoundWithin s from end (One e)
   missing-in : FoundWithin s from end Missing
 
-found-keeps : (s : List ℕ) (from end : ℕ) → FoundWithin s from end (foundAt s from end)
+found-keeps : (s : List ℕ) (from end : ℕ) → FoundWithin s from end (foundAt paper s from end)
 unfolding foundAt stepped memberOf placed
 found-keeps s from end =
     cond-by Keeps (leb from end)
@@ -73,39 +73,39 @@ found-keeps s from end =
         let inside : (2 ≤ skip) × (skip + size ≤ length part) = heading-within paper part tag skip size e in
         one-in {e = record { tag = tag; at = from; contents = from + skip; end = from + skip + size }} (refl, omega arith, omega arith, g, omega arith, omega arith)
 
-pub found-within : (s : List ℕ) (from end : ℕ) {e : Element} → foundAt s from end ≡ One e → Within s from end e
+pub found-within : (s : List ℕ) (from end : ℕ) {e : Element} → foundAt paper s from end ≡ One e → Within s from end e
 found-within s from end {e} h = go (subst (FoundWithin s from end) h (found-keeps s from end))
   where
     go : FoundWithin s from end (One e) → Within s from end e
     go (one-in w) = w
 
 -- fuel beyond the octets that are left changes nothing
-spare : (fuel : ℕ) (s : List ℕ) (from end : ℕ) → end - from ≤ fuel → membersIn (suc fuel) s from end ≡ membersIn fuel s from end
+spare : (fuel : ℕ) (s : List ℕ) (from end : ℕ) → end - from ≤ fuel → membersIn paper (suc fuel) s from end ≡ membersIn paper fuel s from end
 unfolding membersIn onFound
-spare zero s from end h = go (foundAt s from end) refl
+spare zero s from end h = go (foundAt paper s from end) refl
   where
-    go : (f : Found) → foundAt s from end ≡ f → onFound f [] (λ e. e ∷ []) ≡ []
+    go : (f : Found) → foundAt paper s from end ≡ f → onFound f [] (λ e. e ∷ []) ≡ []
     go Missing g = refl
     go (One e) g = absurd (omega (arith, found-within s from end g))
-spare (suc fuel) s from end h = go (λ at. spare fuel s at end) (foundAt s from end) refl
+spare (suc fuel) s from end h = go (λ at. spare fuel s at end) (foundAt paper s from end) refl
   where
-    go : ((at : ℕ) → end - at ≤ fuel → membersIn (suc fuel) s at end ≡ membersIn fuel s at end) → (f : Found) → foundAt s from end ≡ f → onFound f [] (λ e. e ∷ membersIn (suc fuel) s (e .end) end) ≡ onFound f [] (λ e. e ∷ membersIn fuel s (e .end) end)
+    go : ((at : ℕ) → end - at ≤ fuel → membersIn paper (suc fuel) s at end ≡ membersIn paper fuel s at end) → (f : Found) → foundAt paper s from end ≡ f → onFound f [] (λ e. e ∷ membersIn paper (suc fuel) s (e .end) end) ≡ onFound f [] (λ e. e ∷ membersIn paper fuel s (e .end) end)
     go less Missing g = refl
     go less (One e) g = ap (_∷_ e) (less (e .end) (omega (arith, found-within s from end g)))
 
 module _ (s : List ℕ) (from end : ℕ) where
-  pub members-none : foundAt s from end ≡ Missing → membersOf s from end ≡ []
+  pub members-none : foundAt paper s from end ≡ Missing → membersOf paper s from end ≡ []
   unfolding membersOf membersIn onFound
   members-none h = go (length s)
     where
-      go : (fuel : ℕ) → membersIn fuel s from end ≡ []
+      go : (fuel : ℕ) → membersIn paper fuel s from end ≡ []
       go zero = refl
       go (suc fuel) = rw h
 
-  pub members-more : {e : Element} → foundAt s from end ≡ One e → membersOf s from end ≡ e ∷ membersOf s (e .end) end
+  pub members-more : {e : Element} → foundAt paper s from end ≡ One e → membersOf paper s from end ≡ e ∷ membersOf paper s (e .end) end
   unfolding membersOf membersIn onFound
   members-more {e} h = go (length s) (omega (arith, found-within s from end h))
     where
-      go : (fuel : ℕ) → end - e .end + 1 ≤ fuel → membersIn fuel s from end ≡ e ∷ membersIn fuel s (e .end) end
+      go : (fuel : ℕ) → end - e .end + 1 ≤ fuel → membersIn paper fuel s from end ≡ e ∷ membersIn paper fuel s (e .end) end
       go zero g = absurd (omega arith)
       go (suc fuel) g = rw (h, spare fuel s (e .end) end (omega arith))

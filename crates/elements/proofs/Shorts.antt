@@ -85,7 +85,7 @@ brief tag at end = record { tag = tag; at = at; contents = at + 2; end = end }
 -- the element with a good tag that ends there
 pub short-found :
     (s : List ℕ) (from end tag : ℕ) {r : ℕ} → identifierGood tag ≡ true → 0 < r → r ≡ shortEnd s from end tag
-    → foundAt s from end ≡ One (brief tag from r)
+    → foundAt paper s from end ≡ One (brief tag from r)
 unfolding foundAt stepped memberOf placed
 short-found s from end tag {r} good some is =
     let t : ShortAt s from end tag r = rw is (short-told s from end tag (rw (sym is) some)) in

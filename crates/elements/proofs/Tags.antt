@@ -12,7 +12,7 @@ use Rattle.der.specs.declared.heading.Heading.{Heading}
 use Rattle.der.specs.declared.heading.Heading.the-variants.{Header, Bad}
 use Rattle.der.specs.declared.stepping.Step.{Step}
 use Rattle.der.specs.Forms.{paper}
-use Rattle.der.specs.Heading.{identifierGood, within, long, smallest, headingOf}
+use Rattle.der.specs.Heading.{identifierGood, within, long, smallest, sized, wideHeading, headingOf}
 use Rattle.octets.specs.Octets.{number}
 use Rattle.der.specs.Member.{placed, memberOf}
 use Rattle.der.proofs.Bounds.{cond-by, heading-within}
@@ -28,24 +28,35 @@ within-tagged : (s : List ℕ) (tag skip size : ℕ) → Tagged tag (within s ta
 unfolding within Tagged
 within-tagged s tag skip size = cond-by (Tagged tag) (leb (skip + size) (length s)) (λ h. refl) (λ h. refl)
 
+sized-tagged : (s : List ℕ) (tag at : ℕ) → Tagged tag (sized paper s tag at)
+unfolding sized long Tagged
+sized-tagged s tag at =
+    cond-by Is (leb (length s) at) (λ h. refl)
+    (λ h. cond-by Is (ltb (getD s at 0) 128) (λ f. within-tagged s tag (at + 1) (getD s at 0))
+    (λ f. cond-by Is (leb 1 k && (leb k (paper .lengthOctets) && leb (at + 1 + k) (length s)))
+    (λ e. cond-by Is (leb (smallest k) n) (λ d. within-tagged s tag (at + 1 + k) n) (λ d. refl))
+    (λ e. refl)))
+  where
+    Is : Heading → Type 0
+    Is = Tagged tag
+
+    k : ℕ
+    k = getD s at 0 - 128
+
+    n : ℕ
+    n = number (take k (drop (at + 1) s))
+
+-- the paper has no tags of two octets
 heading-tagged : (s : List ℕ) → Tagged (getD s 0 0) (headingOf paper s)
-unfolding headingOf long Tagged
+unfolding headingOf wideHeading Tagged
 heading-tagged s =
     cond-by Is (ltb (length s) 2) (λ h. refl)
-    (λ h. cond-by Is (identifierGood (getD s 0 0))
-    (λ g. cond-by Is (ltb (getD s 1 0) 128) (λ f. within-tagged s (getD s 0 0) 2 (getD s 1 0))
-    (λ f. cond-by Is (leb 1 k && (leb k (paper .lengthOctets) && leb (2 + k) (length s)))
-    (λ e. cond-by Is (leb (smallest k) (number (take k (drop 2 s)))) (λ d. within-tagged s (getD s 0 0) (2 + k) (number (take k (drop 2 s)))) (λ d. refl))
-    (λ e. refl)))
-    (λ g. refl))
+    (λ h. cond-by Is (identifierGood (getD s 0 0)) (λ g. sized-tagged s (getD s 0 0) 1) (λ g. refl))
   where
     Is : Heading → Type 0
     Is = Tagged (getD s 0 0)
 
-    k : ℕ
-    k = getD s 1 0 - 128
-
-pub found-other : (s : List ℕ) (from end tag : ℕ) → (getD s from 0 ≡ tag → ⊥) → withTag tag (foundAt s from end) ≡ Missing
+pub found-other : (s : List ℕ) (from end tag : ℕ) → (getD s from 0 ≡ tag → ⊥) → withTag tag (foundAt paper s from end) ≡ Missing
 unfolding foundAt stepped memberOf placed withTag Tagged
 found-other s from end tag other =
     cond-by Lost (leb from end)

@@ -7,13 +7,14 @@ use octets::part;
 use octets::same;
 ghost use mathlib.Core.Path.{_≡_};
 ghost use mathlib.Core.Bool.{true};
+ghost use Rattle.der.specs.Forms.{paper};
 ghost use Rattle.der.specs.Heading.{identifierGood};
 ghost use Rattle.elements.specs.Elements.{foundAt, foundTagged, wholeOf, contentsOf};
 ghost use Rattle.octets.specs.Alike.{alike};
 
 // An element by its identifier and three offsets: of its first octet, of its contents, and after it.
 pub struct Element {
-    pub tag: u8,
+    pub tag: usize,
     pub at: usize,
     pub contents: usize,
     pub end: usize,
@@ -26,7 +27,7 @@ pub enum Found {
 
 // The element that starts at `from`, before `end`.
 pub fn element_at(item: &[u8], from: usize, end: usize) -> Found
-    ensures { λ r. ⌜ r ≡ foundAt (now (item .entry)) from end ⌝ }
+    ensures { λ r. ⌜ r ≡ foundAt paper (now (item .entry)) from end ⌝ }
 {
     match member(item, from, end) {
         Step::At { tag, contents, end } => Found::One(Element {
@@ -40,8 +41,8 @@ pub fn element_at(item: &[u8], from: usize, end: usize) -> Found
 }
 
 // The same, if it has the tag. Most headers are short: the fast path.
-pub fn element_tagged(item: &[u8], from: usize, end: usize, tag: u8) -> Found
-    ensures { λ r. ⌜ r ≡ foundTagged (now (item .entry)) from end tag ⌝ }
+pub fn element_tagged(item: &[u8], from: usize, end: usize, tag: usize) -> Found
+    ensures { λ r. ⌜ r ≡ foundTagged paper (now (item .entry)) from end tag ⌝ }
 {
     let next = short_end(item, from, end, tag);
     if 0 < next {
@@ -58,7 +59,7 @@ pub fn element_tagged(item: &[u8], from: usize, end: usize, tag: u8) -> Found
 }
 
 // Tags that the profiles ask for; each is a good identifier.
-fn usual(tag: u8) -> bool
+fn usual(tag: usize) -> bool
     ensures { λ r. ⌜ (r ≡ true → identifierGood tag ≡ true) ⌝ }
 {
     match tag {
@@ -77,11 +78,11 @@ fn usual(tag: u8) -> bool
 }
 
 // The same with a header of any kind, which is not read where the first octet is another.
-fn any_tagged(item: &[u8], from: usize, end: usize, tag: u8) -> Found
-    ensures { λ r. ⌜ r ≡ foundTagged (now (item .entry)) from end tag ⌝ }
+fn any_tagged(item: &[u8], from: usize, end: usize, tag: usize) -> Found
+    ensures { λ r. ⌜ r ≡ foundTagged paper (now (item .entry)) from end tag ⌝ }
 {
     if from < item.len() {
-        if item[from] != tag {
+        if item[from] as usize != tag {
             return Found::Missing;
         }
     }

@@ -3,6 +3,7 @@ use crate::elements::Element;
 use crate::elements::Found;
 use crate::elements::element_tagged;
 ghost use mathlib.Core.Path.{_≡_};
+ghost use Rattle.der.specs.Forms.{paper};
 ghost use Rattle.elements.specs.Envelope.{envelopeOf};
 
 // The part that is signed, and the algorithm that stands after it.
@@ -12,7 +13,7 @@ pub enum Envelope {
 }
 
 pub fn envelope_of(item: &[u8]) -> Envelope
-    ensures { λ r. ⌜ r ≡ envelopeOf (now (item .entry)) ⌝ }
+    ensures { λ r. ⌜ r ≡ envelopeOf paper (now (item .entry)) ⌝ }
 {
     let Found::One(outermost) = element_tagged(item, 0, item.len(), 0x30) else {
         return Envelope::Formless;

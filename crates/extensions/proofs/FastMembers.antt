@@ -7,6 +7,7 @@ use native.Mathlib.Omega.{arith}
 use borrow.Author.Tests.{eq-eqb}
 use lib.ListN.{length, getD, take, drop, length-drop}
 use lib.Seq.{length-take-le, getD-take, getD-drop}
+use Rattle.der.specs.Forms.{paper}
 use Rattle.der.specs.Heading.{identifierGood}
 use Rattle.elements.specs.declared.elements.Element.{Element}
 use Rattle.elements.specs.declared.elements.Found.the-variants.{One}
@@ -30,18 +31,18 @@ module _ (s : List ℕ) (e : Element) {next : ℕ} (tag : e .tag ≡ 0x30) (some
   full : 0 < e .end
   full = omega (arith, some, short-within s (e .contents) (e .end) 0x06 oid some)
 
-  first : foundAt s (e .contents) (e .end) ≡ One (brief 0x06 (e .contents) next)
+  first : foundAt paper s (e .contents) (e .end) ≡ One (brief 0x06 (e .contents) next)
   unfolding identifierGood
   first = short-found s (e .contents) (e .end) 0x06 refl some oid
 
-  brief-uncritical : e .end ≡ shortEnd s next (e .end) 0x04 → Is (brief 0x06 (e .contents) next) false (brief 0x04 next (e .end)) ≡ extensionOf s e
+  brief-uncritical : e .end ≡ shortEnd s next (e .end) 0x04 → Is (brief 0x06 (e .contents) next) false (brief 0x04 next (e .end)) ≡ extensionOf paper s e
   unfolding identifierGood extensionOf holdingOf foundTagged withTag onFound
   brief-uncritical last =
       sym (rw (eq-eqb _ _ tag, first, short-found s next (e .end) 0x04 refl full last, eq-eqb (e .end) (e .end) refl))
 
   brief-critical :
       {from : ℕ} → 0 < from → from ≡ shortEnd s next (e .end) 0x01 → getD s (next + 2) 0 ≡ 255 → e .end ≡ shortEnd s from (e .end) 0x04
-      → Is (brief 0x06 (e .contents) next) true (brief 0x04 from (e .end)) ≡ extensionOf s e
+      → Is (brief 0x06 (e .contents) next) true (brief 0x04 from (e .end)) ≡ extensionOf paper s e
   unfolding identifierGood extensionOf holdingOf foundTagged withTag onFound
   brief-critical {from} one flag set last =
       sym
@@ -56,7 +57,7 @@ module _ (s : List ℕ) (e : Element) {next : ℕ} (tag : e .tag ≡ 0x30) (some
 
 -- the same of an element that starts at an offset
 module _ (s : List ℕ) (from stop : ℕ) {end next : ℕ} (whole : 0 < end) (here : end ≡ shortEnd s from stop 0x30) (some : 0 < next) (oid : next ≡ shortEnd s (from + 2) end 0x06) where
-  there : foundAt s from stop ≡ One (brief 0x30 from end)
+  there : foundAt paper s from stop ≡ One (brief 0x30 from end)
   unfolding identifierGood
   there = short-found s from stop 0x30 refl whole here
 
@@ -88,7 +89,7 @@ module _ (s : List ℕ) (from stop : ℕ) {end next : ℕ} (whole : 0 < end) (he
         nth : (i : ℕ) {j : ℕ} → i < 3 → from + 4 + i ≡ j → getD (take 3 (drop (from + 4) s)) i 0 ≡ getD s j 0
         nth i h q = getD-take 3 (drop (from + 4) s) i 0 h ∙ getD-drop (from + 4) s i 0 ∙ ap (λ (n : ℕ). getD s n 0) q
 
-    pub passed-slot : Passed s from stop end
+    pub passed-slot : Passed paper s from stop end
     unfolding strangeOid foundTagged withTag identifierGood
     passed-slot =
         record {

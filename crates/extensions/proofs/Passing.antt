@@ -7,6 +7,7 @@ use native.Mathlib.Omega.{arith}
 use borrow.Author.Tests.{eq-eqb}
 use lib.Dec.{eqb}
 use lib.ListN.{getD, set, replicate}
+use Rattle.der.specs.Forms.{paper}
 use Rattle.elements.specs.declared.elements.Element.{Element}
 use Rattle.elements.specs.declared.elements.Found.the-variants.{One, Missing}
 use Rattle.extensions.specs.declared.Extension.{Extension}
@@ -37,34 +38,34 @@ far-start s x =
     }
 
 module _ {s : List ℕ} {x : Element} {shaped marked critical twice strange unsure : Bool} {slots : List Held} {at : ℕ} (p : Far s x shaped marked critical twice strange unsure slots at) where
-  module _ (f : foundAt s at (x .end) ≡ Missing) where
-    pub end-shape : shaped ≡ extensionsShaped s x
+  module _ (f : foundAt paper s at (x .end) ≡ Missing) where
+    pub end-shape : shaped ≡ extensionsShaped paper s x
     end-shape = shape-end f (p .shape)
 
-    pub end-marks : marked ≡ criticalOf s x false
+    pub end-marks : marked ≡ criticalOf paper s x false
     end-marks = mark-end f (p .marks)
 
-    pub end-harsh : critical ≡ criticalOf s x true
+    pub end-harsh : critical ≡ criticalOf paper s x true
     end-harsh = mark-end f (p .harsh)
 
-    pub end-placed : Placed s x slots
+    pub end-placed : Placed paper s x slots
     unfolding lookupOf inside
     end-placed = record { each = open-none (p .table) f }
 
     -- what the OIDs without a slot decide
-    pub end-asked : twice ≡ false → twiceIn (strangeOids s (inside s x)) ≡ doubledOf s x
+    pub end-asked : twice ≡ false → twiceIn (strangeOids paper s (inside paper s x)) ≡ doubledOf paper s x
     unfolding doubledOf inside strangeFrom
     end-asked t = sym (apart-none (p .apart) f t)
 
-    pub end-apart : twice ≡ false → unsure ≡ false → twice ≡ doubledOf s x
+    pub end-apart : twice ≡ false → unsure ≡ false → twice ≡ doubledOf paper s x
     unfolding doubledOf inside
     end-apart t u = t ∙ sym (apart-none (p .apart) f t ∙ apart-few (p .apart) f u)
 
-    pub end-twice : twice ≡ true → twice ≡ doubledOf s x
+    pub end-twice : twice ≡ true → twice ≡ doubledOf paper s x
     unfolding doubledOf inside
     end-twice t = t ∙ sym (p .apart .told t)
 
-  module _ {e : Element} {slot next : ℕ} {mark told : Bool} (f : foundAt s at (x .end) ≡ One e) (ends : next ≡ e .end) (h : Slotted s (extensionOf s e) slot) (m : mark ≡ refusedCritical s false (extensionOf s e)) (u : told ≡ refusedCritical s true (extensionOf s e)) where
+  module _ {e : Element} {slot next : ℕ} {mark told : Bool} (f : foundAt paper s at (x .end) ≡ One e) (ends : next ≡ e .end) (h : Slotted s (extensionOf paper s e) slot) (m : mark ≡ refusedCritical s false (extensionOf paper s e)) (u : told ≡ refusedCritical s true (extensionOf paper s e)) where
     abbrev Next : Bool → Bool → Bool → List Held → Type 0
     Next twice strange unsure slots = Far s x (shaped && not (eqb slot 24)) (marked || mark) (critical || told) twice strange unsure slots next
 
@@ -78,11 +79,11 @@ module _ {s : List ℕ} {x : Element} {shaped marked critical twice strange unsu
           apart = rw ends a;
         }
 
-    pub far-new : {held : Held} → held ≡ heldOf (extensionOf s e) → slot < 23 → getD slots slot (heldOf Absent) .there ≡ false → Next twice strange unsure (set slots slot held)
+    pub far-new : {held : Held} → held ≡ heldOf (extensionOf paper s e) → slot < 23 → getD slots slot (heldOf Absent) .there ≡ false → Next twice strange unsure (set slots slot held)
     far-new {held} new l g = far-next (open-set (p .table) f h new l g) (apart-new (p .apart) f h l held there (p .table .long) g)
       where
         there : held .there ≡ true
-        there = ap (λ (f : Held). f .there) new ∙ held-there (extensionOf s e) (has-there s (oidOf slot) (extensionOf s e) (sym (h .each slot l) ∙ eq-eqb slot slot refl))
+        there = ap (λ (f : Held). f .there) new ∙ held-there (extensionOf paper s e) (has-there s (oidOf slot) (extensionOf paper s e) (sym (h .each slot l) ∙ eq-eqb slot slot refl))
 
     pub far-again : slot < 23 → getD slots slot (heldOf Absent) .there ≡ true → Next true strange unsure slots
     far-again l n = far-next (open-left (p .table) f h (λ r. n)) (apart-again (p .apart) f h l n)
@@ -94,7 +95,7 @@ module _ {s : List ℕ} {x : Element} {shaped marked critical twice strange unsu
     unfolding present
     far-none q =
         far-next (open-left (p .table) f h (λ r. absurd (omega arith)))
-        (apart-absent (p .apart) f h (omega arith) (absent (extensionOf s e) (h .there ∙ rw (eq-eqb slot 24 q))))
+        (apart-absent (p .apart) f h (omega arith) (absent (extensionOf paper s e) (h .there ∙ rw (eq-eqb slot 24 q))))
       where
         absent : (y : Extension) → present y ≡ false → y ≡ Absent
         absent Absent z = refl

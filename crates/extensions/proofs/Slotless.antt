@@ -6,6 +6,7 @@ use Prim.Native.Nat.{ℕ, zero, suc, _<_, _≤_}
 use native.Mathlib.Omega.{arith}
 use borrow.Author.Tests.{eq-eqb, ne-eqb, eqb-true, eqb-false}
 use lib.Dec.{eqb}
+use Rattle.der.specs.Forms.{paper}
 use Rattle.octets.specs.Alike.{alike}
 use Rattle.elements.specs.declared.elements.Element.{Element}
 use Rattle.elements.specs.declared.elements.Found.the-variants.{One, Missing}
@@ -54,28 +55,28 @@ module _ {s : List ℕ} {slot : ℕ} where
     strange-own more = rw no-slot
 
 module _ (s : List ℕ) (at end : ℕ) where
-  pub strange-none : foundAt s at end ≡ Missing → strangeFrom s at end ≡ []
+  pub strange-none : foundAt paper s at end ≡ Missing → strangeFrom paper s at end ≡ []
   unfolding strangeFrom strangeOids
   strange-none h = rw (members-none s at end h)
 
-  pub strange-more : {e : Element} → foundAt s at end ≡ One e → strangeFrom s at end ≡ strangeOid s (extensionOf s e) (strangeFrom s (e .end) end)
+  pub strange-more : {e : Element} → foundAt paper s at end ≡ One e → strangeFrom paper s at end ≡ strangeOid s (extensionOf paper s e) (strangeFrom paper s (e .end) end)
   unfolding strangeFrom strangeOids
   strange-more h = rw (members-more s at end h)
 
   -- a member that has a slot or is no extension is passed
-  pub strange-passed : {next : ℕ} → Passed s at end next → strangeFrom s at end ≡ strangeFrom s next end
-  strange-passed m = strange-more (m .found) ∙ m .familiar _ ∙ ap (λ (n : ℕ). strangeFrom s n end) (sym (m .ends))
+  pub strange-passed : {next : ℕ} → Passed paper s at end next → strangeFrom paper s at end ≡ strangeFrom paper s next end
+  strange-passed m = strange-more (m .found) ∙ m .familiar _ ∙ ap (λ (n : ℕ). strangeFrom paper s n end) (sym (m .ends))
 
   -- a member by the extension that it is
-  module _ {e : Element} {x : Extension} (f : foundAt s at end ≡ One e) (is : x ≡ extensionOf s e) where
-    pub strange-absent : x ≡ Absent → strangeFrom s at end ≡ strangeFrom s (e .end) end
+  module _ {e : Element} {x : Extension} (f : foundAt paper s at end ≡ One e) (is : x ≡ extensionOf paper s e) where
+    pub strange-absent : x ≡ Absent → strangeFrom paper s at end ≡ strangeFrom paper s (e .end) end
     unfolding strangeOid
     strange-absent h = strange-more f ∙ rw (← is, h)
 
-    pub strange-skip : {slot : ℕ} → Slotted s x slot → slot < 23 → strangeFrom s at end ≡ strangeFrom s (e .end) end
-    strange-skip h l = strange-more f ∙ rw (← is) (strange-slot h l (strangeFrom s (e .end) end))
+    pub strange-skip : {slot : ℕ} → Slotted s x slot → slot < 23 → strangeFrom paper s at end ≡ strangeFrom paper s (e .end) end
+    strange-skip h l = strange-more f ∙ rw (← is) (strange-slot h l (strangeFrom paper s (e .end) end))
 
     pub strange-met :
         {slot : ℕ} {oid value : Element} {critical : Bool} → x ≡ Is oid critical value → Slotted s x slot → 23 ≤ slot
-        → strangeFrom s at end ≡ contentsOf s oid ∷ strangeFrom s (e .end) end
-    strange-met q h far = strange-more f ∙ rw (← is, q) (strange-own (rw q at h) far (strangeFrom s (e .end) end))
+        → strangeFrom paper s at end ≡ contentsOf s oid ∷ strangeFrom paper s (e .end) end
+    strange-met q h far = strange-more f ∙ rw (← is, q) (strange-own (rw q at h) far (strangeFrom paper s (e .end) end))

@@ -8,6 +8,7 @@ use borrow.Author.Tests.{eq-eqb, ne-eqb, eqb-true, eqb-false, lt-ltb, ltb-true, 
 use lib.Dec.{eqb, ltb}
 use lib.ListN.{length, getD, set, replicate, getD-replicate, length-set}
 use lib.Seq.{getD-set-same, getD-set-other}
+use Rattle.der.specs.Forms.{paper}
 use Rattle.elements.specs.declared.elements.Element.{Element}
 use Rattle.elements.specs.declared.elements.Found.the-variants.{One, Missing}
 use Rattle.extensions.specs.declared.Extension.{Extension}
@@ -117,7 +118,7 @@ module _ {all rest : Extension} {held : Held} where
 -- the table while the extensions from `at` on are left
 pub record Open (s : List ℕ) (from end : ℕ) (slots : List Held) (at : ℕ) : Type 0 where
   pub long : length slots ≡ 23
-  pub each : (k : ℕ) → k < 23 → Slot (firstWith s (oidOf k) (membersOf s from end)) (firstWith s (oidOf k) (membersOf s at end)) (getD slots k (heldOf Absent))
+  pub each : (k : ℕ) → k < 23 → Slot (firstWith paper s (oidOf k) (membersOf paper s from end)) (firstWith paper s (oidOf k) (membersOf paper s at end)) (getD slots k (heldOf Absent))
 
 pub open-start : (s : List ℕ) (from end : ℕ) → Open s from end (replicate 23 (heldOf Absent)) from
 open-start s from end = record { long = refl; each = λ k l. vacant (getD-replicate 23 k (heldOf Absent) (heldOf Absent) l) refl }
@@ -139,38 +140,38 @@ there-present Absent h = rw h
 there-present (Is oid critical value) h = rw h
 
 module _ {s : List ℕ} {from end at : ℕ} {slots : List Held} (o : Open s from end slots at) where
-  pub open-none : foundAt s at end ≡ Missing → (k : ℕ) → k < 23 → getD slots k (heldOf Absent) ≡ heldOf (firstWith s (oidOf k) (membersOf s from end))
+  pub open-none : foundAt paper s at end ≡ Missing → (k : ℕ) → k < 23 → getD slots k (heldOf Absent) ≡ heldOf (firstWith paper s (oidOf k) (membersOf paper s from end))
   unfolding firstWith
   open-none h k l = slot-end (rw (members-none s at end h)) (o .each k l)
 
-  module _ {e : Element} {slot : ℕ} (f : foundAt s at end ≡ One e) (h : Slotted s (extensionOf s e) slot) where
-    next : (k : ℕ) → k < 23 → (slot ≡ k → ⊥) → firstWith s (oidOf k) (membersOf s at end) ≡ firstWith s (oidOf k) (membersOf s (e .end) end)
+  module _ {e : Element} {slot : ℕ} (f : foundAt paper s at end ≡ One e) (h : Slotted s (extensionOf paper s e) slot) where
+    next : (k : ℕ) → k < 23 → (slot ≡ k → ⊥) → firstWith paper s (oidOf k) (membersOf paper s at end) ≡ firstWith paper s (oidOf k) (membersOf paper s (e .end) end)
     unfolding firstWith
     next k l n = rw (members-more s at end f, ← h .each k l, ne-eqb slot k n)
 
-    here : slot < 23 → firstWith s (oidOf slot) (membersOf s at end) ≡ extensionOf s e
+    here : slot < 23 → firstWith paper s (oidOf slot) (membersOf paper s at end) ≡ extensionOf paper s e
     unfolding firstWith
     here l = rw (members-more s at end f, ← h .each slot l, eq-eqb slot slot refl)
 
-    pub open-set : {held : Held} → held ≡ heldOf (extensionOf s e) → slot < 23 → getD slots slot (heldOf Absent) .there ≡ false → Open s from end (set slots slot held) (e .end)
+    pub open-set : {held : Held} → held ≡ heldOf (extensionOf paper s e) → slot < 23 → getD slots slot (heldOf Absent) .there ≡ false → Open s from end (set slots slot held) (e .end)
     open-set {held} new room n = record { long = rw length-set (o .long); each = λ k l. go k l (eqb slot k) refl }
       where
-        first : firstWith s (oidOf slot) (membersOf s from end) ≡ extensionOf s e
+        first : firstWith paper s (oidOf slot) (membersOf paper s from end) ≡ extensionOf paper s e
         first = slot-free n (o .each slot room) ∙ here room
 
-        own : Slot (firstWith s (oidOf slot) (membersOf s from end)) (firstWith s (oidOf slot) (membersOf s (e .end) end)) (getD (set slots slot held) slot (heldOf Absent))
+        own : Slot (firstWith paper s (oidOf slot) (membersOf paper s from end)) (firstWith paper s (oidOf slot) (membersOf paper s (e .end) end)) (getD (set slots slot held) slot (heldOf Absent))
         own =
             let fits : slot < length slots = omega (arith, o .long) in
             taken (getD-set-same slots slot held (heldOf Absent) fits ∙ new ∙ ap heldOf (sym first))
-            (ap present first ∙ has-there s (oidOf slot) (extensionOf s e) (sym (h .each slot room) ∙ eq-eqb slot slot refl))
+            (ap present first ∙ has-there s (oidOf slot) (extensionOf paper s e) (sym (h .each slot room) ∙ eq-eqb slot slot refl))
 
-        go : (k : ℕ) → k < 23 → (t : Bool) → eqb slot k ≡ t → Slot (firstWith s (oidOf k) (membersOf s from end)) (firstWith s (oidOf k) (membersOf s (e .end) end)) (getD (set slots slot held) k (heldOf Absent))
+        go : (k : ℕ) → k < 23 → (t : Bool) → eqb slot k ≡ t → Slot (firstWith paper s (oidOf k) (membersOf paper s from end)) (firstWith paper s (oidOf k) (membersOf paper s (e .end) end)) (getD (set slots slot held) k (heldOf Absent))
         go k l true q = rw (sym (eqb-true slot k q)) own
         go k l false q = rw (getD-set-other slots slot k held (heldOf Absent) (λ w. eqb-false slot k q (sym w))) (slot-moved (next k l (eqb-false slot k q)) (o .each k l))
 
     pub open-left : (slot < 23 → getD slots slot (heldOf Absent) .there ≡ true) → Open s from end slots (e .end)
     open-left n = record { long = o .long; each = λ k l. go k l (eqb slot k) refl }
       where
-        go : (k : ℕ) → k < 23 → (t : Bool) → eqb slot k ≡ t → Slot (firstWith s (oidOf k) (membersOf s from end)) (firstWith s (oidOf k) (membersOf s (e .end) end)) (getD slots k (heldOf Absent))
+        go : (k : ℕ) → k < 23 → (t : Bool) → eqb slot k ≡ t → Slot (firstWith paper s (oidOf k) (membersOf paper s from end)) (firstWith paper s (oidOf k) (membersOf paper s (e .end) end)) (getD slots k (heldOf Absent))
         go k l true q = let same : slot ≡ k = eqb-true slot k q in slot-full (rw same at (n (omega arith))) (o .each k l)
         go k l false q = slot-moved (next k l (eqb-false slot k q)) (o .each k l)

@@ -8,6 +8,7 @@ use borrow.Author.Tests.{eq-eqb, ne-eqb, eqb-true, eqb-false}
 use lib.Dec.{eqb}
 use lib.ListN.{length, getD, set, replicate, getD-replicate}
 use lib.Seq.{getD-set-same, getD-set-other}
+use Rattle.der.specs.Forms.{paper}
 use Rattle.elements.specs.declared.elements.Element.{Element}
 use Rattle.elements.specs.declared.elements.Found.the-variants.{One, Missing}
 use Rattle.extensions.specs.declared.Extension.{Extension}
@@ -34,12 +35,12 @@ module _ (s : List ℕ) (seen : List ℕ → Bool) where
 
   unfoldable pub someKnown : List Element → Bool
   someKnown [] = false
-  someKnown (e ∷ rest) = known (extensionOf s e) || someKnown rest
+  someKnown (e ∷ rest) = known (extensionOf paper s e) || someKnown rest
 
 none-known : (s : List ℕ) (es : List Element) → someKnown s (λ o. false) es ≡ false
 unfolding someKnown known
 none-known s [] = refl
-none-known s (e ∷ rest) = rw (none-known s rest) (go (extensionOf s e))
+none-known s (e ∷ rest) = rw (none-known s rest) (go (extensionOf paper s e))
   where
     go : (x : Extension) → (known s (λ o. false) x || false) ≡ false
     go Absent = refl
@@ -53,12 +54,12 @@ module _ (s : List ℕ) (seen : List ℕ → Bool) where
   known-also (Is oid critical value) Absent = refl
   known-also (Is oid critical value) (Is own other held) = refl
 
-  some-also : (x : Extension) (es : List Element) → someKnown s (also s seen x) es ≡ (standsIn s x es || someKnown s seen es)
+  some-also : (x : Extension) (es : List Element) → someKnown s (also s seen x) es ≡ (standsIn paper s x es || someKnown s seen es)
   unfolding someKnown standsIn
   some-also x [] = refl
   some-also x (e ∷ rest) =
-      rw (known-also x (extensionOf s e), some-also x rest)
-      (go (sameOids s x (extensionOf s e)) (known s seen (extensionOf s e)) (standsIn s x rest) (someKnown s seen rest))
+      rw (known-also x (extensionOf paper s e), some-also x rest)
+      (go (sameOids s x (extensionOf paper s e)) (known s seen (extensionOf paper s e)) (standsIn paper s x rest) (someKnown s seen rest))
     where
       go : (a b c d : Bool) → ((a || b) || (c || d)) ≡ (cond a true c || (b || d))
       go true b c d = refl
@@ -70,11 +71,11 @@ module _ (s : List ℕ) (seen : List ℕ → Bool) where
   unfoldable pub left : List Element → Bool
   left es = someKnown s seen es || slotTwice s es
 
-  left-slot : (e : Element) (rest : List Element) → ((t : Bool) → slotAnd s (extensionOf s e) t ≡ t) → left (e ∷ rest) ≡ (known s seen (extensionOf s e) || (someKnown s (also s seen (extensionOf s e)) rest || slotTwice s rest))
+  left-slot : (e : Element) (rest : List Element) → ((t : Bool) → slotAnd s (extensionOf paper s e) t ≡ t) → left (e ∷ rest) ≡ (known s seen (extensionOf paper s e) || (someKnown s (also s seen (extensionOf paper s e)) rest || slotTwice s rest))
   unfolding left someKnown slotTwice
   left-slot e rest h =
-      rw (h (standsIn s (extensionOf s e) rest), some-also (extensionOf s e) rest)
-      (go (known s seen (extensionOf s e)) (someKnown s seen rest) (standsIn s (extensionOf s e) rest) (slotTwice s rest))
+      rw (h (standsIn paper s (extensionOf paper s e) rest), some-also (extensionOf paper s e) rest)
+      (go (known s seen (extensionOf paper s e)) (someKnown s seen rest) (standsIn paper s (extensionOf paper s e) rest) (slotTwice s rest))
     where
       go : (k a b d : Bool) → ((k || a) || (b || d)) ≡ (k || ((b || a) || d))
       go true a b d = refl
@@ -83,9 +84,9 @@ module _ (s : List ℕ) (seen : List ℕ → Bool) where
       go false false true d = refl
       go false false false d = refl
 
-  left-stranger : (e : Element) (rest : List Element) → ((t : Bool) → slotAnd s (extensionOf s e) t ≡ false) → known s seen (extensionOf s e) ≡ false → left (e ∷ rest) ≡ left rest
+  left-stranger : (e : Element) (rest : List Element) → ((t : Bool) → slotAnd s (extensionOf paper s e) t ≡ false) → known s seen (extensionOf paper s e) ≡ false → left (e ∷ rest) ≡ left rest
   unfolding left someKnown slotTwice
-  left-stranger e rest h n = rw (h (standsIn s (extensionOf s e) rest), n)
+  left-stranger e rest h n = rw (h (standsIn paper s (extensionOf paper s e) rest), n)
 
   -- an extension by its OID
   module _ (o : List ℕ) where
@@ -126,12 +127,12 @@ pub record Apart (s : List ℕ) (from end : ℕ) (slots : List Held) (twice stra
   pub seen : List ℕ → Bool
   pub filled : (k : ℕ) → k < 23 → seen (oidOf k) ≡ getD slots k (heldOf Absent) .there
   pub others : (o : List ℕ) → ((k : ℕ) → k < 23 → o ≡ oidOf k → ⊥) → seen o ≡ false
-  pub sound : left s seen (membersOf s at end) ≡ true → doubledIn s (membersOf s from end) ≡ true
-  pub told : twice ≡ true → doubledIn s (membersOf s from end) ≡ true
-  pub whole : twice ≡ false → doubledIn s (membersOf s from end) ≡ (left s seen (membersOf s at end) || twiceIn (strangeFrom s from end))
+  pub sound : left s seen (membersOf paper s at end) ≡ true → doubledIn paper s (membersOf paper s from end) ≡ true
+  pub told : twice ≡ true → doubledIn paper s (membersOf paper s from end) ≡ true
+  pub whole : twice ≡ false → doubledIn paper s (membersOf paper s from end) ≡ (left s seen (membersOf paper s at end) || twiceIn (strangeFrom paper s from end))
   pub alone : List ℕ
-  pub none : strange ≡ false → strangeFrom s from end ≡ strangeFrom s at end
-  pub one : strange ≡ true → unsure ≡ false → strangeFrom s from end ≡ alone ∷ strangeFrom s at end
+  pub none : strange ≡ false → strangeFrom paper s from end ≡ strangeFrom paper s at end
+  pub one : strange ≡ true → unsure ≡ false → strangeFrom paper s from end ≡ alone ∷ strangeFrom paper s at end
 
 pub apart-start : (s : List ℕ) (from end : ℕ) → Apart s from end (replicate 23 (heldOf Absent)) false false false from
 unfolding left heldOf strangeFrom
@@ -140,52 +141,52 @@ apart-start s from end =
       seen = λ o. false;
       filled = λ k l. rw (getD-replicate 23 k (heldOf Absent) (heldOf Absent) l);
       others = λ o n. refl;
-      sound = λ t. let slot : slotTwice s (membersOf s from end) ≡ true = rw (none-known s (membersOf s from end)) at t in split s (membersOf s from end) ∙ rw slot;
+      sound = λ t. let slot : slotTwice s (membersOf paper s from end) ≡ true = rw (none-known s (membersOf paper s from end)) at t in split s (membersOf paper s from end) ∙ rw slot;
       told = λ t. let y : _≡_ {A = ℕ} 0 1 = cc in absurd (omega arith);
-      whole = λ t. rw (none-known s (membersOf s from end)) (split s (membersOf s from end));
+      whole = λ t. rw (none-known s (membersOf paper s from end)) (split s (membersOf paper s from end));
       alone = [];
       none = λ t. refl;
       one = λ t. let y : _≡_ {A = ℕ} 0 1 = cc in absurd (omega arith);
     }
 
 module _ {s : List ℕ} {from end at : ℕ} {slots : List Held} {twice strange unsure : Bool} (a : Apart s from end slots twice strange unsure at) where
-  module _ (h : foundAt s at end ≡ Missing) where
-    pub apart-none : twice ≡ false → doubledIn s (membersOf s from end) ≡ twiceIn (strangeFrom s from end)
+  module _ (h : foundAt paper s at end ≡ Missing) where
+    pub apart-none : twice ≡ false → doubledIn paper s (membersOf paper s from end) ≡ twiceIn (strangeFrom paper s from end)
     unfolding left someKnown slotTwice
     apart-none t = a .whole t ∙ rw (members-none s at end h)
 
-    pub apart-few : unsure ≡ false → twiceIn (strangeFrom s from end) ≡ false
+    pub apart-few : unsure ≡ false → twiceIn (strangeFrom paper s from end) ≡ false
     unfolding twiceIn isIn
     apart-few u = go strange refl
       where
-        go : (t : Bool) → strange ≡ t → twiceIn (strangeFrom s from end) ≡ false
+        go : (t : Bool) → strange ≡ t → twiceIn (strangeFrom paper s from end) ≡ false
         go true q = rw (a .one q u, strange-none s at end h)
         go false q = rw (a .none q, strange-none s at end h)
 
-  module _ {e : Element} {slot : ℕ} (f : foundAt s at end ≡ One e) (h : Slotted s (extensionOf s e) slot) where
+  module _ {e : Element} {slot : ℕ} (f : foundAt paper s at end ≡ One e) (h : Slotted s (extensionOf paper s e) slot) where
     -- an OID that has a slot
     module _ (l : slot < 23) where
-      own : hasOid s (oidOf slot) (extensionOf s e) ≡ true
+      own : hasOid s (oidOf slot) (extensionOf paper s e) ≡ true
       own = sym (h .each slot l) ∙ eq-eqb slot slot refl
 
-      known-slot : known s (a .seen) (extensionOf s e) ≡ getD slots slot (heldOf Absent) .there
-      known-slot = known-oid s (a .seen) (oidOf slot) (extensionOf s e) own ∙ a .filled slot l
+      known-slot : known s (a .seen) (extensionOf paper s e) ≡ getD slots slot (heldOf Absent) .there
+      known-slot = known-oid s (a .seen) (oidOf slot) (extensionOf paper s e) own ∙ a .filled slot l
 
-      step : left s (a .seen) (membersOf s at end) ≡ (known s (a .seen) (extensionOf s e) || left s (also s (a .seen) (extensionOf s e)) (membersOf s (e .end) end))
+      step : left s (a .seen) (membersOf paper s at end) ≡ (known s (a .seen) (extensionOf paper s e) || left s (also s (a .seen) (extensionOf paper s e)) (membersOf paper s (e .end) end))
       unfolding left
-      step = ap (left s (a .seen)) (members-more s at end f) ∙ left-slot s (a .seen) e (membersOf s (e .end) end) (slot-and h l)
+      step = ap (left s (a .seen)) (members-more s at end f) ∙ left-slot s (a .seen) e (membersOf paper s (e .end) end) (slot-and h l)
 
-      skip : strangeFrom s at end ≡ strangeFrom s (e .end) end
+      skip : strangeFrom paper s at end ≡ strangeFrom paper s (e .end) end
       skip = strange-skip s at end f refl h l
 
       pub apart-new : (held : Held) → held .there ≡ true → length slots ≡ 23 → getD slots slot (heldOf Absent) .there ≡ false → Apart s from end (set slots slot held) twice strange unsure (e .end)
       apart-new held new long g =
           record {
-            seen = also s (a .seen) (extensionOf s e);
+            seen = also s (a .seen) (extensionOf paper s e);
             filled = λ k room. go k room (eqb slot k) refl;
             others = λ o n.
-                also-other s (a .seen) o (extensionOf s e) (other-oid s (a .seen) o (extensionOf s e) (oidOf slot) own (n slot l)) ∙ a .others o n;
-            sound = λ t. a .sound (step ∙ rw t (or (known s (a .seen) (extensionOf s e))));
+                also-other s (a .seen) o (extensionOf paper s e) (other-oid s (a .seen) o (extensionOf paper s e) (oidOf slot) own (n slot l)) ∙ a .others o n;
+            sound = λ t. a .sound (step ∙ rw t (or (known s (a .seen) (extensionOf paper s e))));
             told = a .told;
             whole = λ t. a .whole t ∙ rw (step, known-slot, g);
             alone = a .alone;
@@ -197,15 +198,15 @@ module _ {s : List ℕ} {from end at : ℕ} {slots : List Held} {twice strange u
           or true = refl
           or false = refl
 
-          here : also s (a .seen) (extensionOf s e) (oidOf slot) ≡ getD (set slots slot held) slot (heldOf Absent) .there
+          here : also s (a .seen) (extensionOf paper s e) (oidOf slot) ≡ getD (set slots slot held) slot (heldOf Absent) .there
           here =
               let fits : slot < length slots = omega arith in
-              rw (getD-set-same slots slot held (heldOf Absent) fits) (also-oid s (a .seen) (oidOf slot) (extensionOf s e) own ∙ sym new)
+              rw (getD-set-same slots slot held (heldOf Absent) fits) (also-oid s (a .seen) (oidOf slot) (extensionOf paper s e) own ∙ sym new)
 
-          kept : (k : ℕ) → k < 23 → (slot ≡ k → ⊥) → also s (a .seen) (extensionOf s e) (oidOf k) ≡ getD slots k (heldOf Absent) .there
-          kept k room n = also-other s (a .seen) (oidOf k) (extensionOf s e) (sym (h .each k room) ∙ ne-eqb slot k n) ∙ a .filled k room
+          kept : (k : ℕ) → k < 23 → (slot ≡ k → ⊥) → also s (a .seen) (extensionOf paper s e) (oidOf k) ≡ getD slots k (heldOf Absent) .there
+          kept k room n = also-other s (a .seen) (oidOf k) (extensionOf paper s e) (sym (h .each k room) ∙ ne-eqb slot k n) ∙ a .filled k room
 
-          go : (k : ℕ) → k < 23 → (t : Bool) → eqb slot k ≡ t → also s (a .seen) (extensionOf s e) (oidOf k) ≡ getD (set slots slot held) k (heldOf Absent) .there
+          go : (k : ℕ) → k < 23 → (t : Bool) → eqb slot k ≡ t → also s (a .seen) (extensionOf paper s e) (oidOf k) ≡ getD (set slots slot held) k (heldOf Absent) .there
           go k room true q = rw (sym (eqb-true slot k q)) here
           go k room false q = rw (getD-set-other slots slot k held (heldOf Absent) (λ w. eqb-false slot k q (sym w))) (kept k room (eqb-false slot k q))
 
@@ -223,19 +224,19 @@ module _ {s : List ℕ} {from end at : ℕ} {slots : List Held} {twice strange u
             one = λ t u. a .one t u ∙ ap (_∷_ (a .alone)) skip;
           }
         where
-          doubles : doubledIn s (membersOf s from end) ≡ true
+          doubles : doubledIn paper s (membersOf paper s from end) ≡ true
           doubles = a .sound (step ∙ rw (known-slot ∙ n))
 
     -- an OID that has none, or no extension
     module _ (far : 23 ≤ slot) where
-      pass : left s (a .seen) (membersOf s at end) ≡ left s (a .seen) (membersOf s (e .end) end)
+      pass : left s (a .seen) (membersOf paper s at end) ≡ left s (a .seen) (membersOf paper s (e .end) end)
       pass =
           ap (left s (a .seen)) (members-more s at end f)
-          ∙ left-stranger s (a .seen) e (membersOf s (e .end) end) (stranger-and h far)
-          (known-stranger s (a .seen) (extensionOf s e) (λ k l. sym (h .each k l) ∙ ne-eqb slot k λ q. omega arith) (a .others))
+          ∙ left-stranger s (a .seen) e (membersOf paper s (e .end) end) (stranger-and h far)
+          (known-stranger s (a .seen) (extensionOf paper s e) (λ k l. sym (h .each k l) ∙ ne-eqb slot k λ q. omega arith) (a .others))
 
-      passed : (strange' unsure' : Bool) (alone : List ℕ) → (strange' ≡ false → strangeFrom s from end ≡ strangeFrom s (e .end) end)
-          → (strange' ≡ true → unsure' ≡ false → strangeFrom s from end ≡ alone ∷ strangeFrom s (e .end) end)
+      passed : (strange' unsure' : Bool) (alone : List ℕ) → (strange' ≡ false → strangeFrom paper s from end ≡ strangeFrom paper s (e .end) end)
+          → (strange' ≡ true → unsure' ≡ false → strangeFrom paper s from end ≡ alone ∷ strangeFrom paper s (e .end) end)
           → Apart s from end slots twice strange' unsure' (e .end)
       passed strange' unsure' alone none one =
           record {
@@ -253,20 +254,20 @@ module _ {s : List ℕ} {from end at : ℕ} {slots : List Held} {twice strange u
       pub apart-stranger : (slot ≡ 24 → ⊥) → Apart s from end slots twice true (unsure || strange) (e .end)
       unfolding ownOid present
       apart-stranger other =
-          passed true (unsure || strange) (ownOid s (extensionOf s e)) (λ t. let y : _≡_ {A = ℕ} 0 1 = cc in absurd (omega arith))
-          (λ t u. a .none (neither unsure strange u .1) ∙ first (extensionOf s e) refl (h .there ∙ rw (ne-eqb slot 24 other)))
+          passed true (unsure || strange) (ownOid s (extensionOf paper s e)) (λ t. let y : _≡_ {A = ℕ} 0 1 = cc in absurd (omega arith))
+          (λ t u. a .none (neither unsure strange u .1) ∙ first (extensionOf paper s e) refl (h .there ∙ rw (ne-eqb slot 24 other)))
         where
           neither : (p q : Bool) → (p || q) ≡ false → (p ≡ false) × (q ≡ false)
           neither true q w = (w, cc)
           neither false q w = (refl, w)
 
-          first : (y : Extension) → extensionOf s e ≡ y → present y ≡ true → strangeFrom s at end ≡ ownOid s y ∷ strangeFrom s (e .end) end
+          first : (y : Extension) → extensionOf paper s e ≡ y → present y ≡ true → strangeFrom paper s at end ≡ ownOid s y ∷ strangeFrom paper s (e .end) end
           first Absent q w = let z : _≡_ {A = ℕ} 0 1 = cc in absurd (omega arith)
           first (Is oid critical value) q w = strange-met s at end f refl q h far
 
-      pub apart-absent : extensionOf s e ≡ Absent → Apart s from end slots twice strange unsure (e .end)
+      pub apart-absent : extensionOf paper s e ≡ Absent → Apart s from end slots twice strange unsure (e .end)
       apart-absent n =
           passed strange unsure (a .alone) (λ t. a .none t ∙ skip) (λ t u. a .one t u ∙ ap (_∷_ (a .alone)) skip)
         where
-          skip : strangeFrom s at end ≡ strangeFrom s (e .end) end
+          skip : strangeFrom paper s at end ≡ strangeFrom paper s (e .end) end
           skip = strange-absent s at end f refl n

@@ -9,6 +9,7 @@ use borrow.Author.Tests.{eqb-true, eqb-false, ltb-true, ltb-false}
 use lib.Dec.{eqb, ltb}
 use lib.ListN.{length, getD, set, replicate, length-set}
 use lib.Seq.{getD-set-same, getD-set-other}
+use Rattle.der.specs.Forms.{paper}
 use Rattle.octets.specs.Alike.{alike}
 use Rattle.octets.proofs.Likeness.{unequal-unlike}
 use Rattle.elements.specs.declared.elements.Element.{Element}
@@ -89,20 +90,20 @@ none-in seen h (x ∷ rest) = rw (h x, none-in seen h rest)
 -- the first OID from `at` on
 pub record Onward (s : List ℕ) (at end place next : ℕ) (o : List ℕ) : Type 0 where
   pub onward : (at ≤ place) × (place < next) × (next ≤ end)
-  pub passed : strangeFrom s at end ≡ strangeFrom s place end
-  pub first : strangeFrom s place end ≡ o ∷ strangeFrom s next end
+  pub passed : strangeFrom paper s at end ≡ strangeFrom paper s place end
+  pub first : strangeFrom paper s place end ≡ o ∷ strangeFrom paper s next end
 
-module _ (s : List ℕ) (at end : ℕ) {r : Stranger} (a : Ahead s at end r) where
-  pub ahead-none : r ≡ Nothing → strangeFrom s at end ≡ []
-  ahead-none q = go (subst (Ahead s at end) q a)
+module _ (s : List ℕ) (at end : ℕ) {r : Stranger} (a : Ahead paper s at end r) where
+  pub ahead-none : r ≡ Nothing → strangeFrom paper s at end ≡ []
+  ahead-none q = go (subst (Ahead paper s at end) q a)
     where
-      go : Ahead s at end Nothing → strangeFrom s at end ≡ []
+      go : Ahead paper s at end Nothing → strangeFrom paper s at end ≡ []
       go (none h) = h
 
   pub ahead-row : {place next : ℕ} {oid : Element} → r ≡ At place next oid → (row : Row) → rowOid s row ≡ contentsOf s oid → Onward s at end place next (rowOid s row)
-  ahead-row {place} {next} {oid} q row is = go (subst (Ahead s at end) q a)
+  ahead-row {place} {next} {oid} q row is = go (subst (Ahead paper s at end) q a)
     where
-      go : Ahead s at end (At place next oid) → Onward s at end place next (rowOid s row)
+      go : Ahead paper s at end (At place next oid) → Onward s at end place next (rowOid s row)
       go (met x y z passed first) = record { onward = (x, y, z); passed = passed; first = rw is first }
 
 -- OIDs with other last octets are not equal
@@ -116,11 +117,11 @@ module _ (s : List ℕ) (from end : ℕ) where
   pub data Phase (table : List Row) (count rest at : ℕ) : Type 0 where
     filling :
         rest ≡ end
-        → twiceIn (strangeFrom s from end) ≡ (someIn (seenIn s table count) (strangeFrom s at end) || twiceIn (strangeFrom s at end))
+        → twiceIn (strangeFrom paper s from end) ≡ (someIn (seenIn s table count) (strangeFrom paper s at end) || twiceIn (strangeFrom paper s at end))
         → Phase table count rest at
     full :
         rest < end → from < rest → count ≡ 64
-        → twiceIn (strangeFrom s from end) ≡ (someIn (seenIn s table count) (strangeFrom s at end) || twiceIn (strangeFrom s rest end))
+        → twiceIn (strangeFrom paper s from end) ≡ (someIn (seenIn s table count) (strangeFrom paper s at end) || twiceIn (strangeFrom paper s rest end))
         → Phase table count rest at
 
   pub record Listed (table : List Row) (count rest at : ℕ) : Type 0 where
@@ -137,32 +138,32 @@ module _ (s : List ℕ) (from end : ℕ) where
         room = omega arith;
         far = omega arith;
         numbered = λ i l. absurd (omega arith);
-        phase = filling refl (rw (none-in (seenIn s (replicate 64 vacant) 0) (seen-none s (replicate 64 vacant)) (strangeFrom s from end)));
+        phase = filling refl (rw (none-in (seenIn s (replicate 64 vacant) 0) (seen-none s (replicate 64 vacant)) (strangeFrom paper s from end)));
       }
 
   module _ {table : List Row} {count rest at : ℕ} (p : Listed table count rest at) where
-    pub listed-end : strangeFrom s at end ≡ [] → Compared s from end (record { twice = false; rest = rest })
+    pub listed-end : strangeFrom paper s at end ≡ [] → Compared paper s from end (record { twice = false; rest = rest })
     unfolding someIn twiceIn
     listed-end h = go (p .phase)
       where
-        go : Phase table count rest at → Compared s from end (record { twice = false; rest = rest })
+        go : Phase table count rest at → Compared paper s from end (record { twice = false; rest = rest })
         go (filling e q) =
-            let past : strangeFrom s rest end ≡ [] = strange-none s rest end (beyond s (omega arith)) in
+            let past : strangeFrom paper s rest end ≡ [] = strange-none s rest end (beyond s (omega arith)) in
             record { is = q ∙ rw (h, past); left = λ l. absurd (omega arith) }
         go (full l b n q) = record { is = q ∙ rw h; left = λ _. (refl, b) }
 
     -- the next OID that is left
     module _ {place next : ℕ} {o : List ℕ} (m : Onward s at end place next o) where
-      pub listed-twice : seenIn s table count o ≡ true → Compared s from end (record { twice = true; rest = end })
+      pub listed-twice : seenIn s table count o ≡ true → Compared paper s from end (record { twice = true; rest = end })
       unfolding someIn
       listed-twice t = record { is = go (p .phase); left = λ l. absurd (omega arith) }
         where
-          go : Phase table count rest at → twiceIn (strangeFrom s from end) ≡ true
+          go : Phase table count rest at → twiceIn (strangeFrom paper s from end) ≡ true
           go (filling e q) = q ∙ rw (m .passed ∙ m .first, t)
           go (full l b n q) = q ∙ rw (m .passed ∙ m .first, t)
 
       module _ (new : seenIn s table count o ≡ false) where
-        some-left : someIn (seenIn s table count) (strangeFrom s at end) ≡ someIn (seenIn s table count) (strangeFrom s next end)
+        some-left : someIn (seenIn s table count) (strangeFrom paper s at end) ≡ someIn (seenIn s table count) (strangeFrom paper s next end)
         unfolding someIn
         some-left = rw (m .passed ∙ m .first, new)
 
@@ -214,10 +215,10 @@ module _ (s : List ℕ) (from end : ℕ) where
                 or false true c = refl
                 or false false c = refl
 
-                both : (someIn (seenIn s table count) (strangeFrom s at end) || twiceIn (strangeFrom s at end)) ≡ (someIn (seenIn s (set table count row) (count + 1)) (strangeFrom s next end) || twiceIn (strangeFrom s next end))
+                both : (someIn (seenIn s table count) (strangeFrom paper s at end) || twiceIn (strangeFrom paper s at end)) ≡ (someIn (seenIn s (set table count row) (count + 1)) (strangeFrom paper s next end) || twiceIn (strangeFrom paper s next end))
                 both =
-                    rw (some-left, m .passed ∙ m .first, some-more (seenIn s table count) (seenIn s (set table count row) (count + 1)) o after (strangeFrom s next end))
-                    (or (someIn (seenIn s table count) (strangeFrom s next end)) (isIn o (strangeFrom s next end)) (twiceIn (strangeFrom s next end)))
+                    rw (some-left, m .passed ∙ m .first, some-more (seenIn s table count) (seenIn s (set table count row) (count + 1)) o after (strangeFrom paper s next end))
+                    (or (someIn (seenIn s table count) (strangeFrom paper s next end)) (isIn o (strangeFrom paper s next end)) (twiceIn (strangeFrom paper s next end)))
             go (full l' b n q) = absurd (omega arith)
 
 -- rounds come to an end, and then no OID is left
@@ -228,7 +229,7 @@ round-less a b end l h = go (ltb b end) refl
     go true q = omega (arith, h (ltb-true b end q))
     go false q = omega (arith, ltb-false b end q)
 
-pub round-end : (s : List ℕ) (t : Bool) (rest end : ℕ) → end ≤ rest → (t || twiceIn (strangeFrom s rest end)) ≡ t
+pub round-end : (s : List ℕ) (t : Bool) (rest end : ℕ) → end ≤ rest → (t || twiceIn (strangeFrom paper s rest end)) ≡ t
 unfolding twiceIn
 round-end s t rest end l = rw (strange-none s rest end (beyond s l)) (go t)
   where

@@ -6,6 +6,7 @@ use mathlib.Core.List.{List}
 use native.Mathlib.Omega.{arith}
 use lib.ListN.{length}
 use lib.Seq.{ext-getD}
+use Rattle.der.specs.Forms.{paper}
 use Rattle.elements.specs.declared.elements.Element.{Element}
 use Rattle.extensions.specs.declared.Extension.the-variants.{Absent}
 use Rattle.extensions.specs.declared.Held.{Held}
@@ -13,8 +14,8 @@ use Rattle.extensions.specs.declared.Overview.{Overview}
 use Rattle.extensions.specs.Extensions.{heldOf, Placed, Viewed}
 
 one-table :
-    (s : List ℕ) (extensions : Element) (r q : List Held) → length r ≡ 23 → length q ≡ 23 → Placed s extensions r
-    → Placed s extensions q → r ≡ q
+    (s : List ℕ) (extensions : Element) (r q : List Held) → length r ≡ 23 → length q ≡ 23 → Placed paper s extensions r
+    → Placed paper s extensions q → r ≡ q
 one-table s extensions r q m n a b =
     ext-getD (heldOf Absent) r q (m ∙ sym n) (λ k h. let l : k < 23 = omega (arith, h, m) in a .each k l ∙ sym (b .each k l))
 
@@ -25,8 +26,8 @@ same-made : {a b c d e f g h : Bool} {t u : List Held} → a ≡ e → b ≡ f �
 same-made p q r v w = cc
 
 pub one-overview :
-    (s : List ℕ) (extensions : Element) (r q : Overview) → length (r .slots) ≡ 23 → length (q .slots) ≡ 23 → Viewed s extensions r
-    → Viewed s extensions q → r ≡ q
+    (s : List ℕ) (extensions : Element) (r q : Overview) → length (r .slots) ≡ 23 → length (q .slots) ≡ 23 → Viewed paper s extensions r
+    → Viewed paper s extensions q → r ≡ q
 unfolding made
 one-overview s extensions r q m n a b =
     same-made (a .shaped ∙ sym (b .shaped)) (a .marked ∙ sym (b .marked)) (a .critical ∙ sym (b .critical)) (a .doubled ∙ sym (b .doubled))

@@ -5,6 +5,7 @@ use mathlib.Core.Bool.{Bool, true, false, cond, _&&_, _||_, not}
 use mathlib.Core.List.{List, [], _∷_}
 use lib.Dec.{eqb, ltb}
 use lib.ListN.{getD}
+use Rattle.der.specs.Forms.{Forms}
 use Rattle.elements.specs.declared.elements.Element.{Element}
 use Rattle.elements.specs.declared.elements.Found.{Found}
 use Rattle.elements.specs.declared.elements.Found.the-variants.{One}
@@ -21,13 +22,13 @@ holdingOf extension oid critical next =
     onFound (withTag 0x04 next) Absent λ value. cond (eqb (value .end) (extension .end)) (Is oid critical value) Absent
 
 -- an extension, or `Absent` for what is none; a BOOLEAN after the OID is TRUE and marks it as critical
-unfoldable pub extensionOf : List ℕ → Element → Extension
-extensionOf s e =
+unfoldable pub extensionOf : Forms → List ℕ → Element → Extension
+extensionOf forms s e =
     cond (eqb (e .tag) 0x30)
-    (onFound (foundTagged s (e .contents) (e .end) 0x06) Absent λ oid.
-    onFound (foundAt s (oid .end) (e .end)) Absent λ next.
+    (onFound (foundTagged forms s (e .contents) (e .end) 0x06) Absent λ oid.
+    onFound (foundAt forms s (oid .end) (e .end)) Absent λ next.
     cond (eqb (next .tag) 0x01)
-    (cond (eqb (getD s (next .contents) 0) 255) (holdingOf e oid true (foundAt s (next .end) (e .end))) Absent)
+    (cond (eqb (getD s (next .contents) 0) 255) (holdingOf e oid true (foundAt forms s (next .end) (e .end))) Absent)
     (holdingOf e oid false (One next)))
     Absent
 
@@ -36,30 +37,30 @@ present (Is oid critical value) = true
 present Absent = false
 
 -- all of them are extensions
-unfoldable pub allShaped : List ℕ → List Element → Bool
-allShaped s [] = true
-allShaped s (e ∷ rest) = cond (present (extensionOf s e)) (allShaped s rest) false
+unfoldable pub allShaped : Forms → List ℕ → List Element → Bool
+allShaped forms s [] = true
+allShaped forms s (e ∷ rest) = cond (present (extensionOf forms s e)) (allShaped forms s rest) false
 
 -- a SEQUENCE of extensions
-unfoldable pub extensionsShaped : List ℕ → Element → Bool
-extensionsShaped s e = cond (eqb (e .tag) 0x30) (allShaped s (inside s e)) false
+unfoldable pub extensionsShaped : Forms → List ℕ → Element → Bool
+extensionsShaped forms s e = cond (eqb (e .tag) 0x30) (allShaped forms s (inside forms s e)) false
 
 unfoldable pub hasOid : List ℕ → List ℕ → Extension → Bool
 hasOid s oid (Is own critical value) = alike (contentsOf s own) oid
 hasOid s oid Absent = false
 
 -- the first of them with that OID
-unfoldable pub firstWith : List ℕ → List ℕ → List Element → Extension
-firstWith s oid [] = Absent
-firstWith s oid (e ∷ rest) = cond (hasOid s oid (extensionOf s e)) (extensionOf s e) (firstWith s oid rest)
+unfoldable pub firstWith : Forms → List ℕ → List ℕ → List Element → Extension
+firstWith forms s oid [] = Absent
+firstWith forms s oid (e ∷ rest) = cond (hasOid s oid (extensionOf forms s e)) (extensionOf forms s e) (firstWith forms s oid rest)
 
-unfoldable pub lookupOf : List ℕ → Element → List ℕ → Extension
-lookupOf s extensions oid = firstWith s oid (inside s extensions)
+unfoldable pub lookupOf : Forms → List ℕ → Element → List ℕ → Extension
+lookupOf forms s extensions oid = firstWith forms s oid (inside forms s extensions)
 
 -- where the first of them with that OID starts, else `none`
-unfoldable pub placeIn : List ℕ → List ℕ → List Element → ℕ → ℕ
-placeIn s oid [] none = none
-placeIn s oid (e ∷ rest) none = cond (hasOid s oid (extensionOf s e)) (e .at) (placeIn s oid rest none)
+unfoldable pub placeIn : Forms → List ℕ → List ℕ → List Element → ℕ → ℕ
+placeIn forms s oid [] none = none
+placeIn forms s oid (e ∷ rest) none = cond (hasOid s oid (extensionOf forms s e)) (e .at) (placeIn forms s oid rest none)
 
 -- the OIDs that have a slot: 2.5.29.14 to 2.5.29.35 in slots 0 to 21, the document type list in slot 22
 unfoldable pub oidOf : ℕ → List ℕ
@@ -78,8 +79,8 @@ heldOf (Is oid critical value) =
     record { there = true; critical = critical; start = value .contents; end = value .end }
 
 -- each slot holds the first extension with its OID
-pub record Placed (s : List ℕ) (extensions : Element) (slots : List Held) : Type 0 where
-  pub each : (k : ℕ) → k < 23 → getD slots k (heldOf Absent) ≡ heldOf (lookupOf s extensions (oidOf k))
+pub record Placed (forms : Forms) (s : List ℕ) (extensions : Element) (slots : List Held) : Type 0 where
+  pub each : (k : ℕ) → k < 23 → getD slots k (heldOf Absent) ≡ heldOf (lookupOf forms s extensions (oidOf k))
 
 -- whether two extensions have one OID
 unfoldable pub sameOids : List ℕ → Extension → Extension → Bool
@@ -87,17 +88,17 @@ sameOids s Absent other = false
 sameOids s (Is oid critical value) other = hasOid s (contentsOf s oid) other
 
 -- whether one of them has the OID of this one
-unfoldable pub standsIn : List ℕ → Extension → List Element → Bool
-standsIn s extension [] = false
-standsIn s extension (e ∷ rest) = cond (sameOids s extension (extensionOf s e)) true (standsIn s extension rest)
+unfoldable pub standsIn : Forms → List ℕ → Extension → List Element → Bool
+standsIn forms s extension [] = false
+standsIn forms s extension (e ∷ rest) = cond (sameOids s extension (extensionOf forms s e)) true (standsIn forms s extension rest)
 
 -- whether some OID stands twice
-unfoldable pub doubledIn : List ℕ → List Element → Bool
-doubledIn s [] = false
-doubledIn s (e ∷ rest) = cond (standsIn s (extensionOf s e) rest) true (doubledIn s rest)
+unfoldable pub doubledIn : Forms → List ℕ → List Element → Bool
+doubledIn forms s [] = false
+doubledIn forms s (e ∷ rest) = cond (standsIn forms s (extensionOf forms s e) rest) true (doubledIn forms s rest)
 
-unfoldable pub doubledOf : List ℕ → Element → Bool
-doubledOf s extensions = doubledIn s (inside s extensions)
+unfoldable pub doubledOf : Forms → List ℕ → Element → Bool
+doubledOf forms s extensions = doubledIn forms s (inside forms s extensions)
 
 -- keyUsage 2.5.29.15 and basicConstraints 2.5.29.19
 unfoldable pub usual : List ℕ → Element → Bool
@@ -109,17 +110,17 @@ unfoldable pub refusedCritical : List ℕ → Bool → Extension → Bool
 refusedCritical s allow Absent = false
 refusedCritical s allow (Is oid critical value) = critical && not (allow && usual s oid)
 
-unfoldable pub someCritical : List ℕ → Bool → List Element → Bool
-someCritical s allow [] = false
-someCritical s allow (e ∷ rest) = cond (refusedCritical s allow (extensionOf s e)) true (someCritical s allow rest)
+unfoldable pub someCritical : Forms → List ℕ → Bool → List Element → Bool
+someCritical forms s allow [] = false
+someCritical forms s allow (e ∷ rest) = cond (refusedCritical s allow (extensionOf forms s e)) true (someCritical forms s allow rest)
 
-unfoldable pub criticalOf : List ℕ → Element → Bool → Bool
-criticalOf s extensions allow = someCritical s allow (inside s extensions)
+unfoldable pub criticalOf : Forms → List ℕ → Element → Bool → Bool
+criticalOf forms s extensions allow = someCritical forms s allow (inside forms s extensions)
 
 -- what one pass over the extensions tells
-pub record Viewed (s : List ℕ) (extensions : Element) (o : Overview) : Type 0 where
-  pub shaped : o .shaped ≡ extensionsShaped s extensions
-  pub marked : o .marked ≡ criticalOf s extensions false
-  pub critical : o .critical ≡ criticalOf s extensions true
-  pub doubled : o .doubled ≡ doubledOf s extensions
-  pub placed : Placed s extensions (o .slots)
+pub record Viewed (forms : Forms) (s : List ℕ) (extensions : Element) (o : Overview) : Type 0 where
+  pub shaped : o .shaped ≡ extensionsShaped forms s extensions
+  pub marked : o .marked ≡ criticalOf forms s extensions false
+  pub critical : o .critical ≡ criticalOf forms s extensions true
+  pub doubled : o .doubled ≡ doubledOf forms s extensions
+  pub placed : Placed forms s extensions (o .slots)

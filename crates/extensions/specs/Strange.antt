@@ -4,6 +4,7 @@ use mathlib.Core.Path.{_≡_}
 use mathlib.Core.Bool.{Bool, true, false, cond, _||_}
 use mathlib.Core.List.{List, [], _∷_}
 use lib.ListN.{take, drop}
+use Rattle.der.specs.Forms.{Forms}
 use Rattle.octets.specs.Alike.{alike}
 use Rattle.elements.specs.declared.elements.Element.{Element}
 use Rattle.elements.specs.declared.elements.Found.the-variants.{One}
@@ -26,12 +27,12 @@ unfoldable pub strangeOid : List ℕ → Extension → List (List ℕ) → List 
 strangeOid s Absent more = more
 strangeOid s (Is oid critical value) more = cond (slotless 23 (contentsOf s oid)) (contentsOf s oid ∷ more) more
 
-unfoldable pub strangeOids : List ℕ → List Element → List (List ℕ)
-strangeOids s [] = []
-strangeOids s (e ∷ rest) = strangeOid s (extensionOf s e) (strangeOids s rest)
+unfoldable pub strangeOids : Forms → List ℕ → List Element → List (List ℕ)
+strangeOids forms s [] = []
+strangeOids forms s (e ∷ rest) = strangeOid s (extensionOf forms s e) (strangeOids forms s rest)
 
-unfoldable pub strangeFrom : List ℕ → ℕ → ℕ → List (List ℕ)
-strangeFrom s from end = strangeOids s (membersOf s from end)
+unfoldable pub strangeFrom : Forms → List ℕ → ℕ → ℕ → List (List ℕ)
+strangeFrom forms s from end = strangeOids forms s (membersOf forms s from end)
 
 -- whether one of them is this one
 unfoldable pub isIn : List ℕ → List (List ℕ) → Bool
@@ -44,18 +45,18 @@ twiceIn [] = false
 twiceIn (o ∷ rest) = cond (isIn o rest) true (twiceIn rest)
 
 -- the first OID without a slot from `from` on, of the extension at `place`
-pub data Ahead (s : List ℕ) (from end : ℕ) : Stranger → Type 0 where
+pub data Ahead (forms : Forms) (s : List ℕ) (from end : ℕ) : Stranger → Type 0 where
   met :
-      {place next : ℕ} {oid : Element} → from ≤ place → place < next → next ≤ end → strangeFrom s from end ≡ strangeFrom s place end
-      → strangeFrom s place end ≡ contentsOf s oid ∷ strangeFrom s next end → Ahead s from end (At place next oid)
-  none : strangeFrom s from end ≡ [] → Ahead s from end Nothing
+      {place next : ℕ} {oid : Element} → from ≤ place → place < next → next ≤ end → strangeFrom forms s from end ≡ strangeFrom forms s place end
+      → strangeFrom forms s place end ≡ contentsOf s oid ∷ strangeFrom forms s next end → Ahead forms s from end (At place next oid)
+  none : strangeFrom forms s from end ≡ [] → Ahead forms s from end Nothing
 
 -- a member that ends at `next` and has a slot or is no extension
-pub record Passed (s : List ℕ) (at end next : ℕ) : Type 0 where
+pub record Passed (forms : Forms) (s : List ℕ) (at end next : ℕ) : Type 0 where
   pub e : Element
-  pub found : foundAt s at end ≡ One e
+  pub found : foundAt forms s at end ≡ One e
   pub ends : next ≡ e .end
-  pub familiar : (more : List (List ℕ)) → strangeOid s (extensionOf s e) more ≡ more
+  pub familiar : (more : List (List ℕ)) → strangeOid s (extensionOf forms s e) more ≡ more
 
 -- the number of the last eight octets
 unfoldable pub keyFrom : ℕ → List ℕ → ℕ
@@ -72,6 +73,6 @@ pub record Numbered (s : List ℕ) (row : Row) : Type 0 where
   pub first : row .first ≡ keyFrom 0 (take 8 (rowOid s row))
 
 -- what a round tells of all from `from` on
-pub record Compared (s : List ℕ) (from end : ℕ) (r : Round) : Type 0 where
-  pub is : twiceIn (strangeFrom s from end) ≡ (r .twice || twiceIn (strangeFrom s (r .rest) end))
+pub record Compared (forms : Forms) (s : List ℕ) (from end : ℕ) (r : Round) : Type 0 where
+  pub is : twiceIn (strangeFrom forms s from end) ≡ (r .twice || twiceIn (strangeFrom forms s (r .rest) end))
   pub left : r .rest < end → (r .twice ≡ false) × (from < r .rest)

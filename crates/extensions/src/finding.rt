@@ -6,12 +6,13 @@ use elements::Found;
 use elements::element_at;
 use elements::holds;
 ghost use mathlib.Core.Path.{_≡_};
+ghost use Rattle.der.specs.Forms.{paper};
 ghost use Rattle.elements.specs.Elements.{membersOf};
 ghost use Rattle.extensions.specs.Extensions.{hasOid, lookupOf, placeIn};
 
 // The extension with that OID, the first of them.
 pub fn lookup(item: &[u8], extensions: Element, oid: &[u8]) -> Extension
-    ensures { λ r. ⌜ r ≡ lookupOf (now (item .entry)) extensions (now (oid .entry)) ⌝ }
+    ensures { λ r. ⌜ r ≡ lookupOf paper (now (item .entry)) extensions (now (oid .entry)) ⌝ }
 {
     let end = extensions.end;
     let at = place_of(item, extensions.contents, end, oid);
@@ -23,7 +24,7 @@ pub fn lookup(item: &[u8], extensions: Element, oid: &[u8]) -> Extension
 
 // The offset of the first extension with that OID, or the end where there is none.
 fn place_of(item: &[u8], from: usize, end: usize, oid: &[u8]) -> usize
-    ensures { λ r. ⌜ r ≡ placeIn (now (item .entry)) (now (oid .entry)) (membersOf (now (item .entry)) from end) end ⌝ }
+    ensures { λ r. ⌜ r ≡ placeIn paper (now (item .entry)) (now (oid .entry)) (membersOf paper (now (item .entry)) from end) end ⌝ }
 {
     let mut at = from;
     loop {

@@ -17,6 +17,7 @@ use told::held_of;
 use told::is_critical;
 use told::unusual;
 use twice::doubled;
+ghost use Rattle.der.specs.Forms.{paper};
 ghost use Rattle.extensions.specs.Extensions.{Viewed};
 pub use finding::lookup;
 pub use outline::Outline;
@@ -54,7 +55,7 @@ pub struct Overview {
 // An OID with a slot stands twice where its slot is taken when it is met. Those without a slot are compared only where there
 // are two or more.
 pub fn one_pass(item: &[u8], extensions: Element) -> Overview
-    ensures { λ r. ⌜ Viewed (now (item .entry)) extensions r ⌝ }
+    ensures { λ r. ⌜ Viewed paper (now (item .entry)) extensions r ⌝ }
 {
     let mut shaped = extensions.tag == 0x30;
     let mut marked = false;

@@ -8,6 +8,7 @@ use elements::Found;
 use elements::element_at;
 ghost use mathlib.Core.Bool.{false};
 ghost use mathlib.Core.Path.{_≡_};
+ghost use Rattle.der.specs.Forms.{paper};
 ghost use Rattle.extensions.specs.Extensions.{extensionsShaped, criticalOf};
 
 pub struct Outline {
@@ -17,7 +18,7 @@ pub struct Outline {
 
 // Each member is met once; no slot is filled, and no OID compared. Most are passed by the fast path.
 pub fn outline_of(item: &[u8], extensions: Element) -> Outline
-    ensures { λ r. ⌜ (r .shaped ≡ extensionsShaped (now (item .entry)) extensions) × (r .marked ≡ criticalOf (now (item .entry)) extensions false) ⌝ }
+    ensures { λ r. ⌜ (r .shaped ≡ extensionsShaped paper (now (item .entry)) extensions) × (r .marked ≡ criticalOf paper (now (item .entry)) extensions false) ⌝ }
 {
     let mut shaped = extensions.tag == 0x30;
     let mut marked = false;

@@ -17,6 +17,13 @@ pub struct Row {
     pub end: usize,
 }
 
+pub(crate) const VACANT: Row = Row {
+    last: 0,
+    first: 0,
+    start: 0,
+    end: 0,
+};
+
 pub(crate) fn row_of(item: &[u8], oid: Element) -> Row
     ensures is { λ r. ⌜ rowOid (now (item .entry)) r ≡ contentsOf (now (item .entry)) oid ⌝ }
     ensures numbers { λ r. ⌜ Numbered (now (item .entry)) r ⌝ }

@@ -5,11 +5,12 @@ use elements::Found;
 use elements::element_at;
 use elements::element_tagged;
 ghost use mathlib.Core.Path.{_≡_};
+ghost use Rattle.der.specs.Forms.{paper};
 ghost use Rattle.extensions.specs.Extensions.{holdingOf, extensionOf};
 
 // SEQUENCE {OID, optional BOOLEAN which is then TRUE, OCTET STRING}.
 pub(crate) fn any_extension(item: &[u8], e: Element) -> Extension
-    ensures { λ r. ⌜ r ≡ extensionOf (now (item .entry)) e ⌝ }
+    ensures { λ r. ⌜ r ≡ extensionOf paper (now (item .entry)) e ⌝ }
 {
     if e.tag != 0x30 {
         return Extension::Absent;

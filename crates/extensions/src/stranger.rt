@@ -8,6 +8,7 @@ use elements::Found;
 use elements::element_at;
 use elements::short_end;
 ghost use Prim.Native.Nat.{_<_};
+ghost use Rattle.der.specs.Forms.{paper};
 ghost use Rattle.extensions.specs.Strange.{Ahead, Passed};
 
 // An extension whose OID has no slot: its offset, the offset after it, and its OID.
@@ -22,7 +23,7 @@ pub enum Stranger {
 
 // The first one from `from` on.
 pub(crate) fn stranger_from(item: &[u8], from: usize, end: usize) -> Stranger
-    ensures { λ r. ⌜ Ahead (now (item .entry)) from end r ⌝ }
+    ensures { λ r. ⌜ Ahead paper (now (item .entry)) from end r ⌝ }
 {
     let mut at = from;
     loop {
@@ -54,7 +55,7 @@ pub(crate) fn stranger_from(item: &[u8], from: usize, end: usize) -> Stranger
 
 // Where the member at `from` ends, before `stop`, if its headers are short and an OID of three octets with a slot opens it; else 0.
 fn slotted_end(item: &[u8], from: usize, stop: usize) -> usize
-    ensures { λ r. ⌜ (0 < r → Passed (now (item .entry)) from stop r) ⌝ }
+    ensures { λ r. ⌜ (0 < r → Passed paper (now (item .entry)) from stop r) ⌝ }
 {
     let end = short_end(item, from, stop, 0x30);
     if end == 0 {

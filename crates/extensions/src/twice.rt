@@ -1,17 +1,18 @@
 // OIDs without a slot that stand twice.
-use crate::rows::Row;
+use crate::rows::VACANT;
 use crate::rows::equal_rows;
 use crate::rows::row_of;
 use crate::stranger::Stranger;
 use crate::stranger::stranger_from;
 use elements::Element;
 ghost use mathlib.Core.Path.{_≡_};
+ghost use Rattle.der.specs.Forms.{paper};
 ghost use Rattle.elements.specs.Elements.{inside};
 ghost use Rattle.extensions.specs.Strange.{strangeOids, twiceIn, Compared};
 
 // Whether one stands twice: round by round, until none is left.
 pub(crate) fn doubled(item: &[u8], extensions: Element) -> bool
-    ensures { λ r. ⌜ r ≡ twiceIn (strangeOids (now (item .entry)) (inside (now (item .entry)) extensions)) ⌝ }
+    ensures { λ r. ⌜ r ≡ twiceIn (strangeOids paper (now (item .entry)) (inside paper (now (item .entry)) extensions)) ⌝ }
 {
     let end = extensions.end;
     let mut round = compared(item, extensions.contents, end);
@@ -29,15 +30,9 @@ pub struct Round {
 
 // Each OID is compared with those in the table, by a number of its octets first. The table takes the first 64 of them.
 fn compared(item: &[u8], from: usize, end: usize) -> Round
-    ensures { λ r. ⌜ Compared (now (item .entry)) from end r ⌝ }
+    ensures { λ r. ⌜ Compared paper (now (item .entry)) from end r ⌝ }
 {
-    let vacant = Row {
-        last: 0,
-        first: 0,
-        start: 0,
-        end: 0,
-    };
-    let mut table = [vacant; 64];
+    let mut table = [VACANT; 64];
     let mut count = 0;
     let mut rest = end;
     let mut twice = false;

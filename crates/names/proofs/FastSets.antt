@@ -7,6 +7,7 @@ use native.Mathlib.Omega.{arith}
 use borrow.Author.Tests.{eq-eqb}
 use lib.ListN.{length, getD, take, drop, length-take, length-drop}
 use lib.Seq.{getD-take, getD-drop}
+use Rattle.der.specs.Forms.{paper}
 use Rattle.der.specs.Heading.{identifierGood}
 use Rattle.elements.specs.declared.elements.Element.{Element}
 use Rattle.elements.specs.declared.elements.Found.{Found}
@@ -25,10 +26,10 @@ use Rattle.names.specs.Fast.{Another, Land}
 use Rattle.names.proofs.Sets.{attributes-country, attributes-other, attributes-done, set-filled}
 
 -- nothing starts at the end
-at-end : (s : List ℕ) (end : ℕ) → foundAt s end end ≡ Missing
-at-end s end = go (foundAt s end end) refl
+at-end : (s : List ℕ) (end : ℕ) → foundAt paper s end end ≡ Missing
+at-end s end = go (foundAt paper s end end) refl
   where
-    go : (f : Found) → foundAt s end end ≡ f → f ≡ Missing
+    go : (f : Found) → foundAt paper s end end ≡ f → f ≡ Missing
     go Missing e = refl
     go (One x) e = absurd (omega (arith, found-within s end end e))
 
@@ -46,8 +47,8 @@ unlike s at end h n = unequal-unlike _ _ λ e. n (last e)
 
 module _ (s : List ℕ) (at end tag : ℕ) {after value : ℕ} (some : 0 < after) (set : after ≡ shortEnd s at end 0x31) where
   other :
-      foundAt s (at + 2 + 2) after ≡ One (brief 0x06 (at + 2 + 2) value) → foundAt s value after ≡ One (brief tag value after)
-      → value ≤ length s → (getD s (value - 1) 0 ≡ 6 → ⊥) → attributeOf s (brief 0x30 (at + 2) after) ≡ Other
+      foundAt paper s (at + 2 + 2) after ≡ One (brief 0x06 (at + 2 + 2) value) → foundAt paper s value after ≡ One (brief tag value after)
+      → value ≤ length s → (getD s (value - 1) 0 ≡ 6 → ⊥) → attributeOf paper s (brief 0x30 (at + 2) after) ≡ Other
   unfolding attributeOf foundTagged withTag onFound contentsOf
   other h g l n = rw (h, g, eq-eqb after after refl, unlike s (at + 2 + 2 + 2) value l n)
 
@@ -78,8 +79,8 @@ is-country s at l a b c =
 
 module _ (s : List ℕ) (at end : ℕ) {after : ℕ} (some : 0 < after) (set : after ≡ shortEnd s at end 0x31) where
   country :
-      foundAt s (at + 2 + 2) after ≡ One (brief 0x06 (at + 2 + 2) (at + 9)) → foundAt s (at + 9) after ≡ One (brief 0x13 (at + 9) after)
-      → take 3 (drop (at + 6) s) ≡ countryName → attributeOf s (brief 0x30 (at + 2) after) ≡ Country (brief 0x13 (at + 9) after)
+      foundAt paper s (at + 2 + 2) after ≡ One (brief 0x06 (at + 2 + 2) (at + 9)) → foundAt paper s (at + 9) after ≡ One (brief 0x13 (at + 9) after)
+      → take 3 (drop (at + 6) s) ≡ countryName → attributeOf paper s (brief 0x30 (at + 2) after) ≡ Country (brief 0x13 (at + 9) after)
   unfolding attributeOf foundTagged withTag onFound contentsOf
   country h g o =
       let wide : at + 9 - (at + 2 + 2 + 2) ≡ 3 = omega arith in

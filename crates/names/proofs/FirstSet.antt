@@ -10,6 +10,7 @@ use borrow.Author.Tests.{ltb-false}
 use lib.Dec.{ltb, eqb}
 use lib.ListN.{length, getD, take, drop, length-take}
 use lib.Seq.{getD-take, getD-drop}
+use Rattle.der.specs.Forms.{paper}
 use Rattle.octets.specs.Alike.{alike}
 use Rattle.octets.proofs.Likeness.{alike-is}
 use Rattle.elements.specs.declared.elements.Element.{Element}
@@ -50,35 +51,35 @@ module _ (s : List ℕ) (value : Element) where
   one-still other seen (inr e) = rw e (inr refl)
 
   attributes-still :
-      (es : List Element) (seen now : Seen) → Still value seen → attributesOf s es seen ≡ Holds now → Still value now
+      (es : List Element) (seen now : Seen) → Still value seen → attributesOf paper s es seen ≡ Holds now → Still value now
   unfolding attributesOf attributed
   attributes-still [] seen now still h = let e : seen ≡ now = cc in rw (← e) still
-  attributes-still (e ∷ es) seen now still h = go (λ more. attributes-still es more now) (attributeOf s e) h
+  attributes-still (e ∷ es) seen now still h = go (λ more. attributes-still es more now) (attributeOf paper s e) h
     where
       go :
-          ((more : Seen) → Still value more → attributesOf s es more ≡ Holds now → Still value now)
-          → (a : Attribute) → attributed a seen (λ more. attributesOf s es more) ≡ Holds now → Still value now
+          ((more : Seen) → Still value more → attributesOf paper s es more ≡ Holds now → Still value now)
+          → (a : Attribute) → attributed a seen (λ more. attributesOf paper s es more) ≡ Holds now → Still value now
       go rest Misshapen k = absurd (no-name k)
       go rest Other k = rest seen still k
       go rest (Country other) k = rest (oneMore seen other) (one-still other seen still) k
 
-  set-still : (e : Element) (seen now : Seen) → Still value seen → oneSet s e seen ≡ Holds now → Still value now
+  set-still : (e : Element) (seen now : Seen) → Still value seen → oneSet paper s e seen ≡ Holds now → Still value now
   unfolding oneSet
-  set-still e seen now still = go (eqb (e .tag) 0x31) (eqb (length (inside s e)) 0)
+  set-still e seen now still = go (eqb (e .tag) 0x31) (eqb (length (inside paper s e)) 0)
     where
-      go : (a b : Bool) → cond a (cond b Shapeless (attributesOf s (inside s e) seen)) Shapeless ≡ Holds now → Still value now
+      go : (a b : Bool) → cond a (cond b Shapeless (attributesOf paper s (inside paper s e) seen)) Shapeless ≡ Holds now → Still value now
       go true true k = absurd (no-name k)
-      go true false k = attributes-still (inside s e) seen now still k
+      go true false k = attributes-still (inside paper s e) seen now still k
       go false b k = absurd (no-name k)
 
-  sets-still : (es : List Element) (seen now : Seen) → Still value seen → setsOf s es seen ≡ Holds now → Still value now
+  sets-still : (es : List Element) (seen now : Seen) → Still value seen → setsOf paper s es seen ≡ Holds now → Still value now
   unfolding setsOf afterSet
   sets-still [] seen now still h = let e : seen ≡ now = cc in rw (← e) still
-  sets-still (e ∷ es) seen now still h = go (λ more. sets-still es more now) (oneSet s e seen) refl h
+  sets-still (e ∷ es) seen now still h = go (λ more. sets-still es more now) (oneSet paper s e seen) refl h
     where
       go :
-          ((more : Seen) → Still value more → setsOf s es more ≡ Holds now → Still value now)
-          → (v : Name) → oneSet s e seen ≡ v → afterSet v (λ more. setsOf s es more) ≡ Holds now → Still value now
+          ((more : Seen) → Still value more → setsOf paper s es more ≡ Holds now → Still value now)
+          → (v : Name) → oneSet paper s e seen ≡ v → afterSet v (λ more. setsOf paper s es more) ≡ Holds now → Still value now
       go rest Shapeless p k = absurd (no-name k)
       go rest (Holds more) p k = rest more (set-still e seen more still p) k
 
@@ -137,7 +138,7 @@ module _ (s : List ℕ) (at end : ℕ) (inside : end ≤ length s) (fits : at + 
 
 -- The letters of a name that holds countryName once are its country's.
 pub country-letters :
-    (s : List ℕ) (e : Element) (seen : Seen) (a b : ℕ) → nameOf s e ≡ Holds seen → lettersOf s seen ≡ Two a b → countryIn s e ≡ Two a b
+    (s : List ℕ) (e : Element) (seen : Seen) (a b : ℕ) → nameOf paper s e ≡ Holds seen → lettersOf s seen ≡ Two a b → countryIn paper s e ≡ Two a b
 unfolding countryIn begins contentsOf nameOf inside onName oneMore
 country-letters s e seen a b name two =
     go (ltb (length c) 13) refl (alike (take 11 c) usualSet) refl (eqb (e .tag) 0x30) name
@@ -146,8 +147,8 @@ country-letters s e seen a b name two =
     c = take (e .end - e .contents) (drop (e .contents) s)
 
     usual :
-        13 ≤ length c → take 11 c ≡ usualSet → (f : Found) → foundAt s (e .contents) (e .end) ≡ f
-        → setsOf s (membersOf s (e .contents) (e .end)) Never ≡ Holds seen → lettersOf s (Once (usualValue (e .contents))) ≡ Two a b
+        13 ≤ length c → take 11 c ≡ usualSet → (f : Found) → foundAt paper s (e .contents) (e .end) ≡ f
+        → setsOf paper s (membersOf paper s (e .contents) (e .end)) Never ≡ Holds seen → lettersOf s (Once (usualValue (e .contents))) ≡ Two a b
     usual long is Missing f h = absurd (never (sym (sets-done s (e .contents) (e .end) Never f) ∙ h))
       where
         never : _≡_ {A = Name} (Holds Never) (Holds seen) → ⊥
@@ -158,17 +159,17 @@ country-letters s e seen a b name two =
         let fits : e .contents + 13 ≤ e .end = omega (arith, length-take (e .end - e .contents) (drop (e .contents) s)) in
         let land = usual-land s (e .contents) (e .end) inside fits (usual-octet s (e .contents) (e .end - e .contents) long is) in
         still-letters s (usualValue (e .contents)) seen
-        (sets-still s (usualValue (e .contents)) (membersOf s (e .contents + 13) (e .end)) (oneMore Never (usualValue (e .contents))) seen (inl refl)
+        (sets-still s (usualValue (e .contents)) (membersOf paper s (e .contents + 13) (e .end)) (oneMore Never (usualValue (e .contents))) seen (inl refl)
         (sym (sets-country s (e .contents) (e .end) Never land) ∙ h))
         two
 
     go :
         (short : Bool) → ltb (length c) 13 ≡ short → (like : Bool) → alike (take 11 c) usualSet ≡ like → (tagged : Bool)
-        → cond tagged (setsOf s (membersOf s (e .contents) (e .end)) Never) Shapeless ≡ Holds seen
+        → cond tagged (setsOf paper s (membersOf paper s (e .contents) (e .end)) Never) Shapeless ≡ Holds seen
         → cond (cond short false like) (lettersOf s (Once (usualValue (e .contents))))
-        (onName (cond tagged (setsOf s (membersOf s (e .contents) (e .end)) Never) Shapeless) Unfit λ more. lettersOf s more)
+        (onName (cond tagged (setsOf paper s (membersOf paper s (e .contents) (e .end)) Never) Shapeless) Unfit λ more. lettersOf s more)
         ≡ Two a b
     go true p like q tagged h = rw h two
     go false p false q tagged h = rw h two
     go false p true q false h = absurd (no-name h)
-    go false p true q true h = usual (ltb-false _ _ p) (alike-is _ _ q) (foundAt s (e .contents) (e .end)) refl h
+    go false p true q true h = usual (ltb-false _ _ p) (alike-is _ _ q) (foundAt paper s (e .contents) (e .end)) refl h

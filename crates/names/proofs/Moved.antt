@@ -109,7 +109,7 @@ module _ (s t : List ℕ) (a b size : ℕ) (same : take size (drop a s) ≡ take
         high = omega (arith, w .0, w .1, l);
       })
 
-  found-both : (m n p q : ℕ) → m + b ≡ p + a → n + b ≡ q + a → a ≤ m → n ≤ a + size → Both (foundAt s m n) (foundAt t p q)
+  found-both : (m n p q : ℕ) → m + b ≡ p + a → n + b ≡ q + a → a ≤ m → n ≤ a + size → Both (foundAt paper s m n) (foundAt paper t p q)
   unfolding foundAt stepped memberOf
   found-both m n p q e f low high = go (leb m n) refl (leb p q) refl
     where
@@ -149,25 +149,25 @@ module _ (s t : List ℕ) (a b size : ℕ) (same : take size (drop a s) ≡ take
 
   members-both :
       (fuel m n p q : ℕ) → n - m ≤ fuel → m + b ≡ p + a → n + b ≡ q + a → a ≤ m → n ≤ a + size
-      → Lists (membersOf s m n) (membersOf t p q)
-  members-both zero m n p q enough e f low high = go (foundAt s m n) (foundAt t p q) refl refl (found-both m n p q e f low high)
+      → Lists (membersOf paper s m n) (membersOf paper t p q)
+  members-both zero m n p q enough e f low high = go (foundAt paper s m n) (foundAt paper t p q) refl refl (found-both m n p q e f low high)
     where
-      go : (u v : Found) → foundAt s m n ≡ u → foundAt t p q ≡ v → Both u v → Lists (membersOf s m n) (membersOf t p q)
+      go : (u v : Found) → foundAt paper s m n ≡ u → foundAt paper t p q ≡ v → Both u v → Lists (membersOf paper s m n) (membersOf paper t p q)
       go Missing Missing g h neither = rw (members-none s m n g, members-none t p q h) none
       go (One x) (One y) g h (each w) = absurd (omega (arith, found-within s m n g))
   members-both (suc fuel) m n p q enough e f low high =
-      go (λ x y. members-both fuel (x .end) n (y .end) q) (foundAt s m n) (foundAt t p q) refl refl (found-both m n p q e f low high)
+      go (λ x y. members-both fuel (x .end) n (y .end) q) (foundAt paper s m n) (foundAt paper t p q) refl refl (found-both m n p q e f low high)
     where
       go :
           ((x y : Element) → n - x .end ≤ fuel → x .end + b ≡ y .end + a → n + b ≡ q + a → a ≤ x .end → n ≤ a + size
-          → Lists (membersOf s (x .end) n) (membersOf t (y .end) q))
-          → (u v : Found) → foundAt s m n ≡ u → foundAt t p q ≡ v → Both u v → Lists (membersOf s m n) (membersOf t p q)
+          → Lists (membersOf paper s (x .end) n) (membersOf paper t (y .end) q))
+          → (u v : Found) → foundAt paper s m n ≡ u → foundAt paper t p q ≡ v → Both u v → Lists (membersOf paper s m n) (membersOf paper t p q)
       go rest Missing Missing g h neither = rw (members-none s m n g, members-none t p q h) none
       go rest (One x) (One y) g h (each w) =
           rw (members-more s m n g, members-more t p q h)
           (more w (rest x y (omega (arith, found-within s m n g)) (w .end) f (omega (arith, w .low, w .order)) high))
 
-  inside-both : {x y : Element} → Twin x y → Lists (inside s x) (inside t y)
+  inside-both : {x y : Element} → Twin x y → Lists (inside paper s x) (inside paper t y)
   unfolding inside
   inside-both {x} {y} w = members-both (x .end - x .contents) (x .contents) (x .end) (y .contents) (y .end) (omega arith) (w .contents) (w .end) (w .low) (w .high)
 
@@ -176,7 +176,7 @@ module _ (s t : List ℕ) (a b size : ℕ) (same : take size (drop a s) ≡ take
     other : Tells Other Other
     country : {x y : Element} → Twin x y → Tells (Country x) (Country y)
 
-  attribute-both : {x y : Element} → Twin x y → Tells (attributeOf s x) (attributeOf t y)
+  attribute-both : {x y : Element} → Twin x y → Tells (attributeOf paper s x) (attributeOf paper t y)
   unfolding attributeOf foundTagged
   attribute-both {x} {y} w =
       cond-both Tells (eqb (x .tag) 0x30) (eqb (y .tag) 0x30) (tag-same w 0x30)
@@ -213,16 +213,16 @@ module _ (s t : List ℕ) (a b size : ℕ) (same : take size (drop a s) ≡ take
   attributed-both {p = p} {q = q} other e next = next p q e
   attributed-both {p = p} {q = q} (country {x = x} {y = y} w) e next = next (oneMore p x) (oneMore q y) (one-both e w)
 
-  attributes-both : {xs ys : List Element} → Lists xs ys → (p q : Seen) → Sees p q → Names (attributesOf s xs p) (attributesOf t ys q)
+  attributes-both : {xs ys : List Element} → Lists xs ys → (p q : Seen) → Sees p q → Names (attributesOf paper s xs p) (attributesOf paper t ys q)
   unfolding attributesOf
   attributes-both none p q e = holds e
   attributes-both (more w l) p q e = attributed-both (attribute-both w) e (λ g h f. attributes-both l g h f)
 
-  set-both : {x y : Element} → Twin x y → (p q : Seen) → Sees p q → Names (oneSet s x p) (oneSet t y q)
+  set-both : {x y : Element} → Twin x y → (p q : Seen) → Sees p q → Names (oneSet paper s x p) (oneSet paper t y q)
   unfolding oneSet
   set-both {x} {y} w p q e =
       cond-both Names (eqb (x .tag) 0x31) (eqb (y .tag) 0x31) (tag-same w 0x31)
-      (cond-both Names (eqb (length (inside s x)) 0) (eqb (length (inside t y)) 0) (ap (λ (n : ℕ). eqb n 0) (lists-long (inside-both w))) shapeless
+      (cond-both Names (eqb (length (inside paper s x)) 0) (eqb (length (inside paper t y)) 0) (ap (λ (n : ℕ). eqb n 0) (lists-long (inside-both w))) shapeless
       (attributes-both (inside-both w) p q e))
       shapeless
 
@@ -232,12 +232,12 @@ module _ (s t : List ℕ) (a b size : ℕ) (same : take size (drop a s) ≡ take
   after-both shapeless next = shapeless
   after-both (holds {p = p} {q = q} e) next = next p q e
 
-  sets-both : {xs ys : List Element} → Lists xs ys → (p q : Seen) → Sees p q → Names (setsOf s xs p) (setsOf t ys q)
+  sets-both : {xs ys : List Element} → Lists xs ys → (p q : Seen) → Sees p q → Names (setsOf paper s xs p) (setsOf paper t ys q)
   unfolding setsOf
   sets-both none p q e = holds e
   sets-both (more w l) p q e = after-both (set-both w p q e) (λ g h f. sets-both l g h f)
 
-  name-both : {x y : Element} → Twin x y → Names (nameOf s x) (nameOf t y)
+  name-both : {x y : Element} → Twin x y → Names (nameOf paper s x) (nameOf paper t y)
   unfolding nameOf
   name-both {x} {y} w =
       cond-both Names (eqb (x .tag) 0x30) (eqb (y .tag) 0x30) (tag-same w 0x30) (sets-both (inside-both w) Never Never never) shapeless
@@ -249,8 +249,8 @@ module _ (s t : List ℕ) (a b size : ℕ) (same : take size (drop a s) ≡ take
   letters-both (once {x = x} {y = y} w) = ap (λ (n : ℕ). lettersIn n (contentsOf s x)) (w .tag) ∙ ap (lettersIn (y .tag)) (twin-contents w)
 
   -- the letters of one name are those of the other
-  pub moved-letters : {x y : Element} {p q : Seen} → Twin x y → nameOf s x ≡ Holds p → nameOf t y ≡ Holds q → lettersOf s p ≡ lettersOf t q
-  moved-letters {x} {y} {p} {q} w e f = go (nameOf s x) (nameOf t y) e f (name-both w)
+  pub moved-letters : {x y : Element} {p q : Seen} → Twin x y → nameOf paper s x ≡ Holds p → nameOf paper t y ≡ Holds q → lettersOf s p ≡ lettersOf t q
+  moved-letters {x} {y} {p} {q} w e f = go (nameOf paper s x) (nameOf paper t y) e f (name-both w)
     where
       go : (u v : Name) → u ≡ Holds p → v ≡ Holds q → Names u v → lettersOf s p ≡ lettersOf t q
       go Shapeless Shapeless g h shapeless = absurd (let z : _≡_ {A = ℕ} 0 1 = cc in omega arith)

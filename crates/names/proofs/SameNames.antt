@@ -11,7 +11,7 @@ use lib.Seq.{length-take-le, getD-take, getD-drop}
 use Rattle.der.specs.declared.heading.Heading.{Heading}
 use Rattle.der.specs.declared.heading.Heading.the-variants.{Header, Bad}
 use Rattle.der.specs.Forms.{paper}
-use Rattle.der.specs.Heading.{identifierGood, within, smallest, long, headingOf}
+use Rattle.der.specs.Heading.{identifierGood, within, smallest, long, sized, wideHeading, headingOf}
 use Rattle.der.specs.Member.{placed, memberOf}
 use Rattle.der.specs.declared.stepping.Step.the-variants.{Nothing}
 use Rattle.elements.specs.declared.elements.Element.{Element}
@@ -32,9 +32,9 @@ unfoldable skipOf : ℕ → ℕ
 skipOf octet = cond (ltb octet 128) 2 (2 + (octet - 128))
 
 heading-skip : (s : List ℕ) (tag skip count : ℕ) → headingOf paper s ≡ Header tag skip count → skip ≡ skipOf (getD s 1 0)
-unfolding headingOf long within skipOf
+unfolding headingOf sized wideHeading long within skipOf
 heading-skip s tag skip count e =
-    go (ltb (length s) 2) (identifierGood (getD s 0 0)) (ltb (getD s 1 0) 128) (leb (2 + getD s 1 0) (length s))
+    go (ltb (length s) 2) (identifierGood (getD s 0 0)) (leb (length s) 1) (ltb (getD s 1 0) 128) (leb (2 + getD s 1 0) (length s))
     (leb 1 k && (leb k (paper .lengthOctets) && leb (2 + k) (length s))) (leb (smallest k) (number (take k (drop 2 s))))
     (leb (2 + k + number (take k (drop 2 s))) (length s)) e
   where
@@ -45,25 +45,27 @@ heading-skip s tag skip count e =
     bad p = absurd (let z : _≡_ {A = ℕ} 0 1 = cc in omega arith)
 
     go :
-        (x y short fits many least room : Bool)
+        (x y none short fits many least room : Bool)
         → cond x Bad
         (cond y
+        (cond none Bad
         (cond short (cond fits (Header (getD s 0 0) 2 (getD s 1 0)) Bad)
-        (cond many (cond least (cond room (Header (getD s 0 0) (2 + k) (number (take k (drop 2 s)))) Bad) Bad) Bad))
+        (cond many (cond least (cond room (Header (getD s 0 0) (2 + k) (number (take k (drop 2 s)))) Bad) Bad) Bad)))
         Bad)
         ≡ Header tag skip count
         → skip ≡ cond short 2 (2 + k)
-    go true y short fits many least room p = bad p
-    go false false short fits many least room p = bad p
-    go false true true false many least room p = bad p
-    go false true true true many least room p = cc
-    go false true false fits false least room p = bad p
-    go false true false fits true false room p = bad p
-    go false true false fits true true false p = bad p
-    go false true false fits true true true p = cc
+    go true y none short fits many least room p = bad p
+    go false false none short fits many least room p = bad p
+    go false true true short fits many least room p = bad p
+    go false true false true false many least room p = bad p
+    go false true false true true many least room p = cc
+    go false true false false fits false least room p = bad p
+    go false true false false fits true false room p = bad p
+    go false true false false fits true true false p = bad p
+    go false true false false fits true true true p = cc
 
 -- where the contents of an element start, by its second octet
-contents-at : (s : List ℕ) (from end : ℕ) (e : Element) → foundAt s from end ≡ One e → e .contents ≡ from + skipOf (getD s (from + 1) 0)
+contents-at : (s : List ℕ) (from end : ℕ) (e : Element) → foundAt paper s from end ≡ One e → e .contents ≡ from + skipOf (getD s (from + 1) 0)
 unfolding foundAt stepped memberOf placed
 contents-at s from end e h =
     let w = found-within s from end h in
@@ -86,10 +88,10 @@ contents-at s from end e h =
 pub record NameAt (s : List ℕ) (at size first second : ℕ) : Type 0 where
   pub element : Element
   pub end : ℕ
-  pub found : foundTagged s at end 0x30 ≡ One element
+  pub found : foundTagged paper s at end 0x30 ≡ One element
   pub long : size ≡ element .end - at
   pub seen : Seen
-  pub named : nameOf s element ≡ Holds seen
+  pub named : nameOf paper s element ≡ Holds seen
   pub letters : lettersOf s seen ≡ Two first second
 
 tagged-found : (f : Found) (tag : ℕ) (e : Element) → withTag tag f ≡ One e → (f ≡ One e) × (e .tag ≡ tag)
@@ -109,8 +111,8 @@ unfolding foundTagged
 same-letters {s} {t} {at} {size} {from} {other} {a} {b} {c} {d} x y same =
     let e = x .element in
     let f = y .element in
-    let u = tagged-found (foundAt s at (x .end)) 0x30 e (x .found) in
-    let v = tagged-found (foundAt t from (y .end)) 0x30 f (y .found) in
+    let u = tagged-found (foundAt paper s at (x .end)) 0x30 e (x .found) in
+    let v = tagged-found (foundAt paper t from (y .end)) 0x30 f (y .found) in
     let g = found-within s at (x .end) (u .0) in
     let h = found-within t from (y .end) (v .0) in
     let wide : length (take size (drop at s)) ≡ size = length-take-le size (drop at s) (rw length-drop (omega (arith, g, x .long))) in

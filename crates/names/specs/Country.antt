@@ -4,6 +4,7 @@ use mathlib.Core.Bool.{Bool, false, cond}
 use mathlib.Core.List.{List, [], _∷_}
 use lib.Dec.{ltb}
 use lib.ListN.{length, take}
+use Rattle.der.specs.Forms.{Forms}
 use Rattle.octets.specs.Alike.{alike}
 use Rattle.elements.specs.declared.elements.Element.{Element}
 use Rattle.elements.specs.Elements.{contentsOf}
@@ -24,7 +25,7 @@ abbrev pub usualValue : ℕ → Element
 usualValue at = record { tag = 0x13; at = at + 9; contents = at + 11; end = at + 13 }
 
 -- The letters of that SET, else those of the whole name. Where a name holds countryName once these are the same.
-unfoldable pub countryIn : List ℕ → Element → Letters
-countryIn s e =
+unfoldable pub countryIn : Forms → List ℕ → Element → Letters
+countryIn forms s e =
     cond (begins (contentsOf s e)) (lettersOf s (Once (usualValue (e .contents))))
-    (onName (nameOf s e) Unfit λ seen. lettersOf s seen)
+    (onName (nameOf forms s e) Unfit λ seen. lettersOf s seen)

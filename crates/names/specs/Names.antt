@@ -4,6 +4,7 @@ use mathlib.Core.Bool.{Bool, true, false, cond, _&&_}
 use mathlib.Core.List.{List, [], _∷_}
 use lib.Dec.{leb, eqb}
 use lib.ListN.{length, getD}
+use Rattle.der.specs.Forms.{Forms}
 use Rattle.elements.specs.declared.elements.Element.{Element}
 use Rattle.names.specs.declared.Attribute.{Attribute}
 use Rattle.names.specs.declared.Attribute.the-variants.{Country, Other, Misshapen}
@@ -21,11 +22,11 @@ abbrev pub countryName : List ℕ
 countryName = 0x55 ∷ 0x04 ∷ 0x06 ∷ []
 
 -- SEQUENCE {OID, one element}
-unfoldable pub attributeOf : List ℕ → Element → Attribute
-attributeOf s e =
+unfoldable pub attributeOf : Forms → List ℕ → Element → Attribute
+attributeOf forms s e =
     cond (eqb (e .tag) 0x30)
-    (onFound (foundTagged s (e .contents) (e .end) 0x06) Misshapen λ oid.
-    onFound (foundAt s (oid .end) (e .end)) Misshapen λ value.
+    (onFound (foundTagged forms s (e .contents) (e .end) 0x06) Misshapen λ oid.
+    onFound (foundAt forms s (oid .end) (e .end)) Misshapen λ value.
     cond (eqb (value .end) (e .end)) (cond (alike (contentsOf s oid) countryName) (Country value) Other) Misshapen)
     Misshapen
 
@@ -41,27 +42,27 @@ attributed Other seen next = next seen
 attributed (Country value) seen next = next (oneMore seen value)
 
 -- the attributes of a SET
-unfoldable pub attributesOf : List ℕ → List Element → Seen → Name
-attributesOf s [] seen = Holds seen
-attributesOf s (e ∷ rest) seen = attributed (attributeOf s e) seen λ more. attributesOf s rest more
+unfoldable pub attributesOf : Forms → List ℕ → List Element → Seen → Name
+attributesOf forms s [] seen = Holds seen
+attributesOf forms s (e ∷ rest) seen = attributed (attributeOf forms s e) seen λ more. attributesOf forms s rest more
 
 -- a SET, which is not empty
-unfoldable pub oneSet : List ℕ → Element → Seen → Name
-oneSet s e seen =
-    cond (eqb (e .tag) 0x31) (cond (eqb (length (inside s e)) 0) Shapeless (attributesOf s (inside s e) seen)) Shapeless
+unfoldable pub oneSet : Forms → List ℕ → Element → Seen → Name
+oneSet forms s e seen =
+    cond (eqb (e .tag) 0x31) (cond (eqb (length (inside forms s e)) 0) Shapeless (attributesOf forms s (inside forms s e) seen)) Shapeless
 
 unfoldable pub afterSet : Name → (Seen → Name) → Name
 afterSet Shapeless next = Shapeless
 afterSet (Holds seen) next = next seen
 
 -- the SETs of a name
-unfoldable pub setsOf : List ℕ → List Element → Seen → Name
-setsOf s [] seen = Holds seen
-setsOf s (e ∷ rest) seen = afterSet (oneSet s e seen) λ more. setsOf s rest more
+unfoldable pub setsOf : Forms → List ℕ → List Element → Seen → Name
+setsOf forms s [] seen = Holds seen
+setsOf forms s (e ∷ rest) seen = afterSet (oneSet forms s e seen) λ more. setsOf forms s rest more
 
 -- a name: what it holds of countryNames, over all its SETs
-unfoldable pub nameOf : List ℕ → Element → Name
-nameOf s e = cond (eqb (e .tag) 0x30) (setsOf s (inside s e) Never) Shapeless
+unfoldable pub nameOf : Forms → List ℕ → Element → Name
+nameOf forms s e = cond (eqb (e .tag) 0x30) (setsOf forms s (inside forms s e) Never) Shapeless
 
 unfoldable pub isCapital : ℕ → Bool
 isCapital o = leb 65 o && leb o 90

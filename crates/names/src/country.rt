@@ -9,11 +9,12 @@ use elements::contents;
 use octets::part;
 use octets::same;
 ghost use mathlib.Core.Path.{_≡_};
+ghost use Rattle.der.specs.Forms.{paper};
 ghost use Rattle.names.specs.Country.{begins, countryIn};
 
 // The letters of a name that holds countryName once. Where the first SET is a countryName in its usual form, nothing is read behind it.
 pub fn country_in(item: &[u8], e: Element) -> Letters
-    ensures { λ r. ⌜ r ≡ countryIn (now (item .entry)) e ⌝ }
+    ensures { λ r. ⌜ r ≡ countryIn paper (now (item .entry)) e ⌝ }
 {
     if begins_usual(contents(item, e)) {
         let at = e.contents;

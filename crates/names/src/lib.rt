@@ -11,6 +11,7 @@ use elements::holds;
 use fast::country_set;
 use fast::other_set;
 ghost use mathlib.Core.Path.{_≡_};
+ghost use Rattle.der.specs.Forms.{paper};
 ghost use Rattle.names.specs.Names.{attributeOf, oneMore, oneSet, nameOf, isCapital, lettersOf, firstLetter, secondLetter};
 pub use country::country_in;
 
@@ -42,7 +43,7 @@ pub enum Letters {
 
 // A SEQUENCE of non-empty SETs of SEQUENCE {OID, one element}.
 pub fn name_of(item: &[u8], e: Element) -> Name
-    ensures { λ r. ⌜ r ≡ nameOf (now (item .entry)) e ⌝ }
+    ensures { λ r. ⌜ r ≡ nameOf paper (now (item .entry)) e ⌝ }
 {
     if e.tag != 0x30 {
         return Name::Shapeless;
@@ -80,7 +81,7 @@ pub fn name_of(item: &[u8], e: Element) -> Name
 
 // One SET of a name, after the countryNames seen before it.
 fn set_of(item: &[u8], e: Element, before: Seen) -> Name
-    ensures { λ r. ⌜ r ≡ oneSet (now (item .entry)) e before ⌝ }
+    ensures { λ r. ⌜ r ≡ oneSet paper (now (item .entry)) e before ⌝ }
 {
     if e.tag != 0x31 {
         return Name::Shapeless;
@@ -105,7 +106,7 @@ fn set_of(item: &[u8], e: Element, before: Seen) -> Name
 
 // SEQUENCE {OID, one element}; 2.5.4.6 is countryName.
 fn attribute_of(item: &[u8], e: Element) -> Attribute
-    ensures { λ r. ⌜ r ≡ attributeOf (now (item .entry)) e ⌝ }
+    ensures { λ r. ⌜ r ≡ attributeOf paper (now (item .entry)) e ⌝ }
 {
     if e.tag != 0x30 {
         return Attribute::Misshapen;

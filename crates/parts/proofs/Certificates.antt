@@ -6,6 +6,7 @@ use mathlib.Core.List.{List}
 use native.Mathlib.Omega.{arith}
 use borrow.Author.Tests.{eqb-true, not-false}
 use lib.Dec.{eqb}
+use Rattle.der.specs.Forms.{paper}
 use Rattle.der.specs.Heading.{constructed}
 use Rattle.tree.specs.Tree.{Tree, node, Trees, none, more, tagOf}
 use Rattle.elements.specs.declared.elements.Element.{Element}
@@ -75,26 +76,26 @@ pub record Laid (s : List ℕ) (l : Layout) : Type 0 where
   pub outer : Element
   pub version : Element
   pub validity : Element
-  pub around : envelopeOf s ≡ envelope.Parts tbs outer
+  pub around : envelopeOf paper s ≡ envelope.Parts tbs outer
   pub front : frontOf s tbs ≡ Opens version (l .serial) (l .inner) (l .issuer) validity
   pub back : backOf s (validity .end) (tbs .end) ≡ Closes (l .subject) (l .key) (l .unique) (l .extensions)
-  pub shaped : extensionsShaped s (l .extensions) ≡ true
+  pub shaped : extensionsShaped paper s (l .extensions) ≡ true
   pub times : validityOf s validity ≡ Times (l .start) (l .finish)
-  pub named : nameOf s (l .issuer) ≡ Holds (l .«issuer_country»)
-  pub addressed : nameOf s (l .subject) ≡ Holds (l .«subject_country»)
+  pub named : nameOf paper s (l .issuer) ≡ Holds (l .«issuer_country»)
+  pub addressed : nameOf paper s (l .subject) ≡ Holds (l .«subject_country»)
 
 pub laid-out : (s : List ℕ) (l : Layout) → layoutOf s ≡ Parts l → Laid s l
 unfolding layoutOf partsOf
 laid-out s l e =
     let p = by-parts (partsOf s) _ e in
     let m = p .0 in
-    let a = by-envelope (envelopeOf s) Broken _ (Parts m) broken (p .1) in
+    let a = by-envelope (envelopeOf paper s) Broken _ (Parts m) broken (p .1) in
     let b = by-front (frontOf s (a .0)) _ (a .3) in
     let c = by-validity (validityOf s (b .4)) _ (b .6) in
     let d = by-back (backOf s (b .4 .end) (a .0 .end)) _ (c .3) in
-    let f = by-name (nameOf s (b .3)) Broken _ (Parts m) broken (d .5) in
-    let g = by-name (nameOf s (d .0)) Broken _ (Parts m) broken (f .2) in
-    let h = kept (extensionsShaped s (m .extensions)) _ Broken (Parts l) broken (p .2) in
+    let f = by-name (nameOf paper s (b .3)) Broken _ (Parts m) broken (d .5) in
+    let g = by-name (nameOf paper s (d .0)) Broken _ (Parts m) broken (f .2) in
+    let h = kept (extensionsShaped paper s (m .extensions)) _ Broken (Parts l) broken (p .2) in
     let found = parts-same (g .2) in
     subst (Laid s) (found ∙ parts-same (h .1))
     (record {
@@ -105,7 +106,7 @@ laid-out s l e =
       around = a .2;
       front = b .5;
       back = d .4;
-      shaped = subst (λ (n : Layout). extensionsShaped s (n .extensions) ≡ true) (sym found) (h .0);
+      shaped = subst (λ (n : Layout). extensionsShaped paper s (n .extensions) ≡ true) (sym found) (h .0);
       times = c .2;
       named = f .1;
       addressed = g .1;
@@ -144,16 +145,16 @@ pub front-members :
 unfolding frontOf
 front-members s tbs a b c d v members sp e =
     let r = Opens a b c d v in
-    let f1 = went (foundTagged s (tbs .contents) (tbs .end) 0xA0) Frontless _ r frontless e in
+    let f1 = went (foundTagged paper s (tbs .contents) (tbs .end) 0xA0) Frontless _ r frontless e in
     let t1 = tagged-first s _ (tbs .end) 0xA0 members (f1 .element) sp (f1 .there) in
-    let f2 = went (onlyOf s (f1 .element) 0x02) Frontless _ r frontless (f1 .then) in
-    let f3 = went (foundTagged s (f1 .element .end) (tbs .end) 0x02) Frontless _ r frontless (f2 .then) in
+    let f2 = went (onlyOf paper s (f1 .element) 0x02) Frontless _ r frontless (f1 .then) in
+    let f3 = went (foundTagged paper s (f1 .element .end) (tbs .end) 0x02) Frontless _ r frontless (f2 .then) in
     let t3 = tagged-first s _ (tbs .end) 0x02 (t1 .rest) (f3 .element) (t1 .member .next) (f3 .there) in
-    let f4 = went (foundTagged s (f3 .element .end) (tbs .end) 0x30) Frontless _ r frontless (f3 .then) in
+    let f4 = went (foundTagged paper s (f3 .element .end) (tbs .end) 0x30) Frontless _ r frontless (f3 .then) in
     let t4 = tagged-first s _ (tbs .end) 0x30 (t3 .rest) (f4 .element) (t3 .member .next) (f4 .there) in
-    let f5 = went (foundTagged s (f4 .element .end) (tbs .end) 0x30) Frontless _ r frontless (f4 .then) in
+    let f5 = went (foundTagged paper s (f4 .element .end) (tbs .end) 0x30) Frontless _ r frontless (f4 .then) in
     let t5 = tagged-first s _ (tbs .end) 0x30 (t4 .rest) (f5 .element) (t4 .member .next) (f5 .there) in
-    let f6 = went (foundTagged s (f5 .element .end) (tbs .end) 0x30) Frontless _ r frontless (f5 .then) in
+    let f6 = went (foundTagged paper s (f5 .element .end) (tbs .end) 0x30) Frontless _ r frontless (f5 .then) in
     let t6 = tagged-first s _ (tbs .end) 0x30 (t5 .rest) (f6 .element) (t5 .member .next) (f6 .there) in
     let same = opens-same (f6 .then) in
     let n1 = row-later (t1 .member) (t1 .split) in
@@ -210,9 +211,9 @@ unfolding validityOf constructed
 two-times s place v a b validity part named e =
     let r = Times a b in
     let i = is-node validity 0x30 refl (part .sound) named in
-    let f1 = went (timeAt s (v .contents) (v .end)) Timeless _ r timeless e in
+    let f1 = went (timeAt paper s (v .contents) (v .end)) Timeless _ r timeless e in
     let x1 = first-of s (v .contents) (v .end) (i .0) (f1 .element) (part .inside 0x30 (i .0) (i .1)) (timed-found s _ _ _ (f1 .there)) in
-    let f2 = went (timeAt s (f1 .element .end) (v .end)) Timeless _ r timeless (f1 .then) in
+    let f2 = went (timeAt paper s (f1 .element .end) (v .end)) Timeless _ r timeless (f1 .then) in
     let x2 = first-of s (f1 .element .end) (v .end) (x1 .1) (f2 .element) (x1 .3 .next) (timed-found s _ _ _ (f2 .there)) in
     let k = kept (eqb (f2 .element .end) (v .end)) _ Timeless r timeless (f2 .then) in
     let same = times-same (k .1) in
@@ -257,17 +258,17 @@ pub back-members :
 unfolding backOf constructed
 back-members s from end a b c d members sp e bare =
     let r = Closes a b c d in
-    let f1 = went (foundTagged s from end 0x30) Backless _ r backless e in
+    let f1 = went (foundTagged paper s from end 0x30) Backless _ r backless e in
     let t1 = tagged-first s from end 0x30 members (f1 .element) sp (f1 .there) in
-    let f2 = went (foundTagged s (f1 .element .end) end 0x30) Backless _ r backless (f1 .then) in
+    let f2 = went (foundTagged paper s (f1 .element .end) end 0x30) Backless _ r backless (f1 .then) in
     let t2 = tagged-first s _ end 0x30 (t1 .rest) (f2 .element) (t1 .member .next) (f2 .there) in
-    let f3 = went (foundTagged s (uniqueEnd s (f2 .element .end) end) end 0xA3) Backless _ r backless (f2 .then) in
+    let f3 = went (foundTagged paper s (uniqueEnd s (f2 .element .end) end) end 0xA3) Backless _ r backless (f2 .then) in
     let k = kept (eqb (f3 .element .end) end) _ Backless r backless (f3 .then) in
-    let f4 = went (onlyOf s (f3 .element) 0x30) Backless _ r backless (k .1) in
+    let f4 = went (onlyOf paper s (f3 .element) 0x30) Backless _ r backless (k .1) in
     let same = closes-same (f4 .then) in
     let here = eqb-true (uniqueEnd s (f2 .element .end) end) (f2 .element .end) (not-false _ (same .2 ∙ bare)) in
     let t3 = tagged-first s (f2 .element .end) end 0xA3 (t2 .rest) (f3 .element) (t2 .member .next)
-    (subst (λ (n : ℕ). foundTagged s n end 0xA3 ≡ One (f3 .element)) here (f3 .there)) in
+    (subst (λ (n : ℕ). foundTagged paper s n end 0xA3 ≡ One (f3 .element)) here (f3 .there)) in
     let i3 = members-inside s (f2 .element .end) end 0xA3 (t2 .rest) (f3 .element) refl t3 in
     let t4 = only-inside s (f3 .element) 0x30 (i3 .0) (f4 .element) (i3 .2) (f4 .there) in
     let i4 = members-inside s (f3 .element .contents) (f3 .element .end) 0x30 (i3 .0) (f4 .element) refl (t4 .0) in

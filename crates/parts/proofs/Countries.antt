@@ -69,14 +69,14 @@ attribute-shape a b c = cc
 
 module _ (s : List ℕ) where
   attribute-said :
-      (from end : ℕ) (e : Element) (tree : Tree) (trees : Trees) → Member s from end e tree trees → Said s (attributeOf s e) (countryIn tree)
+      (from end : ℕ) (e : Element) (tree : Tree) (trees : Trees) → Member s from end e tree trees → Said s (attributeOf paper s e) (countryIn tree)
   unfolding attributeOf countryIn constructed
   attribute-said from end e tree trees m =
       cond-by Told (eqb (e .tag) 0x30)
       (λ built. let n = is-node tree 0x30 refl (m .sound) (sym (m .tag) ∙ eqb-true _ _ built) in
-      found-by Told (foundTagged s (e .contents) (e .end) 0x06) _ _ misshapen λ oid f.
+      found-by Told (foundTagged paper s (e .contents) (e .end) 0x06) _ _ misshapen λ oid f.
       let t = tagged-first s (e .contents) (e .end) 0x06 (n .0) oid (m .inside 0x30 (n .0) (n .1)) f in
-      found-by Told (foundAt s (oid .end) (e .end)) _ _ misshapen λ value g.
+      found-by Told (foundAt paper s (oid .end) (e .end)) _ _ misshapen λ value g.
       let x = first-of s (oid .end) (e .end) (t .rest) value (t .member .next) g in
       cond-by Told (eqb (value .end) (e .end))
       (λ last. by-oid oid value (t .tree) (x .0) (x .1) (attribute-shape (n .1) (t .split) (x .2)) (t .member .contents)
@@ -126,29 +126,29 @@ module _ (s : List ℕ) where
   -- what is seen after the attributes of a SET
   attributes-see :
       (end : ℕ) (trees : Trees) (from : ℕ) (seen now : Seen) (before : List Tree) → Spans s from end trees → Sees s seen before
-      → attributesOf s (membersOf s from end) seen ≡ Holds now → Sees s now (before ++ countriesIn trees)
+      → attributesOf paper s (membersOf paper s from end) seen ≡ Holds now → Sees s now (before ++ countriesIn trees)
   unfolding attributesOf countriesIn
   attributes-see end none from seen now before sp sees h =
-      let e = holds-same (sym (ap (λ (l : List Element). attributesOf s l seen) (members-none s from end (found-none s from end sp))) ∙ h) in
+      let e = holds-same (sym (ap (λ (l : List Element). attributesOf paper s l seen) (members-none s from end (found-none s from end sp))) ∙ h) in
       subst (λ (x : Seen). Sees s x (before ++ [])) e (subst (Sees s seen) (sym (append-nil before)) sees)
   attributes-see end (more tree trees) from seen now before sp sees h =
       let x = found-first s from end tree trees sp in
-      let step = sym (ap (λ (l : List Element). attributesOf s l seen) (members-more s from end (x .1))) ∙ h in
-      let a = attributed-sees (λ y. attributesOf s (membersOf s (x .0 .end) end) y) not-shapeless (attribute-said from end (x .0) tree trees (x .2)) sees step in
+      let step = sym (ap (λ (l : List Element). attributesOf paper s l seen) (members-more s from end (x .1))) ∙ h in
+      let a = attributed-sees (λ y. attributesOf paper s (membersOf paper s (x .0 .end) end) y) not-shapeless (attribute-said from end (x .0) tree trees (x .2)) sees step in
       subst (Sees s now) (append-assoc before (countryIn tree) (countriesIn trees))
       (attributes-see end trees (x .0 .end) (a .0) now (before ++ countryIn tree) (x .2 .next) (a .1) (a .2))
 
   -- what is seen after a SET
   set-sees :
       (from end : ℕ) (e : Element) (tree : Tree) (trees : Trees) (seen now : Seen) (before : List Tree) → Member s from end e tree trees
-      → Sees s seen before → oneSet s e seen ≡ Holds now → Sees s now (before ++ setIn tree)
+      → Sees s seen before → oneSet paper s e seen ≡ Holds now → Sees s now (before ++ setIn tree)
   unfolding oneSet inside setIn constructed
   set-sees from end e tree trees seen now before m sees h =
       let k = kept (eqb (e .tag) 0x31) _ Shapeless (Holds now) not-shapeless h in
       let n = is-node tree 0x31 refl (m .sound) (sym (m .tag) ∙ eqb-true _ _ (k .0)) in
       subst (λ (y : Tree). Sees s now (before ++ setIn y)) (sym (n .1))
       (attributes-see (e .end) (n .0) (e .contents) seen now before (m .inside 0x31 (n .0) (n .1)) sees
-      (some (eqb (length (membersOf s (e .contents) (e .end))) 0) (k .1)))
+      (some (eqb (length (membersOf paper s (e .contents) (e .end))) 0) (k .1)))
     where
       some : {r : Name} (b : Bool) → cond b Shapeless r ≡ Holds now → r ≡ Holds now
       some true p = absurd (not-shapeless p)
@@ -161,15 +161,15 @@ module _ (s : List ℕ) where
 
   sets-see :
       (end : ℕ) (trees : Trees) (from : ℕ) (seen now : Seen) (before : List Tree) → Spans s from end trees → Sees s seen before
-      → setsOf s (membersOf s from end) seen ≡ Holds now → Sees s now (before ++ countriesOf trees)
+      → setsOf paper s (membersOf paper s from end) seen ≡ Holds now → Sees s now (before ++ countriesOf trees)
   unfolding setsOf countriesOf
   sets-see end none from seen now before sp sees h =
-      let e = holds-same (sym (ap (λ (l : List Element). setsOf s l seen) (members-none s from end (found-none s from end sp))) ∙ h) in
+      let e = holds-same (sym (ap (λ (l : List Element). setsOf paper s l seen) (members-none s from end (found-none s from end sp))) ∙ h) in
       subst (λ (x : Seen). Sees s x (before ++ [])) e (subst (Sees s seen) (sym (append-nil before)) sees)
   sets-see end (more tree trees) from seen now before sp sees h =
       let x = found-first s from end tree trees sp in
-      let step = sym (ap (λ (l : List Element). setsOf s l seen) (members-more s from end (x .1))) ∙ h in
-      let a = after-set (oneSet s (x .0) seen) (λ y. setsOf s (membersOf s (x .0 .end) end) y) step in
+      let step = sym (ap (λ (l : List Element). setsOf paper s l seen) (members-more s from end (x .1))) ∙ h in
+      let a = after-set (oneSet paper s (x .0) seen) (λ y. setsOf paper s (membersOf paper s (x .0 .end) end) y) step in
       subst (Sees s now) (append-assoc before (setIn tree) (countriesOf trees))
       (sets-see end trees (x .0 .end) (a .0) now (before ++ setIn tree) (x .2 .next)
       (set-sees from end (x .0) tree trees seen (a .0) before (x .2) sees (a .1)) (a .2))
@@ -209,7 +209,7 @@ seen-letters s seen trees a b (once {value = value} {tree = tree} like) h =
 
 -- the letters read of a name are those of the one countryName in its tree
 pub name-letters :
-    (s : List ℕ) (place : Place) (e : Element) (tree : Tree) (seen : Seen) (a b : ℕ) → Part s place e tree → nameOf s e ≡ Holds seen
+    (s : List ℕ) (place : Place) (e : Element) (tree : Tree) (seen : Seen) (a b : ℕ) → Part s place e tree → nameOf paper s e ≡ Holds seen
     → lettersOf s seen ≡ Two a b → Lettered place a b
 unfolding nameOf inside constructed
 name-letters s place e tree seen a b p h two =

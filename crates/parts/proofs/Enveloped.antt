@@ -1,15 +1,15 @@
 -- A signed item's outermost element is a node of tbs, algorithm and signature, and the tbs's contents encode its members.
-use Prim.Native.Nat.{ℕ, _+_}
+use Prim.Native.Nat.{ℕ, _+_, _/_, _%_}
 use mathlib.Core.Path.{_≡_, refl, sym, ap, subst, _∙_}
-use mathlib.Core.Bool.{true, false, true≢false}
+use mathlib.Core.Bool.{Bool, true, false, cond, _&&_, true≢false}
 use mathlib.Core.List.{List, [], _∷_}
 use native.Mathlib.Omega.{arith}
 use borrow.Author.Tests.{eqb-true}
-use lib.Dec.{eqb}
+use lib.Dec.{ltb, eqb}
 use lib.ListN.{length}
 use Rattle.der.specs.Forms.{paper}
-use Rattle.der.specs.Heading.{constructed}
-use Rattle.tree.specs.Tree.{Tree, leaf, node, Trees, none, more, encodedAll, tagOf, contentsOf, Sound, sound-leaf, sound-node}
+use Rattle.der.specs.Heading.{constructed, identifierGood, wideGood}
+use Rattle.tree.specs.Tree.{Tree, leaf, node, Trees, none, more, encodedAll, tagOf, contentsOf, tagGood, leading, Sound, sound-leaf, sound-node}
 use Rattle.tree.proofs.Members.{length-more}
 use Rattle.tree.proofs.Reading.{encoded-some}
 use Rattle.elements.specs.declared.elements.Element.{Element}
@@ -26,18 +26,27 @@ use Rattle.parts.proofs.Inverse.{went, kept, tagged-found}
 use Rattle.parts.proofs.Spans.{Spans, Member, first-of}
 use Rattle.parts.proofs.Standing.{row-here, part-at, members-place}
 
+-- the paper's tags have one octet
+narrow : (tag : ℕ) → tagGood paper tag ≡ true → leading tag ≡ tag
+unfolding tagGood leading
+narrow tag = go (ltb tag 256)
+  where
+    go : (one : Bool) → cond one (identifierGood tag) (false && wideGood (tag / 256) (tag % 256)) ≡ true → cond one tag (tag / 256) ≡ tag
+    go true p = refl
+    go false p = absurd (true≢false (sym p))
+
 -- a sound tree with a constructed tag is a node, and one with a primitive tag a leaf
 pub is-node : (tree : Tree) (tag : ℕ) → constructed tag ≡ true → Sound paper tree → tagOf tree ≡ tag → (members : Trees) × (tree ≡ node tag members)
 unfolding tagOf
 is-node (leaf own c) tag built (sound-leaf small good flat octets fits contents) e =
-    absurd (true≢false (sym built ∙ sym (ap constructed e) ∙ flat))
+    absurd (true≢false (sym built ∙ sym (ap constructed e) ∙ sym (ap constructed (narrow own good)) ∙ flat))
 is-node (node own members) tag built sound e = (members, ap (λ (t : ℕ). node t members) e)
 
 pub is-leaf : (tree : Tree) (tag : ℕ) → constructed tag ≡ false → Sound paper tree → tagOf tree ≡ tag → tree ≡ leaf tag (contentsOf tree)
 unfolding tagOf contentsOf
 is-leaf (leaf own c) tag flat sound e = ap (λ (t : ℕ). leaf t c) e
 is-leaf (node own members) tag flat (sound-node small good built fits all) e =
-    absurd (true≢false (sym built ∙ ap constructed e ∙ flat))
+    absurd (true≢false (sym built ∙ ap constructed (narrow own good) ∙ ap constructed e ∙ flat))
 
 -- no tree stands in a stretch without octets
 span-none : (s : List ℕ) (at : ℕ) (trees : Trees) → Spans s at at trees → trees ≡ none
@@ -54,7 +63,7 @@ pub record Tagged (s : List ℕ) (from end tag : ℕ) (trees : Trees) (e : Eleme
   pub named : tagOf tree ≡ tag
 
 pub tagged-first :
-    (s : List ℕ) (from end tag : ℕ) (trees : Trees) (e : Element) → Spans s from end trees → foundTagged s from end tag ≡ One e
+    (s : List ℕ) (from end tag : ℕ) (trees : Trees) (e : Element) → Spans s from end trees → foundTagged paper s from end tag ≡ One e
     → Tagged s from end tag trees e
 tagged-first s from end tag trees e sp f =
     let h : (_) × (e .tag ≡ tag) = tagged-found s from end tag e f in
@@ -78,11 +87,11 @@ only-tree s from end tag trees e t h = t .split ∙ ap (more (t .tree)) (rest-no
 
 -- the one member of an element
 pub only-inside :
-    (s : List ℕ) (e : Element) (tag : ℕ) (members : Trees) (x : Element) → Spans s (e .contents) (e .end) members → onlyOf s e tag ≡ One x
+    (s : List ℕ) (e : Element) (tag : ℕ) (members : Trees) (x : Element) → Spans s (e .contents) (e .end) members → onlyOf paper s e tag ≡ One x
     → (t : Tagged s (e .contents) (e .end) tag members x) × (members ≡ more (t .tree) none)
 unfolding onlyOf
 only-inside s e tag members x sp h =
-    let f = went (foundTagged s (e .contents) (e .end) tag) Missing _ (One x) missing h in
+    let f = went (foundTagged paper s (e .contents) (e .end) tag) Missing _ (One x) missing h in
     let k = kept (eqb (f .element .end) (e .end)) (One (f .element)) Missing (One x) missing (f .then) in
     let same : f .element ≡ x = one (f .element) (k .1) in
     let t = tagged-first s (e .contents) (e .end) tag members x sp (f .there ∙ k .1) in
@@ -113,19 +122,19 @@ parts-same e = cc
 
 -- where the outermost tree's stretch was left, the envelope tells its members
 pub envelope-members :
-    (s : List ℕ) (tree : Tree) (tbs outer : Element) → Spans s 0 (length s) (more tree none) → envelopeOf s ≡ Parts tbs outer
+    (s : List ℕ) (tree : Tree) (tbs outer : Element) → Spans s 0 (length s) (more tree none) → envelopeOf paper s ≡ Parts tbs outer
     → Enveloped s tree tbs
 unfolding envelopeOf constructed placeIn along numbered
 envelope-members s tree tbs outer root e =
-    let a = went (foundTagged s 0 (length s) 0x30) Formless _ (Parts tbs outer) formless e in
+    let a = went (foundTagged paper s 0 (length s) 0x30) Formless _ (Parts tbs outer) formless e in
     let o = tagged-first s 0 (length s) 0x30 (more tree none) (a .element) root (a .there) in
     let i = members-inside s 0 (length s) 0x30 (more tree none) (a .element) refl o in
-    let b = went (foundTagged s (a .element .contents) (a .element .end) 0x30) Formless _ (Parts tbs outer) formless (a .then) in
+    let b = went (foundTagged paper s (a .element .contents) (a .element .end) 0x30) Formless _ (Parts tbs outer) formless (a .then) in
     let t = tagged-first s (a .element .contents) (a .element .end) 0x30 (i .0) (b .element) (i .2) (b .there) in
     let j = members-inside s (a .element .contents) (a .element .end) 0x30 (i .0) (b .element) refl t in
-    let c = went (foundTagged s (b .element .end) (a .element .end) 0x30) Formless _ (Parts tbs outer) formless (b .then) in
+    let c = went (foundTagged paper s (b .element .end) (a .element .end) 0x30) Formless _ (Parts tbs outer) formless (b .then) in
     let u = tagged-first s (b .element .end) (a .element .end) 0x30 (t .rest) (c .element) (t .member .next) (c .there) in
-    let d = went (foundTagged s (c .element .end) (a .element .end) 0x03) Formless _ (Parts tbs outer) formless (c .then) in
+    let d = went (foundTagged paper s (c .element .end) (a .element .end) 0x03) Formless _ (Parts tbs outer) formless (c .then) in
     let v = tagged-first s (c .element .end) (a .element .end) 0x03 (u .rest) (d .element) (u .member .next) (d .there) in
     let k = kept (eqb (d .element .end) (a .element .end)) _ Formless (Parts tbs outer) formless (d .then) in
     let gone = only-tree s (c .element .end) (a .element .end) 0x03 (u .rest) (d .element) v (eqb-true _ _ (k .0)) in

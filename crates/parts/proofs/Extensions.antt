@@ -65,20 +65,20 @@ held e own oid value flag critical next h =
 -- what is found in an extension
 record Opened (s : List ℕ) (e oid : Element) (critical : Bool) (value : Element) : Type 0 where
   built : e .tag ≡ 0x30
-  named : foundTagged s (e .contents) (e .end) 0x06 ≡ One oid
-  uncritical : critical ≡ false → foundTagged s (oid .end) (e .end) 0x04 ≡ One value
+  named : foundTagged paper s (e .contents) (e .end) 0x06 ≡ One oid
+  uncritical : critical ≡ false → foundTagged paper s (oid .end) (e .end) 0x04 ≡ One value
   last : value .end ≡ e .end
 
-open-extension : (s : List ℕ) (e oid : Element) (critical : Bool) (value : Element) → extensionOf s e ≡ Is oid critical value → Opened s e oid critical value
+open-extension : (s : List ℕ) (e oid : Element) (critical : Bool) (value : Element) → extensionOf paper s e ≡ Is oid critical value → Opened s e oid critical value
 unfolding extensionOf foundTagged
 open-extension s e oid critical value h =
     let r = Is oid critical value in
     let k = kept (eqb (e .tag) 0x30) _ Absent r absent h in
-    let a = went (foundTagged s (e .contents) (e .end) 0x06) Absent _ r absent (k .1) in
-    let b = went (foundAt s (a .element .end) (e .end)) Absent _ r absent (a .then) in
+    let a = went (foundTagged paper s (e .contents) (e .end) 0x06) Absent _ r absent (k .1) in
+    let b = went (foundAt paper s (a .element .end) (e .end)) Absent _ r absent (a .then) in
     parted (eqb (b .element .tag) 0x01) _ _ r
     (λ c. let g = kept (eqb (getD s (b .element .contents) 0) 255) _ Absent r absent c in
-    let q = held e (a .element) oid value true critical (foundAt s (b .element .end) (e .end)) (g .1) in
+    let q = held e (a .element) oid value true critical (foundAt paper s (b .element .end) (e .end)) (g .1) in
     record {
       built = eqb-true _ _ (k .0);
       named = a .there ∙ ap One (q .0);
@@ -90,7 +90,7 @@ open-extension s e oid critical value h =
       built = eqb-true _ _ (k .0);
       named = a .there ∙ ap One (q .0);
       uncritical = λ p.
-          subst (λ (x : Element). withTag 0x04 (foundAt s (x .end) (e .end)) ≡ One value) (q .0) (ap (withTag 0x04) (b .there) ∙ q .2);
+          subst (λ (x : Element). withTag 0x04 (foundAt paper s (x .end) (e .end)) ≡ One value) (q .0) (ap (withTag 0x04) (b .there) ∙ q .2);
       last = q .3;
     })
     (b .then)
@@ -112,7 +112,7 @@ shape-of a b c = cc
 
 extension-tree :
     (s : List ℕ) (place : Place) (e : Element) (tree : Tree) (oid : Element) (critical : Bool) (value : Element) → Part s place e tree
-    → extensionOf s e ≡ Is oid critical value → Extended s place tree oid critical value
+    → extensionOf paper s e ≡ Is oid critical value → Extended s place tree oid critical value
 unfolding constructed
 extension-tree s place e tree oid critical value p h =
     let o = open-extension s e oid critical value h in
@@ -126,7 +126,7 @@ extension-tree s place e tree oid critical value p h =
     }
   where
     value-tree :
-        (rest : Trees) → foundTagged s (oid .end) (e .end) 0x04 ≡ One value → value .end ≡ e .end → Spans s (oid .end) (e .end) rest
+        (rest : Trees) → foundTagged paper s (oid .end) (e .end) 0x04 ≡ One value → value .end ≡ e .end → Spans s (oid .end) (e .end) rest
         → memberAt place 1 ≡ numbered rest 0 (oid .end)
         → (rest ≡ more (leaf 0x04 (elements.contentsOf s value)) none) × Holds s value
         × Part s (memberAt place 1) value (leaf 0x04 (elements.contentsOf s value))
@@ -180,48 +180,48 @@ no-double false r h = (refl, h)
 
 -- an OID that does not stand among some is not found in them
 not-among :
-    (s : List ℕ) (own value : Element) (critical : Bool) (es : List Element) → standsIn s (Is own critical value) es ≡ false
-    → firstWith s (elements.contentsOf s own) es ≡ Absent
+    (s : List ℕ) (own value : Element) (critical : Bool) (es : List Element) → standsIn paper s (Is own critical value) es ≡ false
+    → firstWith paper s (elements.contentsOf s own) es ≡ Absent
 unfolding standsIn sameOids firstWith
 not-among s own value critical [] h = refl
 not-among s own value critical (e ∷ rest) h =
-    let n = no-double (hasOid s (elements.contentsOf s own) (extensionOf s e)) (standsIn s (Is own critical value) rest) h in
+    let n = no-double (hasOid s (elements.contentsOf s own) (extensionOf paper s e)) (standsIn paper s (Is own critical value) rest) h in
     rw (n .0) (not-among s own value critical rest (n .1))
 
 module _ (s oid : List ℕ) (end : ℕ) where
   -- the look-up, and the test of all shapes, over the first member and the others
-  looks : (from : ℕ) (e : Element) → foundAt s from end ≡ One e → (r : Extension) → firstWith s oid (membersOf s from end) ≡ r
-      → cond (hasOid s oid (extensionOf s e)) (extensionOf s e) (firstWith s oid (membersOf s (e .end) end)) ≡ r
+  looks : (from : ℕ) (e : Element) → foundAt paper s from end ≡ One e → (r : Extension) → firstWith paper s oid (membersOf paper s from end) ≡ r
+      → cond (hasOid s oid (extensionOf paper s e)) (extensionOf paper s e) (firstWith paper s oid (membersOf paper s (e .end) end)) ≡ r
   unfolding firstWith
-  looks from e f r h = sym (ap (firstWith s oid) (members-more s from end f)) ∙ h
+  looks from e f r h = sym (ap (firstWith paper s oid) (members-more s from end f)) ∙ h
 
-  tests : (from : ℕ) (e : Element) → foundAt s from end ≡ One e → allShaped s (membersOf s from end) ≡ true
-      → (present (extensionOf s e) ≡ true) × (allShaped s (membersOf s (e .end) end) ≡ true)
+  tests : (from : ℕ) (e : Element) → foundAt paper s from end ≡ One e → allShaped paper s (membersOf paper s from end) ≡ true
+      → (present (extensionOf paper s e) ≡ true) × (allShaped paper s (membersOf paper s (e .end) end) ≡ true)
   unfolding allShaped
   tests from e f h =
-      kept (present (extensionOf s e)) (allShaped s (membersOf s (e .end) end)) false true (λ p. true≢false (sym p))
-      (sym (ap (allShaped s) (members-more s from end f)) ∙ h)
+      kept (present (extensionOf paper s e)) (allShaped paper s (membersOf paper s (e .end) end)) false true (λ p. true≢false (sym p))
+      (sym (ap (allShaped paper s) (members-more s from end f)) ∙ h)
 
-  doubles : (from : ℕ) (e : Element) → foundAt s from end ≡ One e → doubledIn s (membersOf s from end) ≡ false
-      → (standsIn s (extensionOf s e) (membersOf s (e .end) end) ≡ false) × (doubledIn s (membersOf s (e .end) end) ≡ false)
+  doubles : (from : ℕ) (e : Element) → foundAt paper s from end ≡ One e → doubledIn paper s (membersOf paper s from end) ≡ false
+      → (standsIn paper s (extensionOf paper s e) (membersOf paper s (e .end) end) ≡ false) × (doubledIn paper s (membersOf paper s (e .end) end) ≡ false)
   unfolding doubledIn
   doubles from e f h =
-      no-double (standsIn s (extensionOf s e) (membersOf s (e .end) end)) (doubledIn s (membersOf s (e .end) end))
-      (sym (ap (doubledIn s) (members-more s from end f)) ∙ h)
+      no-double (standsIn paper s (extensionOf paper s e) (membersOf paper s (e .end) end)) (doubledIn paper s (membersOf paper s (e .end) end))
+      (sym (ap (doubledIn paper s) (members-more s from end f)) ∙ h)
 
   -- the extension that a look-up finds, if it is not critical
   pub look-finds :
-      (trees : Trees) (from : ℕ) (own value : Element) → Spans s from end trees → firstWith s oid (membersOf s from end) ≡ Is own false value
+      (trees : Trees) (from : ℕ) (own value : Element) → Spans s from end trees → firstWith paper s oid (membersOf paper s from end) ≡ Is own false value
       → Met s trees from oid value
   unfolding firstWith hasOid
   look-finds none from own value sp h =
-      absurd (absent (sym (ap (firstWith s oid) (members-none s from end (found-none s from end sp))) ∙ h))
+      absurd (absent (sym (ap (firstWith paper s oid) (members-none s from end (found-none s from end sp))) ∙ h))
   look-finds (more tree trees) from own value sp h =
       let x = found-first s from end tree trees sp in
-      go (x .0) (x .2) (look-finds trees (x .0 .end) own value (x .2 .next)) (hasOid s oid (extensionOf s (x .0))) refl
+      go (x .0) (x .2) (look-finds trees (x .0 .end) own value (x .2 .next)) (hasOid s oid (extensionOf paper s (x .0))) refl
       (looks from (x .0) (x .1) (Is own false value) h)
     where
-      here : (e : Element) → Member s from end e tree trees → extensionOf s e ≡ Is own false value → hasOid s oid (Is own false value) ≡ true → Met s (more tree trees) from oid value
+      here : (e : Element) → Member s from end e tree trees → extensionOf paper s e ≡ Is own false value → hasOid s oid (Is own false value) ≡ true → Met s (more tree trees) from oid value
       here e m i has =
           let p = row-here m refl in
           let t = extension-tree s (numbered (more tree trees) 0 from) e tree own false value p i in
@@ -230,9 +230,9 @@ module _ (s oid : List ℕ) (end : ℕ) where
           record { number = 0; at = e .at; stands = p .there ∙ ap (λ (y : Tree). At y (e .at)) shape; holds = u .1; part = u .2 }
 
       go :
-          (e : Element) → Member s from end e tree trees → (firstWith s oid (membersOf s (e .end) end) ≡ Is own false value → Met s trees (e .end) oid value)
-          → (has : Bool) → hasOid s oid (extensionOf s e) ≡ has
-          → cond has (extensionOf s e) (firstWith s oid (membersOf s (e .end) end)) ≡ Is own false value → Met s (more tree trees) from oid value
+          (e : Element) → Member s from end e tree trees → (firstWith paper s oid (membersOf paper s (e .end) end) ≡ Is own false value → Met s trees (e .end) oid value)
+          → (has : Bool) → hasOid s oid (extensionOf paper s e) ≡ has
+          → cond has (extensionOf paper s e) (firstWith paper s oid (membersOf paper s (e .end) end)) ≡ Is own false value → Met s (more tree trees) from oid value
       go e m less true has i = here e m i (sym (ap (hasOid s oid) i) ∙ has)
       go e m less false has i =
           let r = less i in
@@ -247,44 +247,44 @@ module _ (s oid : List ℕ) (end : ℕ) where
 
   -- where a look-up finds nothing in extensions of their shape, none has the OID
   pub look-misses :
-      (trees : Trees) (from : ℕ) → Spans s from end trees → allShaped s (membersOf s from end) ≡ true
-      → firstWith s oid (membersOf s from end) ≡ Absent → (number at : ℕ) (members : Trees)
+      (trees : Trees) (from : ℕ) → Spans s from end trees → allShaped paper s (membersOf paper s from end) ≡ true
+      → firstWith paper s oid (membersOf paper s from end) ≡ Absent → (number at : ℕ) (members : Trees)
       → numbered trees number from ≡ At (node 0x30 (more (leaf 0x06 oid) members)) at → ⊥
   unfolding hasOid numbered
   look-misses none from sp shaped h number at members stands = let z : _≡_ {A = ℕ} 0 1 = cc in omega arith
   look-misses (more tree trees) from sp shaped h zero at members stands =
       let x = found-first s from end tree trees sp in
-      let p = present-is (extensionOf s (x .0)) (tests from (x .0) (x .1) shaped .0) in
+      let p = present-is (extensionOf paper s (x .0)) (tests from (x .0) (x .1) shaped .0) in
       let t = extension-tree s (At tree from) (x .0) tree (p .0) (p .1) (p .2) (row-here (x .2) refl) (p .3) in
-      let other = missed (hasOid s oid (extensionOf s (x .0))) _ _ (p .3) (looks from (x .0) (x .1) Absent h) in
+      let other = missed (hasOid s oid (extensionOf paper s (x .0))) _ _ (p .3) (looks from (x .0) (x .1) Absent h) in
       let has = is-alike (elements.contentsOf s (p .0)) oid (oid-same (sym (t .shape) ∙ tree-same stands)) in
       true≢false (sym has ∙ sym (ap (hasOid s oid) (p .3)) ∙ other .0)
   look-misses (more tree trees) from sp shaped h (suc number) at members stands =
       let x = found-first s from end tree trees sp in
       let shapes = tests from (x .0) (x .1) shaped in
-      let p = present-is (extensionOf s (x .0)) (shapes .0) in
-      let rest = missed (hasOid s oid (extensionOf s (x .0))) _ _ (p .3) (looks from (x .0) (x .1) Absent h) in
+      let p = present-is (extensionOf paper s (x .0)) (shapes .0) in
+      let rest = missed (hasOid s oid (extensionOf paper s (x .0))) _ _ (p .3) (looks from (x .0) (x .1) Absent h) in
       look-misses trees (x .0 .end) (x .2 .next) (shapes .1) (rest .1) number at members (sym (row-later (x .2) refl number) ∙ stands)
 
   -- where no OID stands twice, one number has this one
   apart :
-      {tree : Tree} {trees : Trees} (from : ℕ) → Spans s from end (more tree trees) → allShaped s (membersOf s from end) ≡ true
-      → doubledIn s (membersOf s from end) ≡ false → (members : Trees) → tree ≡ node 0x30 (more (leaf 0x06 oid) members) → (number at : ℕ) (others : Trees)
+      {tree : Tree} {trees : Trees} (from : ℕ) → Spans s from end (more tree trees) → allShaped paper s (membersOf paper s from end) ≡ true
+      → doubledIn paper s (membersOf paper s from end) ≡ false → (members : Trees) → tree ≡ node 0x30 (more (leaf 0x06 oid) members) → (number at : ℕ) (others : Trees)
       → numbered (more tree trees) (suc number) from ≡ At (node 0x30 (more (leaf 0x06 oid) others)) at → ⊥
   apart {tree} {trees} from sp shaped single members shape number at others stands =
       let x = found-first s from end tree trees sp in
       let shapes = tests from (x .0) (x .1) shaped in
-      let p = present-is (extensionOf s (x .0)) (shapes .0) in
+      let p = present-is (extensionOf paper s (x .0)) (shapes .0) in
       let t = extension-tree s (numbered (more tree trees) 0 from) (x .0) tree (p .0) (p .1) (p .2) (row-here (x .2) refl) (p .3) in
-      let alone = ap (λ (y : Extension). standsIn s y (membersOf s (x .0 .end) end)) (sym (p .3)) ∙ doubles from (x .0) (x .1) single .0 in
+      let alone = ap (λ (y : Extension). standsIn paper s y (membersOf paper s (x .0 .end) end)) (sym (p .3)) ∙ doubles from (x .0) (x .1) single .0 in
       let same = oid-same (sym (t .shape) ∙ shape) in
-      let missed = not-among s (p .0) (p .2) (p .1) (membersOf s (x .0 .end) end) alone in
+      let missed = not-among s (p .0) (p .2) (p .1) (membersOf paper s (x .0 .end) end) alone in
       look-misses trees (x .0 .end) (x .2 .next) (shapes .1)
-      (subst (λ (c : List ℕ). firstWith s c (membersOf s (x .0 .end) end) ≡ Absent) same missed)
+      (subst (λ (c : List ℕ). firstWith paper s c (membersOf paper s (x .0 .end) end) ≡ Absent) same missed)
       number at others (sym (row-later (x .2) refl number) ∙ stands)
 
   pub oid-once :
-      (trees : Trees) (from : ℕ) → Spans s from end trees → allShaped s (membersOf s from end) ≡ true → doubledIn s (membersOf s from end) ≡ false
+      (trees : Trees) (from : ℕ) → Spans s from end trees → allShaped paper s (membersOf paper s from end) ≡ true → doubledIn paper s (membersOf paper s from end) ≡ false
       → (i j at other : ℕ) (members others : Trees) → numbered trees i from ≡ At (node 0x30 (more (leaf 0x06 oid) members)) at
       → numbered trees j from ≡ At (node 0x30 (more (leaf 0x06 oid) others)) other → i ≡ j
   unfolding numbered

@@ -6,6 +6,7 @@ use mathlib.Core.List.{List}
 use native.Mathlib.Omega.{arith}
 use borrow.Author.Tests.{eqb-true}
 use lib.Dec.{eqb}
+use Rattle.der.specs.Forms.{paper}
 use Rattle.elements.specs.declared.elements.Element.{Element}
 use Rattle.elements.specs.declared.elements.Found.{Found}
 use Rattle.elements.specs.declared.elements.Found.the-variants.{One, Missing}
@@ -46,9 +47,9 @@ both true q e = (refl, e)
 both false q e = absurd (false≢true e)
 
 pub tagged-found :
-    (s : List ℕ) (from end tag : ℕ) (e : Element) → foundTagged s from end tag ≡ One e → (foundAt s from end ≡ One e) × (e .tag ≡ tag)
+    (s : List ℕ) (from end tag : ℕ) (e : Element) → foundTagged paper s from end tag ≡ One e → (foundAt paper s from end ≡ One e) × (e .tag ≡ tag)
 unfolding foundTagged withTag
-tagged-found s from end tag e p = go (foundAt s from end) p
+tagged-found s from end tag e p = go (foundAt paper s from end) p
   where
     go : (f : Found) → withTag tag f ≡ One e → (f ≡ One e) × (e .tag ≡ tag)
     go Missing q = absurd (let z : _≡_ {A = ℕ} 0 1 = cc in omega arith)
@@ -58,10 +59,10 @@ tagged-found s from end tag e p = go (foundAt s from end) p
         same h = let t : x .tag ≡ tag = eqb-true _ _ (h .0) in let g = h .1 in (g, cc)
 
 -- an element found by the tag of a time
-pub timed-found : (s : List ℕ) (from end : ℕ) (e : Element) → timeAt s from end ≡ One e → foundAt s from end ≡ One e
+pub timed-found : (s : List ℕ) (from end : ℕ) (e : Element) → timeAt paper s from end ≡ One e → foundAt paper s from end ≡ One e
 unfolding timeAt
 timed-found s from end e p =
-    let f = went (foundAt s from end) Missing _ (One e) missing p in
+    let f = went (foundAt paper s from end) Missing _ (One e) missing p in
     f .there ∙ kept (timeTag (f .element .tag)) (One (f .element)) Missing (One e) missing (f .then) .1
   where
     missing : _≡_ {A = Found} Missing (One e) → ⊥

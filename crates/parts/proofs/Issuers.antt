@@ -7,6 +7,7 @@ use native.Mathlib.Omega.{arith}
 use borrow.Author.Tests.{eqb-true}
 use lib.Dec.{eqb}
 use lib.ListN.{length}
+use Rattle.der.specs.Forms.{paper}
 use Rattle.elements.specs.declared.elements.Element.{Element}
 use Rattle.elements.specs.declared.elements.Found.{Found}
 use Rattle.elements.specs.declared.elements.Found.the-variants.{One}
@@ -54,42 +55,42 @@ formless p = let z : _≡_ {A = ℕ} 0 1 = cc in omega arith
 
 -- the outermost element, and in it the tbs
 around :
-    (s : List ℕ) (tbs outer : Element) → envelopeOf s ≡ envelope.Parts tbs outer
-    → (o : Element) × (foundTagged s 0 (length s) 0x30 ≡ One o) × (foundTagged s (o .contents) (o .end) 0x30 ≡ One tbs)
+    (s : List ℕ) (tbs outer : Element) → envelopeOf paper s ≡ envelope.Parts tbs outer
+    → (o : Element) × (foundTagged paper s 0 (length s) 0x30 ≡ One o) × (foundTagged paper s (o .contents) (o .end) 0x30 ≡ One tbs)
 unfolding envelopeOf
 around s tbs outer e =
-    let a = went (foundTagged s 0 (length s) 0x30) envelope.Formless _ (envelope.Parts tbs outer) formless e in
+    let a = went (foundTagged paper s 0 (length s) 0x30) envelope.Formless _ (envelope.Parts tbs outer) formless e in
     let o = a .element in
-    let b = went (foundTagged s (o .contents) (o .end) 0x30) envelope.Formless _ (envelope.Parts tbs outer) formless (a .then) in
-    let c = went (foundTagged s (b .element .end) (o .end) 0x30) envelope.Formless _ (envelope.Parts tbs outer) formless (b .then) in
-    let d = went (foundTagged s (c .element .end) (o .end) 0x03) envelope.Formless _ (envelope.Parts tbs outer) formless (c .then) in
+    let b = went (foundTagged paper s (o .contents) (o .end) 0x30) envelope.Formless _ (envelope.Parts tbs outer) formless (a .then) in
+    let c = went (foundTagged paper s (b .element .end) (o .end) 0x30) envelope.Formless _ (envelope.Parts tbs outer) formless (b .then) in
+    let d = went (foundTagged paper s (c .element .end) (o .end) 0x03) envelope.Formless _ (envelope.Parts tbs outer) formless (c .then) in
     let k = kept (eqb (d .element .end) (o .end)) _ envelope.Formless (envelope.Parts tbs outer) formless (d .then) in
     let same : b .element ≡ tbs = cc in
     (o, a .there, b .there ∙ ap One same)
 
 -- what is found so is the issuer's country
 country-there :
-    (s : List ℕ) (tbs outer issuer : Element) (find : List ℕ → Element → Found) → envelopeOf s ≡ envelope.Parts tbs outer
+    (s : List ℕ) (tbs outer issuer : Element) (find : List ℕ → Element → Found) → envelopeOf paper s ≡ envelope.Parts tbs outer
     → find s tbs ≡ One issuer
-    → (onFound (foundTagged s 0 (length s) 0x30) Unfit λ outermost.
-    onFound (foundTagged s (outermost .contents) (outermost .end) 0x30) Unfit λ t. onFound (find s t) Unfit λ e. countryIn s e)
-    ≡ countryIn s issuer
+    → (onFound (foundTagged paper s 0 (length s) 0x30) Unfit λ outermost.
+    onFound (foundTagged paper s (outermost .contents) (outermost .end) 0x30) Unfit λ t. onFound (find s t) Unfit λ e. countryIn paper s e)
+    ≡ countryIn paper s issuer
 unfolding onFound
 country-there s tbs outer issuer find e found = let a = around s tbs outer e in rw (a .1, a .2, found)
 
 module _ (s : List ℕ) (tbs : Element) where
   issuer-front :
       (version serial inner issuer validity : Element) → shape.frontOf s tbs ≡ front.Opens version serial inner issuer validity
-      → (countries.issuerOf s tbs ≡ One issuer) × ((from : ℕ) × (foundTagged s from (tbs .end) 0x30 ≡ One issuer))
+      → (countries.issuerOf s tbs ≡ One issuer) × ((from : ℕ) × (foundTagged paper s from (tbs .end) 0x30 ≡ One issuer))
   unfolding shape.frontOf countries.issuerOf onFound
   issuer-front version serial inner issuer validity e =
       let opens = front.Opens version serial inner issuer validity in
-      let a = went (foundTagged s (tbs .contents) (tbs .end) 0xA0) front.Frontless _ opens frontless e in
-      let b = went (onlyOf s (a .element) 0x02) front.Frontless _ opens frontless (a .then) in
-      let c = went (foundTagged s (a .element .end) (tbs .end) 0x02) front.Frontless _ opens frontless (b .then) in
-      let d = went (foundTagged s (c .element .end) (tbs .end) 0x30) front.Frontless _ opens frontless (c .then) in
-      let i = went (foundTagged s (d .element .end) (tbs .end) 0x30) front.Frontless _ opens frontless (d .then) in
-      let v = went (foundTagged s (i .element .end) (tbs .end) 0x30) front.Frontless _ opens frontless (i .then) in
+      let a = went (foundTagged paper s (tbs .contents) (tbs .end) 0xA0) front.Frontless _ opens frontless e in
+      let b = went (onlyOf paper s (a .element) 0x02) front.Frontless _ opens frontless (a .then) in
+      let c = went (foundTagged paper s (a .element .end) (tbs .end) 0x02) front.Frontless _ opens frontless (b .then) in
+      let d = went (foundTagged paper s (c .element .end) (tbs .end) 0x30) front.Frontless _ opens frontless (c .then) in
+      let i = went (foundTagged paper s (d .element .end) (tbs .end) 0x30) front.Frontless _ opens frontless (d .then) in
+      let v = went (foundTagged paper s (i .element .end) (tbs .end) 0x30) front.Frontless _ opens frontless (i .then) in
       let same : i .element ≡ issuer = issued (v .then) in
       let there = i .there ∙ ap One same in
       (rw (a .there, c .there, d .there) there, (d .element .end, there))
@@ -102,16 +103,16 @@ module _ (s : List ℕ) (tbs : Element) where
       issued p = cc
 
   list-issuer-front :
-      (version inner issuer current coming : Element) → list-shape.frontOf s tbs ≡ list-front.Opens version inner issuer current coming
-      → (list-countries.issuerOf s tbs ≡ One issuer) × ((from : ℕ) × (foundTagged s from (tbs .end) 0x30 ≡ One issuer))
+      (version inner issuer current coming : Element) → list-shape.frontOf paper s tbs ≡ list-front.Opens version inner issuer current coming
+      → (list-countries.issuerOf paper s tbs ≡ One issuer) × ((from : ℕ) × (foundTagged paper s from (tbs .end) 0x30 ≡ One issuer))
   unfolding list-shape.frontOf list-countries.issuerOf onFound
   list-issuer-front version inner issuer current coming e =
       let opens = list-front.Opens version inner issuer current coming in
-      let a = went (foundTagged s (tbs .contents) (tbs .end) 0x02) list-front.Frontless _ opens frontless e in
-      let b = went (foundTagged s (a .element .end) (tbs .end) 0x30) list-front.Frontless _ opens frontless (a .then) in
-      let i = went (foundTagged s (b .element .end) (tbs .end) 0x30) list-front.Frontless _ opens frontless (b .then) in
-      let c = went (timeAt s (i .element .end) (tbs .end)) list-front.Frontless _ opens frontless (i .then) in
-      let d = went (timeAt s (c .element .end) (tbs .end)) list-front.Frontless _ opens frontless (c .then) in
+      let a = went (foundTagged paper s (tbs .contents) (tbs .end) 0x02) list-front.Frontless _ opens frontless e in
+      let b = went (foundTagged paper s (a .element .end) (tbs .end) 0x30) list-front.Frontless _ opens frontless (a .then) in
+      let i = went (foundTagged paper s (b .element .end) (tbs .end) 0x30) list-front.Frontless _ opens frontless (b .then) in
+      let c = went (timeAt paper s (i .element .end) (tbs .end)) list-front.Frontless _ opens frontless (i .then) in
+      let d = went (timeAt paper s (c .element .end) (tbs .end)) list-front.Frontless _ opens frontless (c .then) in
       let same : i .element ≡ issuer = issued (d .then) in
       let there = i .there ∙ ap One same in
       (rw (a .there, b .there) there, (b .element .end, there))
@@ -126,15 +127,15 @@ module _ (s : List ℕ) (tbs : Element) where
 -- the subject is the first of the members behind the times
 subject-back :
     (s : List ℕ) (from end : ℕ) (subject key extensions : Element) (unique : Bool)
-    → shape.backOf s from end ≡ back.Closes subject key unique extensions → foundTagged s from end 0x30 ≡ One subject
+    → shape.backOf s from end ≡ back.Closes subject key unique extensions → foundTagged paper s from end 0x30 ≡ One subject
 unfolding shape.backOf
 subject-back s from end subject key extensions unique e =
     let closes = back.Closes subject key unique extensions in
-    let a = went (foundTagged s from end 0x30) back.Backless _ closes backless e in
-    let b = went (foundTagged s (a .element .end) end 0x30) back.Backless _ closes backless (a .then) in
-    let c = went (foundTagged s (shape.uniqueEnd s (b .element .end) end) end 0xA3) back.Backless _ closes backless (b .then) in
+    let a = went (foundTagged paper s from end 0x30) back.Backless _ closes backless e in
+    let b = went (foundTagged paper s (a .element .end) end 0x30) back.Backless _ closes backless (a .then) in
+    let c = went (foundTagged paper s (shape.uniqueEnd s (b .element .end) end) end 0xA3) back.Backless _ closes backless (b .then) in
     let k = kept (eqb (c .element .end) end) _ back.Backless closes backless (c .then) in
-    let d = went (onlyOf s (c .element) 0x30) back.Backless _ closes backless (k .1) in
+    let d = went (onlyOf paper s (c .element) 0x30) back.Backless _ closes backless (k .1) in
     a .there ∙ ap One (closed (d .then))
   where
     backless : _≡_ {A = backs.Back} back.Backless (back.Closes subject key unique extensions) → ⊥
@@ -146,14 +147,14 @@ subject-back s from end subject key extensions unique e =
 
 -- a name where it stands
 name-at :
-    (s : List ℕ) (from end : ℕ) (e : Element) (seen : Seen) (a b : ℕ) → foundTagged s from end 0x30 ≡ One e → nameOf s e ≡ Holds seen
+    (s : List ℕ) (from end : ℕ) (e : Element) (seen : Seen) (a b : ℕ) → foundTagged paper s from end 0x30 ≡ One e → nameOf paper s e ≡ Holds seen
     → lettersOf s seen ≡ Two a b → NameAt s (e .at) (e .end - e .at) a b
 name-at s from end e seen a b found named letters =
     let here : e .at ≡ from = found-within s from end (tagged-found s from end 0x30 e found .0) .0 in
     record {
       element = e;
       end = end;
-      found = ap (λ (n : ℕ). foundTagged s n end 0x30) here ∙ found;
+      found = ap (λ (n : ℕ). foundTagged paper s n end 0x30) here ∙ found;
       long = refl;
       seen = seen;
       named = named;
@@ -190,14 +191,14 @@ certificate-country item role f e =
     ∙ sym (ap (λ (g : certificate.Fields). Two (g .first) (g .second)) (p .fields))
 
 pub crl-country :
-    (item : List ℕ) (f : crl.Fields) → list-answer.judgedOf item ≡ list-judged.Passed f
-    → list-countries.countryOf item ≡ Two (f .first) (f .second)
+    (item : List ℕ) (f : crl.Fields) → list-answer.judgedOf paper item ≡ list-judged.Passed f
+    → list-countries.countryOf paper item ≡ Two (f .first) (f .second)
 unfolding list-countries.countryOf list-rules.rule4 list-rules.readingsOf list-answer.fieldsOf
 crl-country item f e =
     let p = list-theorems.passes-exactly item f .0 e in
     let y = p .parts in
     let l = lists.laid-out item y (p .meets .shape) in
-    country-there item (l .tbs) (l .outer) (y .issuer) list-countries.issuerOf (l .around) (list-issuer-front item (l .tbs) _ _ _ _ _ (l .front) .0)
+    country-there item (l .tbs) (l .outer) (y .issuer) (list-countries.issuerOf paper) (l .around) (list-issuer-front item (l .tbs) _ _ _ _ _ (l .front) .0)
     ∙ country-letters item (y .issuer) (y .country) _ _ (l .named) (two-there (lettersOf item (y .country)) (p .meets .country))
     ∙ sym (ap (λ (g : crl.Fields). Two (g .first) (g .second)) (p .fields))
 
@@ -223,7 +224,7 @@ certificate-names item role f e =
     )
 
 pub crl-name :
-    (item : List ℕ) (f : crl.Fields) → list-answer.judgedOf item ≡ list-judged.Passed f
+    (item : List ℕ) (f : crl.Fields) → list-answer.judgedOf paper item ≡ list-judged.Passed f
     → NameAt item (f .«issuer_at») (f .«issuer_len») (f .first) (f .second)
 unfolding list-rules.rule4 list-rules.readingsOf list-answer.fieldsOf
 crl-name item f e =

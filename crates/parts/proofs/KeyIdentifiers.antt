@@ -102,13 +102,13 @@ only-same h = cc
 -- one OCTET STRING
 octets-read : (s : List ℕ) → Reads s (keys.octetString s) octetString []
 unfolding keys.octetString octetString onFound keyAt keyLength constructed along numbered
-octets-read s value tree sp good = go (foundTagged s (value .contents) (value .end) 0x04) refl good
+octets-read s value tree sp good = go (foundTagged paper s (value .contents) (value .end) 0x04) refl good
   where
     next : Element → KeyId
     next key = Key (key .contents) (key .end)
 
     go :
-        (f : Found) → foundTagged s (value .contents) (value .end) 0x04 ≡ f → (onFound f Misformed next ≡ Misformed → ⊥)
+        (f : Found) → foundTagged paper s (value .contents) (value .end) 0x04 ≡ f → (onFound f Misformed next ≡ Misformed → ⊥)
         → Formed octetString [] tree (value .contents) (onFound f Misformed next)
     go Missing h good = absurd (good refl)
     go (One key) h good =
@@ -128,17 +128,17 @@ first-shape a b c d = cc
 
 first-read : (s : List ℕ) → Reads s (firstOf s) firstMember (0 ∷ [])
 unfolding firstOf firstMember onFound keyAt keyLength constructed along numbered
-first-read s value tree sp good = by-outer (foundTagged s (value .contents) (value .end) 0x30) refl good
+first-read s value tree sp good = by-outer (foundTagged paper s (value .contents) (value .end) 0x30) refl good
   where
     next : Element → KeyId
     next key = Key (key .contents) (key .end)
 
     inner : Element → KeyId
-    inner outer = onFound (foundTagged s (outer .contents) (outer .end) 0x80) Misformed next
+    inner outer = onFound (foundTagged paper s (outer .contents) (outer .end) 0x80) Misformed next
 
     by-key :
         (outer : Element) → (t : Tagged s (value .contents) (value .end) 0x30 (more tree none) outer)
-        → (f : Found) → foundTagged s (outer .contents) (outer .end) 0x80 ≡ f → (onFound f Misformed next ≡ Misformed → ⊥)
+        → (f : Found) → foundTagged paper s (outer .contents) (outer .end) 0x80 ≡ f → (onFound f Misformed next ≡ Misformed → ⊥)
         → Formed firstMember (0 ∷ []) tree (value .contents) (onFound f Misformed next)
     by-key outer t Missing h good = absurd (good refl)
     by-key outer t (One key) h good =
@@ -153,12 +153,12 @@ first-read s value tree sp good = by-outer (foundTagged s (value .contents) (val
         }
 
     by-outer :
-        (f : Found) → foundTagged s (value .contents) (value .end) 0x30 ≡ f → (onFound f Misformed inner ≡ Misformed → ⊥)
+        (f : Found) → foundTagged paper s (value .contents) (value .end) 0x30 ≡ f → (onFound f Misformed inner ≡ Misformed → ⊥)
         → Formed firstMember (0 ∷ []) tree (value .contents) (onFound f Misformed inner)
     by-outer Missing h good = absurd (good refl)
     by-outer (One outer) h good =
         by-key outer (tagged-first s (value .contents) (value .end) 0x30 (more tree none) outer sp h)
-        (foundTagged s (outer .contents) (outer .end) 0x80) refl good
+        (foundTagged paper s (outer .contents) (outer .end) 0x80) refl good
 
 -- the length of an OCTET STRING's contents
 sized : {place : Place} {at n : ℕ} (size : ℕ) → Contents place at size → size ≡ n → Contents place at n
@@ -172,17 +172,17 @@ long e p = contents-length p
 module _
     (s : List ℕ) (root : Tree) (extensions : Element) (trees : Trees) (sp : Spans s (extensions .contents) (extensions .end) trees)
     (each : (k : ℕ) → placeIn root (0 ∷ 7 ∷ 0 ∷ k ∷ []) ≡ numbered trees k (extensions .contents))
-    (shaped : extensionsShaped s extensions ≡ true) (single : doubledOf s extensions ≡ false) where
+    (shaped : extensionsShaped paper s extensions ≡ true) (single : doubledOf paper s extensions ≡ false) where
   key-part :
       (oid : List ℕ) (read : Element → KeyId) (form : List ℕ → Trees → Tree) (path : List ℕ) → Reads s read form path → (k : KeyId)
-      → keyIn s (lookupOf s extensions oid) read ≡ k → (k ≡ Misformed → ⊥) → KeyPart root oid form path (keyAt k) (keyLength k)
+      → keyIn s (lookupOf paper s extensions oid) read ≡ k → (k ≡ Misformed → ⊥) → KeyPart root oid form path (keyAt k) (keyLength k)
   unfolding keyIn keyAt keyLength lookupOf inside extensionsShaped doubledOf placeIn along
   key-part oid read form path reads k e good =
       subst (λ (x : KeyId). KeyPart root oid form path (keyAt x) (keyLength x)) e
-      (go (lookupOf s extensions oid) refl (λ m. good (sym e ∙ m)))
+      (go (lookupOf paper s extensions oid) refl (λ m. good (sym e ∙ m)))
     where
-      all : allShaped s (inside s extensions) ≡ true
-      all = kept (eqb (extensions .tag) 0x30) (allShaped s (inside s extensions)) false true (λ p. true≢false (sym p)) shaped .1
+      all : allShaped paper s (inside paper s extensions) ≡ true
+      all = kept (eqb (extensions .tag) 0x30) (allShaped paper s (inside paper s extensions)) false true (λ p. true≢false (sym p)) shaped .1
 
       by-walk :
           (value : Element) → Met s trees (extensions .contents) oid value → (b : Bool) → walks s value ≡ b
@@ -211,7 +211,7 @@ module _
           })
 
       go :
-          (x : Extension) → lookupOf s extensions oid ≡ x → (keyIn s x read ≡ Misformed → ⊥)
+          (x : Extension) → lookupOf paper s extensions oid ≡ x → (keyIn s x read ≡ Misformed → ⊥)
           → KeyPart root oid form path (keyAt (keyIn s x read)) (keyLength (keyIn s x read))
       go Absent h good =
           absent (λ number from members e. look-misses s oid (extensions .end) trees (extensions .contents) sp all h number from members (sym (each number) ∙ e))

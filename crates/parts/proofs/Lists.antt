@@ -7,6 +7,7 @@ use native.Mathlib.Omega.{arith}
 use borrow.Author.Tests.{eqb-true}
 use lib.Dec.{eqb}
 use lib.ListN.{length}
+use Rattle.der.specs.Forms.{paper}
 use Rattle.der.specs.Heading.{constructed}
 use Rattle.tree.specs.Tree.{Tree, node, Trees, none, more}
 use Rattle.tree.proofs.Parts.{length-parts}
@@ -70,25 +71,25 @@ parts-same p = cc
 pub record Laid (s : List ℕ) (l : Layout) : Type 0 where
   pub tbs : Element
   pub outer : Element
-  pub around : envelopeOf s ≡ envelope.Parts tbs outer
-  pub front : frontOf s tbs ≡ Opens (l .version) (l .inner) (l .issuer) (l .current) (l .coming)
-  pub named : nameOf s (l .issuer) ≡ Holds (l .country)
-  pub listed : l .listing ≡ listingOf (l .coming .end) (foundTagged s (l .coming .end) (tbs .end) 0x30)
-  pub last : lastOf s (l .listing .after) (tbs .end) ≡ One (l .extensions)
-  pub survey : surveyOf s (l .listing .from) (l .listing .end) ≡ survey.Entries (l .count) (l .timely) (l .calm)
+  pub around : envelopeOf paper s ≡ envelope.Parts tbs outer
+  pub front : frontOf paper s tbs ≡ Opens (l .version) (l .inner) (l .issuer) (l .current) (l .coming)
+  pub named : nameOf paper s (l .issuer) ≡ Holds (l .country)
+  pub listed : l .listing ≡ listingOf (l .coming .end) (foundTagged paper s (l .coming .end) (tbs .end) 0x30)
+  pub last : lastOf paper s (l .listing .after) (tbs .end) ≡ One (l .extensions)
+  pub survey : surveyOf paper s (l .listing .from) (l .listing .end) ≡ survey.Entries (l .count) (l .timely) (l .calm)
 
-pub laid-out : (s : List ℕ) (l : Layout) → layoutOf s ≡ Parts l → Laid s l
+pub laid-out : (s : List ℕ) (l : Layout) → layoutOf paper s ≡ Parts l → Laid s l
 unfolding layoutOf partsOf
 laid-out s l e =
-    let p = by-parts (partsOf s) _ e in
+    let p = by-parts (partsOf paper s) _ e in
     let m = p .0 in
-    let a = by-envelope (envelopeOf s) Broken _ (Parts m) broken (p .1) in
-    let b = by-front (frontOf s (a .0)) _ (a .3) in
-    let c = by-name (nameOf s (b .2)) Broken _ (Parts m) broken (b .6) in
-    let listing = listingOf (b .4 .end) (foundTagged s (b .4 .end) (a .0 .end) 0x30) in
-    let d = went (lastOf s (listing .after) (a .0 .end)) Broken _ (Parts m) broken (c .2) in
-    let f = by-survey (surveyOf s (listing .from) (listing .end)) _ (d .then) in
-    let g = kept (extensionsShaped s (m .extensions)) _ Broken (Parts l) broken (p .2) in
+    let a = by-envelope (envelopeOf paper s) Broken _ (Parts m) broken (p .1) in
+    let b = by-front (frontOf paper s (a .0)) _ (a .3) in
+    let c = by-name (nameOf paper s (b .2)) Broken _ (Parts m) broken (b .6) in
+    let listing = listingOf (b .4 .end) (foundTagged paper s (b .4 .end) (a .0 .end) 0x30) in
+    let d = went (lastOf paper s (listing .after) (a .0 .end)) Broken _ (Parts m) broken (c .2) in
+    let f = by-survey (surveyOf paper s (listing .from) (listing .end)) _ (d .then) in
+    let g = kept (extensionsShaped paper s (m .extensions)) _ Broken (Parts l) broken (p .2) in
     subst (Laid s) (parts-same (f .4) ∙ parts-same (g .1))
     (record {
       tbs = a .0;
@@ -126,19 +127,19 @@ opens-same h = (cc, cc, cc)
 
 pub front-members :
     (s : List ℕ) (tbs a b c d e : Element) (members : Trees) → Spans s (tbs .contents) (tbs .end) members
-    → frontOf s tbs ≡ Opens a b c d e → Fronted s (tbs .contents) (tbs .end) members c d e
+    → frontOf paper s tbs ≡ Opens a b c d e → Fronted s (tbs .contents) (tbs .end) members c d e
 unfolding frontOf
 front-members s tbs a b c d e members sp p =
     let r = Opens a b c d e in
-    let f1 = went (foundTagged s (tbs .contents) (tbs .end) 0x02) Frontless _ r frontless p in
+    let f1 = went (foundTagged paper s (tbs .contents) (tbs .end) 0x02) Frontless _ r frontless p in
     let t1 = tagged-first s _ (tbs .end) 0x02 members (f1 .element) sp (f1 .there) in
-    let f2 = went (foundTagged s (f1 .element .end) (tbs .end) 0x30) Frontless _ r frontless (f1 .then) in
+    let f2 = went (foundTagged paper s (f1 .element .end) (tbs .end) 0x30) Frontless _ r frontless (f1 .then) in
     let t2 = tagged-first s _ (tbs .end) 0x30 (t1 .rest) (f2 .element) (t1 .member .next) (f2 .there) in
-    let f3 = went (foundTagged s (f2 .element .end) (tbs .end) 0x30) Frontless _ r frontless (f2 .then) in
+    let f3 = went (foundTagged paper s (f2 .element .end) (tbs .end) 0x30) Frontless _ r frontless (f2 .then) in
     let t3 = tagged-first s _ (tbs .end) 0x30 (t2 .rest) (f3 .element) (t2 .member .next) (f3 .there) in
-    let f4 = went (timeAt s (f3 .element .end) (tbs .end)) Frontless _ r frontless (f3 .then) in
+    let f4 = went (timeAt paper s (f3 .element .end) (tbs .end)) Frontless _ r frontless (f3 .then) in
     let x4 = first-of s (f3 .element .end) (tbs .end) (t3 .rest) (f4 .element) (t3 .member .next) (timed-found s _ _ _ (f4 .there)) in
-    let f5 = went (timeAt s (f4 .element .end) (tbs .end)) Frontless _ r frontless (f4 .then) in
+    let f5 = went (timeAt paper s (f4 .element .end) (tbs .end)) Frontless _ r frontless (f4 .then) in
     let x5 = first-of s (f4 .element .end) (tbs .end) (x4 .1) (f5 .element) (x4 .3 .next) (timed-found s _ _ _ (f5 .there)) in
     let same = opens-same (f5 .then) in
     let n1 = row-later (t1 .member) (t1 .split) in
@@ -176,11 +177,11 @@ last-shape :
 last-shape a b c d = cc
 
 last-tree :
-    (s : List ℕ) (from end : ℕ) (trees : Trees) (e : Element) → Spans s from end trees → lastOf s from end ≡ One e
+    (s : List ℕ) (from end : ℕ) (trees : Trees) (e : Element) → Spans s from end trees → lastOf paper s from end ≡ One e
     → (extensions : Trees) × (trees ≡ closing extensions)
 unfolding lastOf constructed
 last-tree s from end trees e sp h =
-    let f1 = went (foundTagged s from end 0xA0) Missing _ (One e) missing h in
+    let f1 = went (foundTagged paper s from end 0xA0) Missing _ (One e) missing h in
     let t1 = tagged-first s from end 0xA0 trees (f1 .element) sp (f1 .there) in
     let k = kept (eqb (f1 .element .end) end) _ Missing (One e) missing (f1 .then) in
     let i1 = members-inside s from end 0xA0 trees (f1 .element) refl t1 in
@@ -193,10 +194,10 @@ last-tree s from end trees e sp h =
 
 -- the survey counts the members of its stretch
 survey-count :
-    (s : List ℕ) (from end n : ℕ) (timely calm : Bool) → surveyOf s from end ≡ survey.Entries n timely calm → n ≡ length (membersOf s from end)
+    (s : List ℕ) (from end n : ℕ) (timely calm : Bool) → surveyOf paper s from end ≡ survey.Entries n timely calm → n ≡ length (membersOf paper s from end)
 unfolding surveyOf
 survey-count s from end n timely calm h =
-    let k = kept (allShaped s (membersOf s from end)) _ survey.Shapeless (survey.Entries n timely calm) shapeless h in same (k .1)
+    let k = kept (allShaped paper s (membersOf paper s from end)) _ survey.Shapeless (survey.Entries n timely calm) shapeless h in same (k .1)
   where
     shapeless : _≡_ {A = Survey} survey.Shapeless (survey.Entries n timely calm) → ⊥
     shapeless p = let z : _≡_ {A = ℕ} 0 1 = cc in omega arith
@@ -205,10 +206,10 @@ survey-count s from end n timely calm h =
     same p = cc
 
 -- nothing stands in a stretch from 0 to 0
-none-found : (s : List ℕ) → length (membersOf s 0 0) ≡ 0
-none-found s = ap length (members-none s 0 0 (go (foundAt s 0 0) refl))
+none-found : (s : List ℕ) → length (membersOf paper s 0 0) ≡ 0
+none-found s = ap length (members-none s 0 0 (go (foundAt paper s 0 0) refl))
   where
-    go : (f : Found) → foundAt s 0 0 ≡ f → f ≡ Missing
+    go : (f : Found) → foundAt paper s 0 0 ≡ f → f ≡ Missing
     go Missing h = refl
     go (One e) h = absurd (omega (arith, found-within s 0 0 h))
 
@@ -216,21 +217,21 @@ none-found s = ap length (members-none s 0 0 (go (foundAt s 0 0) refl))
 pub entries-told :
     (s : List ℕ) (tree : Tree) (from end : ℕ) (rest : Trees) (listing : Listing) (extensions : Element) (n : ℕ) (timely calm : Bool)
     → Spans s from end rest → placeIn tree (0 ∷ 5 ∷ []) ≡ numbered rest 0 from
-    → listing ≡ listingOf from (foundTagged s from end 0x30) → lastOf s (listing .after) end ≡ One extensions
-    → surveyOf s (listing .from) (listing .end) ≡ survey.Entries n timely calm
+    → listing ≡ listingOf from (foundTagged paper s from end 0x30) → lastOf paper s (listing .after) end ≡ One extensions
+    → surveyOf paper s (listing .from) (listing .end) ≡ survey.Entries n timely calm
     → Entered tree rest n (listing .from) (listing .end)
 unfolding listingOf constructed
 entries-told s tree from end rest listing extensions n timely calm sp sixth same last counted =
-    go (foundTagged s from end 0x30) refl same
+    go (foundTagged paper s from end 0x30) refl same
   where
-    go : (f : Found) → foundTagged s from end 0x30 ≡ f → listing ≡ listingOf from f → Entered tree rest n (listing .from) (listing .end)
+    go : (f : Found) → foundTagged paper s from end 0x30 ≡ f → listing ≡ listingOf from f → Entered tree rest n (listing .from) (listing .end)
     go Missing h same =
         let after : listing .after ≡ from = ap (λ (x : Listing). x .after) same in
         let start : listing .from ≡ 0 = ap (λ (x : Listing). x .from) same in
         let stop : listing .end ≡ 0 = ap (λ (x : Listing). x .end) same in
-        let x = last-tree s from end rest extensions sp (subst (λ (a : ℕ). lastOf s a end ≡ One extensions) after last) in
-        let m : n ≡ length (membersOf s (listing .from) (listing .end)) = survey-count s (listing .from) (listing .end) n timely calm counted in
-        let z : length (membersOf s (listing .from) (listing .end)) ≡ 0 = rw (start, stop) (none-found s) in
+        let x = last-tree s from end rest extensions sp (subst (λ (a : ℕ). lastOf paper s a end ≡ One extensions) after last) in
+        let m : n ≡ length (membersOf paper s (listing .from) (listing .end)) = survey-count s (listing .from) (listing .end) n timely calm counted in
+        let z : length (membersOf paper s (listing .from) (listing .end)) ≡ 0 = rw (start, stop) (none-found s) in
         listless (x .0) (x .1) (m ∙ z) start stop
     go (One e) h same =
         let after : listing .after ≡ e .end = ap (λ (x : Listing). x .after) same in
@@ -239,9 +240,9 @@ entries-told s tree from end rest listing extensions n timely calm sp sixth same
         let t = tagged-first s from end 0x30 rest e sp h in
         let i = members-inside s from end 0x30 rest e refl t in
         let p = part-at (row-here (t .member) (t .split)) sixth in
-        let x = last-tree s (e .end) end (t .rest) extensions (t .member .next) (subst (λ (a : ℕ). lastOf s a end ≡ One extensions) after last) in
-        let m : n ≡ length (membersOf s (listing .from) (listing .end)) = survey-count s (listing .from) (listing .end) n timely calm counted in
-        let c : length (membersOf s (listing .from) (listing .end)) ≡ many (i .0) =
+        let x = last-tree s (e .end) end (t .rest) extensions (t .member .next) (subst (λ (a : ℕ). lastOf paper s a end ≡ One extensions) after last) in
+        let m : n ≡ length (membersOf paper s (listing .from) (listing .end)) = survey-count s (listing .from) (listing .end) n timely calm counted in
+        let c : length (membersOf paper s (listing .from) (listing .end)) ≡ many (i .0) =
         rw (start, stop) (ap length (span-members s (e .contents) (e .end) (i .0) (i .2)) ∙ many-elements (e .contents) (i .0)) in
         listing-of e (i .0) (x .0) (list-shape (t .split) (i .1) (x .1)) (m ∙ c) start stop p
       where

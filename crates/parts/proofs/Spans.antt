@@ -48,7 +48,7 @@ module _ (before behind : List ℕ) (tree : Tree) (trees : Trees) (sound : Sound
   first : Element
   first = elementOf (length before) tree
 
-  first-found : foundAt item (length before) stop-at ≡ One first
+  first-found : foundAt paper item (length before) stop-at ≡ One first
   unfolding item stop-at first elementOf foundAt stepped
   first-found = rw (step-more paper (lit≤ tt) before behind tree trees sound)
 
@@ -91,31 +91,31 @@ module _ (before behind : List ℕ) (tree : Tree) (trees : Trees) (sound : Sound
 -- the first tree of a stretch is found at its start
 pub found-first :
     (s : List ℕ) (from end : ℕ) (tree : Tree) (trees : Trees) → Spans s from end (more tree trees)
-    → (e : Element) × (foundAt s from end ≡ One e) × Member s from end e tree trees
+    → (e : Element) × (foundAt paper s from end ≡ One e) × Member s from end e tree trees
 unfolding item stop-at
 found-first s from end tree trees sp = go (sp .sound)
   where
-    go : SoundAll paper (more tree trees) → (e : Element) × (foundAt s from end ≡ One e) × Member s from end e tree trees
+    go : SoundAll paper (more tree trees) → (e : Element) × (foundAt paper s from end ≡ One e) × Member s from end e tree trees
     go (sound-more sound others) =
         let b = sp .before in
         let h = sp .behind in
-        subst (λ (t : List ℕ). (e : Element) × (foundAt t from end ≡ One e) × Member t from end e tree trees) (sp .whole)
-        (subst (λ (a : ℕ). (e : Element) × (foundAt (item b h tree trees sound others) a end ≡ One e) × Member (item b h tree trees sound others) a end e tree trees) (sp .start)
-        (subst (λ (d : ℕ). (e : Element) × (foundAt (item b h tree trees sound others) (length b) d ≡ One e) × Member (item b h tree trees sound others) (length b) d e tree trees) (sp .stop)
+        subst (λ (t : List ℕ). (e : Element) × (foundAt paper t from end ≡ One e) × Member t from end e tree trees) (sp .whole)
+        (subst (λ (a : ℕ). (e : Element) × (foundAt paper (item b h tree trees sound others) a end ≡ One e) × Member (item b h tree trees sound others) a end e tree trees) (sp .start)
+        (subst (λ (d : ℕ). (e : Element) × (foundAt paper (item b h tree trees sound others) (length b) d ≡ One e) × Member (item b h tree trees sound others) (length b) d e tree trees) (sp .stop)
         (first b h tree trees sound others, first-found b h tree trees sound others, first-member b h tree trees sound others)))
 
 -- in a stretch without trees nothing is found
-pub found-none : (s : List ℕ) (from end : ℕ) → Spans s from end none → foundAt s from end ≡ Missing
+pub found-none : (s : List ℕ) (from end : ℕ) → Spans s from end none → foundAt paper s from end ≡ Missing
 unfolding foundAt stepped encodedAll
 found-none s from end sp =
-    subst (λ (t : List ℕ). foundAt t from end ≡ Missing) (sp .whole)
-    (subst (λ (b : ℕ). foundAt (sp .before ++ encodedAll none ++ sp .behind) b end ≡ Missing) (sp .start)
-    (subst (λ (b : ℕ). foundAt (sp .before ++ encodedAll none ++ sp .behind) (length (sp .before)) b ≡ Missing) (sp .stop)
+    subst (λ (t : List ℕ). foundAt paper t from end ≡ Missing) (sp .whole)
+    (subst (λ (b : ℕ). foundAt paper (sp .before ++ encodedAll none ++ sp .behind) b end ≡ Missing) (sp .start)
+    (subst (λ (b : ℕ). foundAt paper (sp .before ++ encodedAll none ++ sp .behind) (length (sp .before)) b ≡ Missing) (sp .stop)
     (ap (stepped (length (sp .before))) (step-none paper (sp .before) (sp .behind)))))
 
 -- an element that is found in a stretch is the first of its trees
 pub first-of :
-    (s : List ℕ) (from end : ℕ) (trees : Trees) (e : Element) → Spans s from end trees → foundAt s from end ≡ One e
+    (s : List ℕ) (from end : ℕ) (trees : Trees) (e : Element) → Spans s from end trees → foundAt paper s from end ≡ One e
     → (tree : Tree) × (rest : Trees) × (trees ≡ more tree rest) × Member s from end e tree rest
 first-of s from end none e sp f = absurd (never (sym (found-none s from end sp) ∙ f))
   where

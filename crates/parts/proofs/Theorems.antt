@@ -53,7 +53,7 @@ use Rattle.parts.proofs.Unique.{certificate-unique, crl-unique}
 -- The elements of a stretch that encodes sound trees are those trees, one for one and in order.
 pub members-trees :
     (before behind : List ℕ) (trees : Trees) → SoundAll paper trees
-    → membersOf (before ++ encodedAll trees ++ behind) (length before) (length before + length (encodedAll trees))
+    → membersOf paper (before ++ encodedAll trees ++ behind) (length before) (length before + length (encodedAll trees))
     ≡ elementsOf (length before) trees
 members-trees before behind trees sound =
     span-members (before ++ encodedAll trees ++ behind) (length before) (length before + length (encodedAll trees)) trees
@@ -62,7 +62,7 @@ members-trees before behind trees sound =
 -- So the elements inside a node's element are the node's members.
 pub inside-node :
     (before behind : List ℕ) (tag : ℕ) (members : Trees) → Sound paper (node tag members)
-    → inside (before ++ encoded (node tag members) ++ behind) (elementOf (length before) (node tag members))
+    → inside paper (before ++ encoded (node tag members) ++ behind) (elementOf (length before) (node tag members))
     ≡ elementsOf (length before + length (headerOf (node tag members))) members
 unfolding inside elementOf contentsOf
 inside-node before behind tag members sound =
@@ -160,7 +160,7 @@ certificate-parts item role f octets e =
     let b = back-members item (l .validity .end) (l .tbs .end) (y .subject) (y .key) (y .unique) (y .extensions) (a .rest) (a .next) (l .back) (not-true (y .unique) (p .meets .bare)) in
     let c = two-times item (numbered (v .members) 4 (l .tbs .contents)) (l .validity) (y .start) (y .finish) (a .validity) (a .validity-part) (a .validity-tag) (l .times) in
     let k = keys-formed (readingsOf item y) role (p .meets .keys) in
-    let single = not-true (doubledOf item (y .extensions)) (both (not (eqb (length (inside item (y .extensions))) 0)) _ (p .meets .once) .1) in
+    let single = not-true (doubledOf paper item (y .extensions)) (both (not (eqb (length (inside paper item (y .extensions))) 0)) _ (p .meets .once) .1) in
     let m = moments (timeOf item (y .start)) (timeOf item (y .finish)) (p .meets .times) in
     let issuer = part-at (a .issuer-part) (v .each 3) in
     let each : (n : ℕ) → placeIn (t .tree) (0 ∷ 7 ∷ 0 ∷ n ∷ []) ≡ numbered (b .extensions) n (y .extensions .contents) =
@@ -212,7 +212,7 @@ certificate-serial item role f octets e =
 -- Of a CRL that passes, issuer and the two times reported are the third, fourth and fifth member of the tbs of the item's tree, the
 -- letters are in the issuer, and as many entries are told as the entry list has members.
 pub crl-parts :
-    (item : List ℕ) (f : crl.Fields) → Octets item → list-answer.judgedOf item ≡ list-judged.Passed f → Crl item f
+    (item : List ℕ) (f : crl.Fields) → Octets item → list-answer.judgedOf paper item ≡ list-judged.Passed f → Crl item f
 unfolding list-answer.fieldsOf list-rules.rule4 list-rules.rule5 list-rules.readingsOf
 crl-parts item f octets e =
     let p = list-theorems.passes-exactly item f .0 e in

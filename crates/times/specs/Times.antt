@@ -4,6 +4,7 @@ use mathlib.Core.Bool.{Bool, true, false, cond, _&&_}
 use mathlib.Core.List.{List, [], _∷_}
 use lib.Dec.{leb, ltb, eqb}
 use lib.ListN.{length, getD, take}
+use Rattle.der.specs.Forms.{Forms}
 use Rattle.calendar.specs.Days.{realMoment}
 use Rattle.elements.specs.declared.elements.Element.{Element}
 use Rattle.times.specs.declared.Time.{Time}
@@ -70,5 +71,5 @@ inOrder (Moment start) Untimely = false
 inOrder (Moment start) (Moment end) = leb start end
 
 -- the element at `from`, if it has the tag of a time
-unfoldable pub timeAt : List ℕ → ℕ → ℕ → Found
-timeAt s from end = onFound (foundAt s from end) Missing λ e. cond (timeTag (e .tag)) (One e) Missing
+unfoldable pub timeAt : Forms → List ℕ → ℕ → ℕ → Found
+timeAt forms s from end = onFound (foundAt forms s from end) Missing λ e. cond (timeTag (e .tag)) (One e) Missing

@@ -5,6 +5,7 @@ use elements::Found;
 use elements::contents;
 use elements::element_tagged;
 ghost use mathlib.Core.Path.{_≡_};
+ghost use Rattle.der.specs.Forms.{paper};
 ghost use Rattle.times.specs.Times.{figures, realNumber, timeOf, momentOf, inOrder, timeAt};
 ghost use Rattle.times.specs.Pairs.{Pair, YearOf};
 ghost use Prim.Native.Nat.{_≤_};
@@ -30,7 +31,7 @@ pub fn time_of(item: &[u8], e: Element) -> Time
 }
 
 // The year at the front of a time, with ten octets and a Z after it; 10000 where there is none.
-fn year_of(tag: u8, c: &[u8]) -> u64
+fn year_of(tag: usize, c: &[u8]) -> u64
     ensures { λ r. ⌜ YearOf tag (now (c .entry)) r ⌝ }
 {
     match tag {
@@ -159,7 +160,7 @@ pub fn in_order(start: Time, end: Time) -> bool
 
 // The element at `from`, if it has the tag of a UTCTime or a GeneralizedTime.
 pub fn time_at(item: &[u8], from: usize, end: usize) -> Found
-    ensures { λ r. ⌜ r ≡ timeAt (now (item .entry)) from end ⌝ }
+    ensures { λ r. ⌜ r ≡ timeAt paper (now (item .entry)) from end ⌝ }
 {
     match element_tagged(item, from, end, 0x17) {
         Found::One(e) => Found::One(e),

@@ -5,7 +5,7 @@ use mathlib.Core.List.{List}
 use Prim.Native.Nat.{ℕ, suc, _+_, _*_, _≤_, _<_}
 use borrow.Author.Tests.{ltb-false, leb-false, eqb-true}
 use lib.Dec.{ltb, leb, eqb}
-use lib.ListN.{length, take, drop}
+use lib.ListN.{length, getD, take, drop}
 use Rattle.refusal.specs.declared.Refusal.{Refusal}
 use Rattle.der.specs.declared.heading.Heading.{Heading}
 use Rattle.der.specs.declared.heading.Heading.the-variants.{Header, Bad}
@@ -57,9 +57,9 @@ module _ (forms : Forms) (fuel : ℕ) (s : List ℕ) (base d n : ℕ) where
 
   pub element-by :
       (P : Read → Type 0) → ((refusal : Refusal) → P (Fault refusal))
-      → ((tag skip size m : ℕ) → Opened tag skip size → constructed tag ≡ true
+      → ((tag skip size m : ℕ) → Opened tag skip size → constructed (getD s 0 0) ≡ true
       → listAt fuel forms (take size (drop skip s)) (base + skip) (d + 1) (n + 1) ≡ Passed m → P (Past (skip + size) m))
-      → ((tag skip size : ℕ) → Opened tag skip size → constructed tag ≡ false → contentsGood tag (take size (drop skip s)) ≡ true
+      → ((tag skip size : ℕ) → Opened tag skip size → constructed (getD s 0 0) ≡ false → contentsGood tag (take size (drop skip s)) ≡ true
       → P (Past (skip + size) (n + 1)))
       → P (elementAt (suc fuel) forms s base d n)
   unfolding elementAt
@@ -68,7 +68,7 @@ module _ (forms : Forms) (fuel : ℕ) (s : List ℕ) (base d n : ℕ) where
       cond-by P (ltb (forms .depth) d) (λ deep. fault _) λ shallow.
       cond-by P (leb (forms .elements) n) (λ many. fault _) λ few.
       let o : Opened tag skip size = record { header = e; shallow = ltb-false _ _ shallow; few = leb-false _ _ few } in
-      cond-by P (constructed tag) (λ built. filled-by P (skip + size) _ fault λ m inner. node tag skip size m o built inner)
+      cond-by P (constructed (getD s 0 0)) (λ built. filled-by P (skip + size) _ fault λ m inner. node tag skip size m o built inner)
       λ primitive. cond-by P (contentsGood tag (take size (drop skip s))) (λ good. leaf tag skip size o primitive good) λ spoilt. fault _
 
   pub list-by :

@@ -13,7 +13,7 @@ use Rattle.octets.specs.Octets.{Octets}
 use Rattle.der.specs.Walk.{elementAt, listAt}
 use Rattle.tree.specs.Tree.{Tree, leaf, node, Trees, none, more, encoded, encodedAll, size, sizeAll, depth, depthAll, Sound, sound-leaf, sound-node, SoundAll, sound-none, sound-more}
 use Rattle.tree.proofs.Numbers.{octets-take, octets-drop}
-use Rattle.tree.proofs.Written.{Headed, heading-fits, Taken, heading-taken}
+use Rattle.tree.proofs.Written.{Taken, heading-taken}
 use Rattle.tree.proofs.Answers.{element-by, list-by}
 
 -- the tree of an element that takes `used` octets of s
@@ -53,7 +53,6 @@ module _ (forms : Forms) (limit : forms .lengthOctets ≤ 3) where
     element-found (suc fuel) s base d n o =
         element-by forms fuel s base d n (ReadFound forms s d n) (λ refusal. tt)
         (λ tag skip size m op built inner.
-        let h : Headed forms s tag skip size = heading-fits forms s tag skip size (op .header) in
         let t : Taken forms s tag skip size = heading-taken forms limit tag skip size s o (op .header) in
         let c : List ℕ = take size (drop skip s) in
         let f : FoundAll forms c (d + 1) (n + 1) m =
@@ -63,18 +62,17 @@ module _ (forms : Forms) (limit : forms .lengthOctets ≤ 3) where
           tree = node tag (f .trees);
           bytes = rw (f .bytes) (t .octets);
           takes = rw (f .bytes) (t .takes);
-          sound = sound-node (t .octet-tag) (h .good) built (rw (f .bytes) (t .below)) (f .sound);
+          sound = sound-node (t .tag-fits) (t .good) (rw (t .leads) built) (rw (f .bytes) (t .below)) (f .sound);
           count = omega (arith, f .count);
           shallow = omega (arith, f .shallow);
         })
         λ tag skip size op primitive good.
-        let h : Headed forms s tag skip size = heading-fits forms s tag skip size (op .header) in
         let t : Taken forms s tag skip size = heading-taken forms limit tag skip size s o (op .header) in
         record {
           tree = leaf tag (take size (drop skip s));
           bytes = t .octets;
           takes = t .takes;
-          sound = sound-leaf (t .octet-tag) (h .good) primitive (octets-take size (octets-drop skip o)) (t .below) good;
+          sound = sound-leaf (t .tag-fits) (t .good) (rw (t .leads) primitive) (octets-take size (octets-drop skip o)) (t .below) good;
           count = refl;
           shallow = omega (arith, op .shallow);
         }

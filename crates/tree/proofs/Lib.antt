@@ -1,6 +1,7 @@
 pub mod Cases
 pub mod Numbers
 pub mod Lengths
+pub mod Tags
 pub mod Headings
 pub mod Written
 pub mod Answers

@@ -10,13 +10,14 @@ use Rattle.der.specs.declared.walking.Walked.the-variants.{Passed}
 use Rattle.der.specs.Forms.{Forms}
 use Rattle.der.specs.Walk.{filled, elementAt, listAt}
 use Rattle.der.proofs.Laws.{element-node, element-leaf, list-done, list-more}
-use Rattle.tree.specs.Tree.{Tree, leaf, node, Trees, none, more, lengthEncoded, tagged, encoded, encodedAll, size, sizeAll, depth, depthAll, Sound, sound-leaf, sound-node, SoundAll, sound-none, sound-more}
-use Rattle.tree.proofs.Headings.{heading-of, length-tagged, length-encoded-some, tagged-contents}
+use Rattle.tree.specs.Tree.{Tree, leaf, node, Trees, none, more, tagged, encoded, encodedAll, size, sizeAll, depth, depthAll, Sound, sound-leaf, sound-node, SoundAll, sound-none, sound-more}
+use Rattle.tree.proofs.Tags.{identifier-some}
+use Rattle.tree.proofs.Headings.{skipped, heading-of, length-tagged, length-encoded-some, tagged-contents, tagged-first}
 
 pub encoded-some : (x : Tree) → 2 ≤ length (encoded x)
 unfolding encoded
-encoded-some (leaf tag c) = omega (arith, length-tagged tag c, length-encoded-some (length c))
-encoded-some (node tag members) = omega (arith, length-tagged tag (encodedAll members), length-encoded-some (length (encodedAll members)))
+encoded-some (leaf tag c) = omega (arith, length-tagged tag c, identifier-some tag, length-encoded-some (length c))
+encoded-some (node tag members) = omega (arith, length-tagged tag (encodedAll members), identifier-some tag, length-encoded-some (length (encodedAll members)))
 
 module _ (forms : Forms) (limit : forms .lengthOctets ≤ 3) where
   mutual
@@ -29,15 +30,15 @@ module _ (forms : Forms) (limit : forms .lengthOctets ≤ 3) where
     reads (leaf tag c) sound rest zero base d n f deep many = absurd (omega arith)
     reads (leaf tag c) (sound-leaf b good primitive o below contents) rest (suc fuel) base d n f deep many =
         rw (length-tagged tag c)
-        (element-leaf forms fuel _ base d n tag _ (length c) (heading-of forms limit tag c rest good below) (omega arith) (omega arith) primitive
+        (element-leaf forms fuel _ base d n tag _ (length c) (heading-of forms limit tag c rest good below) (omega arith) (omega arith) (rw (tagged-first tag c rest) primitive)
         (rw tagged-contents contents))
     reads (node tag members) sound rest zero base d n f deep many = absurd (omega arith)
     reads (node tag members) (sound-node b good built below sound) rest (suc fuel) base d n f deep many =
         let c : List ℕ = encodedAll members in
-        let skip : ℕ = 1 + length (lengthEncoded (length c)) in
+        let skip : ℕ = skipped tag (length c) in
         let inner = reads-all members sound fuel (base + skip) (d + 1) (n + 1)
-        (omega (arith, length-append (tagged tag c) rest, length-tagged tag c)) (omega arith) (omega arith) in
-        element-node forms fuel _ base d n tag skip (length c) (heading-of forms limit tag c rest good below) (omega arith) (omega arith) built
+        (omega (arith, length-append (tagged tag c) rest, length-tagged tag c, identifier-some tag, length-encoded-some (length c))) (omega arith) (omega arith) in
+        element-node forms fuel _ base d n tag skip (length c) (heading-of forms limit tag c rest good below) (omega arith) (omega arith) (rw (tagged-first tag c rest) built)
         ∙ rw (tagged-contents tag c rest, inner) (ap₂ Past (sym (length-tagged tag c)) (omega arith))
 
     pub reads-all :

@@ -7,14 +7,14 @@ use native.Mathlib.Omega.{arith}
 use lib.ListN.{length, take, drop, length-append}
 use lib.Seq.{drop-append-seam}
 use Rattle.der.specs.Forms.{Forms}
-use Rattle.der.specs.Heading.{headingOf, identifierGood, constructed}
-use Rattle.tree.specs.Tree.{Tree, leaf, node, Trees, none, more, lengthEncoded, tagged, encoded, encodedAll, Sound, sound-leaf, sound-node, SoundAll, sound-more}
-use Rattle.tree.proofs.Headings.{told, heading-of, tagged-contents}
+use Rattle.der.specs.Heading.{headingOf, constructed}
+use Rattle.tree.specs.Tree.{Tree, leaf, node, Trees, none, more, leading, tagged, encoded, encodedAll, tagGood, Sound, sound-leaf, sound-node, SoundAll, sound-more}
+use Rattle.tree.proofs.Headings.{told, skipped, heading-of, tagged-contents}
 use Rattle.tree.proofs.Reading.{encoded-some}
 
 module _ (forms : Forms) (limit : forms .lengthOctets ≤ 3) where
   tagged-one :
-      (x y : ℕ) (c k r q : List ℕ) → identifierGood x ≡ true → identifierGood y ≡ true → length c < told forms → length k < told forms
+      (x y : ℕ) (c k r q : List ℕ) → tagGood forms x ≡ true → tagGood forms y ≡ true → length c < told forms → length k < told forms
       → tagged x c ++ r ≡ tagged y k ++ q → (x ≡ y) × (c ≡ k) × (r ≡ q)
   tagged-one x y c k r q gx gy bc bk e =
       let hc = heading-of forms limit x c r gx bc in
@@ -23,8 +23,8 @@ module _ (forms : Forms) (limit : forms .lengthOctets ≤ 3) where
       let tags : x ≡ y = cc in
       let sizes : length c ≡ length k = cc in
       let contents : c ≡ k =
-      sym (tagged-contents x c r) ∙ ap (λ (s : List ℕ). take (length c) (drop (1 + length (lengthEncoded (length c))) s)) e
-      ∙ rw sizes (tagged-contents y k q) in
+      sym (tagged-contents x c r) ∙ ap (λ (s : List ℕ). take (length c) (drop (skipped x (length c)) s)) e
+      ∙ rw (tags, sizes) (tagged-contents y k q) in
       let heads : tagged x c ≡ tagged y k = ap₂ tagged tags contents in
       (tags, contents, sym (drop-append-seam (tagged x c) r) ∙ ap₂ (λ (l s : List ℕ). drop (length l) s) heads e ∙ drop-append-seam (tagged y k) q)
 
@@ -38,10 +38,10 @@ module _ (forms : Forms) (limit : forms .lengthOctets ≤ 3) where
         (ap₂ leaf tags contents, rests)
     tree-one (leaf x c) (node y ks) r q (sound-leaf _ gx px _ bc _) (sound-node _ gy py bk _) e =
         let (tags, contents, rests) = tagged-one x y c (encodedAll ks) r q gx gy bc bk e in
-        absurd (true≢false (sym py ∙ ap constructed (sym tags) ∙ px))
+        absurd (true≢false (sym py ∙ ap (λ (t : ℕ). constructed (leading t)) (sym tags) ∙ px))
     tree-one (node x cs) (leaf y k) r q (sound-node _ gx px bc _) (sound-leaf _ gy py _ bk _) e =
         let (tags, contents, rests) = tagged-one x y (encodedAll cs) k r q gx gy bc bk e in
-        absurd (true≢false (sym px ∙ ap constructed tags ∙ py))
+        absurd (true≢false (sym px ∙ ap (λ (t : ℕ). constructed (leading t)) tags ∙ py))
     tree-one (node x cs) (node y ks) r q (sound-node _ gx _ bc sc) (sound-node _ gy _ bk sk) e =
         let (tags, contents, rests) = tagged-one x y (encodedAll cs) (encodedAll ks) r q gx gy bc bk e in
         (ap₂ node tags (trees-one cs ks sc sk contents), rests)

@@ -1,14 +1,14 @@
 -- The tree of elements that an item encodes, and what makes it sound.
-use Prim.Native.Nat.{ℕ, suc, _+_, _^_, _<_, _≤_, max}
+use Prim.Native.Nat.{ℕ, suc, _+_, _/_, _%_, _^_, _<_, _≤_, max}
 use mathlib.Core.Path.{_≡_}
-use mathlib.Core.Bool.{true, false, cond}
+use mathlib.Core.Bool.{Bool, true, false, cond, _&&_}
 use mathlib.Core.List.{List, [], _∷_, _++_}
 use lib.Dec.{ltb}
 use lib.IntN.{ℤ}
 use lib.ListN.{length}
 use Rattle.der.specs.Forms.{Forms}
 use Rattle.octets.specs.Octets.{Octets, big, twos}
-use Rattle.der.specs.Heading.{identifierGood, constructed}
+use Rattle.der.specs.Heading.{identifierGood, wideGood, constructed}
 use Rattle.der.specs.Contents.{contentsGood}
 
 mutual
@@ -27,9 +27,16 @@ lengthWidth n = cond (ltb n 256) 1 (cond (ltb n 65536) 2 3)
 unfoldable pub lengthEncoded : ℕ → List ℕ
 lengthEncoded n = cond (ltb n 128) (n ∷ []) ((128 + lengthWidth n) ∷ big (lengthWidth n) n)
 
--- X.690 8.1.1: identifier octet, length octets, contents octets
+-- X.690 8.1.2: a tag is the number of its one octet, or of its two
+unfoldable pub identifier : ℕ → List ℕ
+identifier tag = cond (ltb tag 256) (tag ∷ []) (tag / 256 ∷ tag % 256 ∷ [])
+
+unfoldable pub leading : ℕ → ℕ
+leading tag = cond (ltb tag 256) tag (tag / 256)
+
+-- X.690 8.1.1: identifier octets, length octets, contents octets
 unfoldable pub tagged : ℕ → List ℕ → List ℕ
-tagged tag c = tag ∷ (lengthEncoded (length c) ++ c)
+tagged tag c = identifier tag ++ (lengthEncoded (length c) ++ c)
 
 unfoldable mutual
   pub encoded : Tree → List ℕ
@@ -40,7 +47,7 @@ unfoldable mutual
   encodedAll none = []
   encodedAll (more tree trees) = encoded tree ++ encodedAll trees
 
--- the identifier octet, the contents octets, and the header: identifier and length octets
+-- the tag, the contents octets, and the header: identifier and length octets
 unfoldable pub tagOf : Tree → ℕ
 tagOf (leaf tag c) = tag
 tagOf (node tag members) = tag
@@ -50,7 +57,7 @@ contentsOf (leaf tag c) = c
 contentsOf (node tag members) = encodedAll members
 
 unfoldable pub headerOf : Tree → List ℕ
-headerOf tree = tagOf tree ∷ lengthEncoded (length (contentsOf tree))
+headerOf tree = identifier (tagOf tree) ++ lengthEncoded (length (contentsOf tree))
 
 -- the number of elements
 unfoldable mutual
@@ -72,15 +79,19 @@ unfoldable mutual
   depthAll none = 0
   depthAll (more tree trees) = max (depth tree) (depthAll trees)
 
+-- a tag that may stand: of one octet, or of two where the forms have them
+unfoldable pub tagGood : Forms → ℕ → Bool
+tagGood forms tag = cond (ltb tag 256) (identifierGood tag) (forms .wideTags && wideGood (tag / 256) (tag % 256))
+
 -- An identifier that may stand, primitive over contents that may stand and constructed over sound members, each length
 -- one that the forms can tell: below 128 in the short form.
 mutual
   pub data Sound (forms : Forms) : Tree → Type 0 where
     sound-leaf :
-        {tag : ℕ} {c : List ℕ} → tag < 256 → identifierGood tag ≡ true → constructed tag ≡ false → Octets c
+        {tag : ℕ} {c : List ℕ} → tag < 65536 → tagGood forms tag ≡ true → constructed (leading tag) ≡ false → Octets c
         → length c < max 128 (256 ^ forms .lengthOctets) → contentsGood tag c ≡ true → Sound forms (leaf tag c)
     sound-node :
-        {tag : ℕ} {members : Trees} → tag < 256 → identifierGood tag ≡ true → constructed tag ≡ true
+        {tag : ℕ} {members : Trees} → tag < 65536 → tagGood forms tag ≡ true → constructed (leading tag) ≡ true
         → length (encodedAll members) < max 128 (256 ^ forms .lengthOctets) → SoundAll forms members → Sound forms (node tag members)
 
   pub data SoundAll (forms : Forms) : Trees → Type 0 where

@@ -2,6 +2,7 @@
 use crl::Fields;
 use crl::Judged;
 ghost use mathlib.Core.Path.{_≡_};
+ghost use Rattle.der.specs.Forms.{paper};
 ghost use Rattle.crl.specs.Answer.{judgedOf};
 ghost use Rattle.vrbolist.specs.Told.{crlPassed, crlTold};
 
@@ -19,7 +20,7 @@ pub struct CrlAnswer {
 
 #[no_mangle]
 pub extern "C" fn vrbolist_crl(item: &[u8]) -> CrlAnswer
-    ensures { λ r. ⌜ r ≡ crlTold (judgedOf (now (item .entry))) ⌝ }
+    ensures { λ r. ⌜ r ≡ crlTold (judgedOf paper (now (item .entry))) ⌝ }
 {
     match crl::judge(item) {
         Judged::Passed(fields) => passed(fields),

@@ -4,6 +4,7 @@ use mathlib.Core.Path.{_≡_, sym, _∙_}
 use native.Mathlib.Omega.{arith}
 use borrow.Author.Needs.{needs}
 use borrow.Author.Tests.{eq-eqb, ne-eqb}
+use Rattle.der.specs.Forms.{paper}
 use Rattle.elements.specs.Elements.{membersOf, inside}
 use Rattle.names.specs.Names.{setsOf, nameOf}
 use Rattle.elements.proofs.Members.{found-within}
@@ -12,7 +13,7 @@ use Rattle.names.proofs.name_of.Statement.{statement}
 use Rattle.names.proofs.name_of.Tie as tie
 
 abbrev Inv-loop : tie.InvT-loop
-Inv-loop item e seen₀ at₀ seen at = setsOf item (membersOf item at (e .end)) seen ≡ nameOf item e
+Inv-loop item e seen₀ at₀ seen at = setsOf paper item (membersOf paper item at (e .end)) seen ≡ nameOf paper item e
 
 abbrev μ-loop : tie.MeasureT-loop
 μ-loop item e seen₀ at₀ seen at = e .end - at

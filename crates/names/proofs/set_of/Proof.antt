@@ -5,6 +5,7 @@ use mathlib.Core.Logic.{⊎-elim}
 use mathlib.Core.Path.{_≡_, sym, _∙_}
 use native.Mathlib.Omega.{arith}
 use borrow.Author.Needs.{needs}
+use Rattle.der.specs.Forms.{paper}
 use Rattle.elements.specs.Elements.{membersOf}
 use Rattle.names.specs.Names.{attributesOf, oneSet}
 use Rattle.elements.proofs.Members.{members-more, found-within}
@@ -13,7 +14,7 @@ use Rattle.names.proofs.set_of.Statement.{statement}
 use Rattle.names.proofs.set_of.Tie as tie
 
 abbrev Inv-loop : tie.InvT-loop
-Inv-loop item e seen₀ attribute₀ seen attribute = attributesOf item (attribute ∷ membersOf item (attribute .end) (e .end)) seen ≡ oneSet item e seen₀
+Inv-loop item e seen₀ attribute₀ seen attribute = attributesOf paper item (attribute ∷ membersOf paper item (attribute .end) (e .end)) seen ≡ oneSet paper item e seen₀
 
 abbrev μ-loop : tie.MeasureT-loop
 μ-loop item e seen₀ attribute₀ seen attribute = e .end - attribute .end
@@ -31,7 +32,7 @@ returns-3 : tie.Need-returns-3 Inv-loop μ-loop
 returns-3 c = sym (attributes-bad _ _ _ _ (sym (c .before .before .attribute-of .ensures) ∙ c .enum-told2 .given .1)) ∙ c .before .before .before .loop .inv
 
 -- past this attribute
-further : (c : tie.At-match2-came Inv-loop μ-loop) → let args = c .before .before .before .before .before .before .before .before .before .before .args in attributesOf (args .item .now) (membersOf (args .item .now) (c .before .before .loop .attribute .end) (args .e .end)) (c .match2 .seen) ≡ oneSet (args .item .now) (args .e) (args .before)
+further : (c : tie.At-match2-came Inv-loop μ-loop) → let args = c .before .before .before .before .before .before .before .before .before .before .args in attributesOf paper (args .item .now) (membersOf paper (args .item .now) (c .before .before .loop .attribute .end) (args .e .end)) (c .match2 .seen) ≡ oneSet paper (args .item .now) (args .e) (args .before)
 further c =
     ⊎-elim
     (λ w. rw (w .2) (sym (attributes-other _ _ _ _ (sym (c .before .attribute-of .ensures) ∙ w .1 .given .1)) ∙ c .before .before .loop .inv))

@@ -4,6 +4,7 @@ use Prim.Native.Nat.{_-_}
 use native.Mathlib.Omega.{arith}
 use borrow.Author.Needs.{needs}
 use borrow.Author.Tests.{eq-eqb, ne-eqb, lt-leb, le-leb}
+use Rattle.der.specs.Forms.{paper}
 use Rattle.elements.specs.Elements.{membersOf, inside}
 use Rattle.certificate.specs.Keys.{typesGood, typesIn}
 use Rattle.elements.proofs.Members.{members-none, members-more, found-within}
@@ -12,7 +13,7 @@ use Rattle.certificate.proofs.keys.types_good.Statement.{statement}
 use Rattle.certificate.proofs.keys.types_good.Tie as tie
 
 abbrev Inv-loop : tie.InvT-loop
-Inv-loop item end at₀ at = typesGood item (membersOf item at₀ end) ≡ typesGood item (membersOf item at end)
+Inv-loop item end at₀ at = typesGood item (membersOf paper item at₀ end) ≡ typesGood item (membersOf paper item at end)
 
 abbrev μ-loop : tie.MeasureT-loop
 μ-loop item end at₀ at = end - at

@@ -7,6 +7,7 @@ use native.Mathlib.Omega.{arith}
 use borrow.Author.Tests.{not-true, not-false}
 use borrow.Author.Needs.{needs}
 use lib.ListN.{length}
+use Rattle.der.specs.Forms.{paper}
 use Rattle.der.specs.Heading.{identifierGood}
 use Rattle.elements.specs.Elements.{membersOf}
 use Rattle.times.specs.Times.{timeTag}
@@ -16,7 +17,7 @@ use Rattle.crl.proofs.entries.survey_of.Statement.{statement}
 use Rattle.crl.proofs.entries.survey_of.Tie as tie
 
 abbrev Inv-loop : tie.InvT-loop
-Inv-loop item from end count₀ timely₀ calm₀ at₀ count timely calm at = (count + length (membersOf item at end) ≤ length item) × (surveyOf item from end ≡ surveyWith item count timely calm (membersOf item at end))
+Inv-loop item from end count₀ timely₀ calm₀ at₀ count timely calm at = (count + length (membersOf paper item at end) ≤ length item) × (surveyOf paper item from end ≡ surveyWith item count timely calm (membersOf paper item at end))
 
 abbrev μ-loop : tie.MeasureT-loop
 μ-loop item from end count₀ timely₀ calm₀ at₀ count timely calm at = end - at

@@ -3,6 +3,7 @@ use Prim.Native.Nat.{_-_}
 use mathlib.Core.Path.{_≡_, refl, sym, _∙_}
 use native.Mathlib.Omega.{arith}
 use borrow.Author.Needs.{needs}
+use Rattle.der.specs.Forms.{paper}
 use Rattle.elements.specs.Elements.{membersOf}
 use Rattle.elements.proofs.Members.{found-within, members-none, members-more}
 use Rattle.crl.specs.Listed.{someLists, listedOf}
@@ -10,7 +11,7 @@ use Rattle.crl.proofs.listing.listed.Statement.{statement}
 use Rattle.crl.proofs.listing.listed.Tie as tie
 
 abbrev Inv-loop : tie.InvT-loop
-Inv-loop item from end serial at₀ at = listedOf item from end serial ≡ someLists item serial (membersOf item at end)
+Inv-loop item from end serial at₀ at = listedOf paper item from end serial ≡ someLists paper item serial (membersOf paper item at end)
 
 abbrev μ-loop : tie.MeasureT-loop
 μ-loop item from end serial at₀ at = end - at

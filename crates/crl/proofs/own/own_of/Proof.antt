@@ -1,6 +1,7 @@
 -- The pass tells the first three, and its slots the other two.
 use native.Mathlib.Omega.{arith}
 use borrow.Author.Needs.{needs}
+use Rattle.der.specs.Forms.{paper}
 use Rattle.extensions.specs.Extensions.{oidOf, lookupOf, heldOf}
 use Rattle.crl.specs.Own.{ownOf}
 use Rattle.crl.specs.Rules.{keyThere, numberThere}
@@ -18,8 +19,8 @@ returns c =
       seen .shaped,
       seen .marked,
       seen .doubled,
-      there-told (lookupOf s e (oidOf 21)) (seen .placed .each 21 (omega arith)),
-      there-told (lookupOf s e (oidOf 6)) (seen .placed .each 6 (omega arith)),
+      there-told (lookupOf paper s e (oidOf 21)) (seen .placed .each 21 (omega arith)),
+      there-told (lookupOf paper s e (oidOf 6)) (seen .placed .each 6 (omega arith)),
     )
 
 pub own-of-spec : {M : Type 1} → statement M

@@ -1,5 +1,5 @@
 -- The element is read by the path that takes it; where none does, 0 promises nothing.
-use Prim.Native.Nat.{_-_}
+use Prim.Native.Nat.{_+_, _-_}
 use native.Mathlib.Omega.{arith}
 use borrow.Author.Tests.{ne-eqb}
 use Rattle.der.specs.Heading.{constructed}
@@ -11,7 +11,7 @@ returns-4 c =
     let back4 = c .before .before .before .before in
     λ some.
     let two = back4 .before in
-    (two .if1 .left, c .flat .ensures some)
+    (two .if1 .left, λ forms e levels. c .flat .ensures some forms (omega arith) levels)
 
 primitive-requires : tie.Need-primitive-requires
 unfolding constructed
@@ -23,7 +23,7 @@ returns-7 c =
     λ some.
     let two = back4 .before .before in
     let start = two .before .before in
-    (two .if1 .left, c .before .primitive .ensures (c .if7 .taken) (17 - start .args .left) (start .args .count) (omega arith) (omega arith))
+    (two .if1 .left, λ forms e levels. c .before .primitive .ensures (c .if7 .taken) forms (forms .depth + 1 - start .args .left) (start .args .count) (omega arith) (omega arith))
 
 pub fast-path-spec : {M : Type 1} → statement M
 fast-path-spec =
@@ -33,6 +33,7 @@ fast-path-spec =
     (λ c some. absurd (omega arith))
     (λ c. omega arith)
     (λ c some. absurd (omega arith))
+    (λ c. omega arith)
     (λ c some. absurd (omega arith))
     (λ c κs. omega arith)
     returns-4

@@ -5,6 +5,7 @@ use mathlib.Core.Path.{_≡_, refl, sym, _∙_}
 use native.Mathlib.Omega.{arith}
 use borrow.Author.Needs.{needs}
 use lib.ListN.{length, getD}
+use Rattle.der.specs.Forms.{Forms}
 use Rattle.der.specs.Fast.{stretch, Reads, Leaf}
 use Rattle.der.proofs.Parts.{part-length}
 use Rattle.der.proofs.Flat.{leaf-boolean, leaf-integer, leaf-null, leaf-oid, leaf-unjudged, leaf-reads}
@@ -25,12 +26,12 @@ empty s i e inside fits none = omega (arith, part-length s (i + 2) (i + 2 + getD
 answer : (s : List ℕ) (i e : ℕ) → i + 2 ≤ e → e ≤ i + 127 → e ≤ length s → getD s (i + 1) 0 < 256
     → Leaf (getD s i 0) (stretch s (i + 2) (i + 2 + getD s (i + 1) 0))
     → (i + 2 + getD s (i + 1) 0 ≤ i + 257) × (0 < i + 2 + getD s (i + 1) 0 → (i + 2 ≤ i + 2 + getD s (i + 1) 0) × (i + 2 + getD s (i + 1) 0 ≤ e
-    → (depth count : ℕ) → depth ≤ 16 → count < 4096 → Reads (stretch s i e) depth count (i + 2 + getD s (i + 1) 0 - i) (count + 1)))
+    → (forms : Forms) (depth count : ℕ) → depth ≤ forms .depth → count < forms .elements → Reads forms (stretch s i e) depth count (i + 2 + getD s (i + 1) 0 - i) (count + 1)))
 answer s i e two near inside octet leaf = (
   omega arith,
   λ some. (
     omega arith,
-    λ fits depth count deep few. leaf-reads s i e two inside refl fits (omega arith) (leaf .known) depth count deep few (leaf .primitive) (leaf .good),
+    λ fits forms depth count deep few. leaf-reads forms s i e two inside refl fits (omega arith) (leaf .known) depth count deep few (leaf .primitive) (leaf .good),
   ),
 )
 

@@ -5,6 +5,7 @@ use mathlib.Core.Path.{_≡_, subst}
 use native.Mathlib.Omega.{arith}
 use borrow.Author.Tests.{not-false}
 use lib.ListN.{length}
+use Rattle.der.specs.Forms.{Forms}
 use Rattle.der.specs.Fast.{stretch, Reads, Fills, Last}
 use Rattle.der.proofs.Flat.{reads-on, fills-none, last-fills}
 use Rattle.der.proofs.fast.leaves.Statement.{statement}
@@ -12,23 +13,25 @@ use Rattle.der.proofs.fast.leaves.Tie as tie
 
 -- what is left, from octet `i` on, `deep` levels from the deepest
 abbrev Left : List ℕ → ℕ → ℕ → ℕ → ℕ → ℕ → ℕ → ℕ → Type 0
-Left s from end left count i read deep = (m : ℕ) → Fills (stretch s i end) (17 - deep) read m → Fills (stretch s from end) (17 - left) count m
+Left s from end left count i read deep =
+    (forms : Forms) → count + 63 ≤ forms .elements → left ≤ forms .depth
+    → (m : ℕ) → Fills forms (stretch s i end) (forms .depth + 1 - deep) read m → Fills forms (stretch s from end) (forms .depth + 1 - left) count m
 
 abbrev Inv-loop : tie.InvT-loop
 Inv-loop s from end left count i₀ read₀ deep₀ i read deep =
-    (i ≤ 16641) × (from ≤ i) × (1 ≤ deep) × (deep ≤ left) × (i ≤ end → (2 * read + from ≤ 2 * count + i) × Left s from end left count i read deep)
+    (i ≤ end + 257) × (from ≤ i) × (1 ≤ deep) × (deep ≤ left) × (i ≤ end → (2 * read + from ≤ 2 * count + i) × Left s from end left count i read deep)
 
 abbrev μ-loop : tie.MeasureT-loop
 μ-loop s from end left count i₀ read₀ deep₀ i read deep = end - i
 
-module _ (s : List ℕ) (from end left count i read deep : ℕ) (inside : end ≤ length s) (two : i + 2 ≤ end) (few : read < 4096) (rest : Left s from end left count i read deep) where
-  one-more : (r : ℕ) → 1 ≤ deep → ((depth count : ℕ) → depth ≤ 16 → count < 4096 → Reads (stretch s i end) depth count (r - i) (count + 1)) → Left s from end left count r (read + 1) deep
-  one-more r some f m p = rest m (reads-on s i end two inside (17 - deep) read r (read + 1) m (f (17 - deep) read (omega arith) few) p)
+module _ (s : List ℕ) (from end left count i read deep : ℕ) (inside : end ≤ length s) (two : i + 2 ≤ end) (few : read < count + 63) (above : deep ≤ left) (rest : Left s from end left count i read deep) where
+  one-more : (r : ℕ) → 1 ≤ deep → ((forms : Forms) (depth count : ℕ) → depth ≤ forms .depth → count < forms .elements → Reads forms (stretch s i end) depth count (r - i) (count + 1)) → Left s from end left count r (read + 1) deep
+  one-more r some f forms room levels m p = rest forms room levels m (reads-on forms s i end two inside (forms .depth + 1 - deep) read r (read + 1) m (f forms (forms .depth + 1 - deep) read (omega arith) (omega arith)) p)
 
-  into : 2 ≤ deep → deep ≤ 16 → end ≤ i + 127 → Last s i end → Left s from end left count (i + 2) (read + 1) (deep - 1)
-  into some shallow short l m p =
-      let deeper : 17 - (deep - 1) ≡ 17 - deep + 1 = omega arith in
-      rest m (last-fills s i end two inside (l .tag) (17 - deep) read m (omega arith) few (l .ends) (omega (arith, l .ends)) (subst (λ n. Fills (stretch s (i + 2) end) n (read + 1) m) deeper p))
+  into : 2 ≤ deep → end ≤ i + 127 → Last s i end → Left s from end left count (i + 2) (read + 1) (deep - 1)
+  into some short l forms room levels m p =
+      let deeper : forms .depth + 1 - (deep - 1) ≡ forms .depth + 1 - deep + 1 = omega arith in
+      rest forms room levels m (last-fills forms s i end two inside (l .tag) (forms .depth + 1 - deep) read m (omega arith) (omega arith) (l .ends) (omega (arith, l .ends)) (subst (λ n. Fills forms (stretch s (i + 2) end) n (read + 1) m) deeper p))
 
 last-requires : tie.Need-last-requires Inv-loop μ-loop
 last-requires c κs = omega arith
@@ -48,7 +51,7 @@ loop-again c =
     let start = test .before .before .before in
     let so = here .inv .4 (omega arith) in
     let bound = so .0 in
-    let few : here .read < 4096 = omega arith in
+    let few : here .read < start .args .count + 63 = omega arith in
     let l = c .before .before .last .ensures (not-false _ (c .before .if2 .left)) in (
       omega arith,
       omega arith,
@@ -56,7 +59,7 @@ loop-again c =
       omega arith,
       λ h. (
         omega arith,
-        into _ (start .args .from) (start .args .end) (start .args .left) _ (here .i) (here .read) (here .deep) (start .pre .2) (test .loop-test .taken) few (so .1) (omega arith) (omega arith) (omega arith) l,
+        into _ (start .args .from) (start .args .end) (start .args .left) _ (here .i) (here .read) (here .deep) (start .pre .2) (test .loop-test .taken) few (here .inv .3) (so .1) (omega arith) (omega arith) l,
       ),
     )
 
@@ -78,7 +81,7 @@ loop-again-2 c =
     let start = test .before .before .before in
     let so = here .inv .4 (omega arith) in
     let bound = so .0 in
-    let few : here .read < 4096 = omega arith in
+    let few : here .read < start .args .count + 63 = omega arith in
     let r = c .before .leaf .result in
     let far = c .before .leaf .ensures .1 (omega arith) in
     let on = far .0 in (
@@ -88,15 +91,15 @@ loop-again-2 c =
       omega arith,
       λ h. (
         omega arith,
-        one-more _ (start .args .from) (start .args .end) (start .args .left) _ (here .i) (here .read) (here .deep) (start .pre .2) (test .loop-test .taken) few (so .1) r (here .inv .2) (far .1 h),
+        one-more _ (start .args .from) (start .args .end) (start .args .left) _ (here .i) (here .read) (here .deep) (start .pre .2) (test .loop-test .taken) few (here .inv .3) (so .1) r (here .inv .2) (far .1 h),
       ),
     )
 
 returns-4 : tie.Need-returns-4 Inv-loop μ-loop
-returns-4 c = λ some.
+returns-4 c = λ some forms room levels.
     let here = c .before .before .loop in
     let start = c .before .before .before .before in
-    here .inv .4 (omega arith) .1 _ (rw (c .if5 .taken) (fills-none _ (start .args .end) (17 - here .deep) _ (start .pre .2)))
+    here .inv .4 (omega arith) .1 forms room levels _ (rw (c .if5 .taken) (fills-none forms _ (start .args .end) (forms .depth + 1 - here .deep) _ (start .pre .2)))
 
 pub leaves-spec : {M : Type 1} → statement M
 leaves-spec =
@@ -104,21 +107,21 @@ leaves-spec =
     (tie.spec
     Inv-loop
     μ-loop
-    (λ c. (omega arith, omega arith, omega arith, omega arith, λ h. (omega arith, λ m p. p)))
+    (λ c. (omega arith, omega arith, omega arith, omega arith, λ h. (omega arith, λ forms room levels m p. p)))
     (λ c. omega arith)
     (λ c. omega arith)
     last-requires
-    (λ c some base fuel enough. absurd (omega arith))
-    (λ c some base fuel enough. absurd (omega arith))
+    (λ c some. absurd (omega arith))
+    (λ c some. absurd (omega arith))
     sub-deep
     add-read
     (λ c. omega arith)
     (λ c. omega arith)
     loop-again
     leaf-requires
-    (λ c some base fuel enough. absurd (omega arith))
+    (λ c some. absurd (omega arith))
     add-read-2
     loop-less-2
     loop-again-2
     returns-4
-    (λ c some base fuel enough. absurd (omega arith)))
+    (λ c some. absurd (omega arith)))

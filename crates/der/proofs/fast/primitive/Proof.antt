@@ -8,6 +8,7 @@ use borrow.Author.Needs.{needs}
 use borrow.Author.Tests.{le-leb}
 use lib.Dec.{eqb}
 use lib.ListN.{length, getD}
+use Rattle.der.specs.Forms.{Forms}
 use Rattle.der.specs.Heading.{identifierGood, constructed}
 use Rattle.der.specs.Fast.{stretch, Reads, Leaf}
 use Rattle.der.proofs.Laws.{unjudged}
@@ -31,10 +32,10 @@ leaf-high tag c high e primitive =
 
 good-reads : (s : List ℕ) (i e : ℕ) → i + 2 ≤ e → e ≤ length s → getD s (i + 1) 0 < 128 → i + 2 + getD s (i + 1) 0 ≤ e
     → Leaf (getD s i 0) (stretch s (i + 2) (i + 2 + getD s (i + 1) 0))
-    → (depth count : ℕ) → depth ≤ 16 → count < 4096 → Reads (stretch s i e) depth count (2 + getD s (i + 1) 0) (count + 1)
-good-reads s i e two inside short fits leaf depth count deep few =
+    → (forms : Forms) (depth count : ℕ) → depth ≤ forms .depth → count < forms .elements → Reads forms (stretch s i e) depth count (2 + getD s (i + 1) 0) (count + 1)
+good-reads s i e two inside short fits leaf forms depth count deep few =
     let used : i + 2 + getD s (i + 1) 0 - i ≡ 2 + getD s (i + 1) 0 = omega arith in
-    subst (λ n. Reads (stretch s i e) depth count n (count + 1)) used (leaf-reads s i e two inside refl fits short (leaf .known) depth count deep few (leaf .primitive) (leaf .good))
+    subst (λ n. Reads forms (stretch s i e) depth count n (count + 1)) used (leaf-reads forms s i e two inside refl fits short (leaf .known) depth count deep few (leaf .primitive) (leaf .good))
 
 cast-size : tie.Need-cast-size
 cast-size c = omega (arith, c .shared-slice-known2 .given (c .before .before .args .at + 1))

@@ -1,59 +1,51 @@
 -- The two length octets are the number that the definition reads.
+use Prim.Native.Nat.{_+_}
+use mathlib.Core.Path.{sym, _∙_}
 use borrow.Author.Needs.{needs}
-use borrow.Author.Tests.{le-leb, lt-leb}
 use native.Mathlib.Omega.{arith}
-use Rattle.der.specs.Heading.{long, smallest}
-use Rattle.der.proofs.LengthOctets.{two-octets}
+use lib.Dec.{lit≤}
+use Rattle.der.specs.Heading.{smallest}
+use Rattle.der.proofs.LengthOctets.{two-octets, long-cut, long-small, long-sized}
 use Rattle.der.proofs.heading.two_octets.Statement.{statement}
 use Rattle.der.proofs.heading.two_octets.Tie as tie
 
 returns : tie.Need-returns
-unfolding long
-returns c = simp (lt-leb _ _ (c .if1 .taken))
+returns c = λ forms told. long-cut forms _ _ _ 2 (lit≤ tt) told (c .if1 .taken)
 
 cast-size : tie.Need-cast-size
-cast-size c = omega (arith, c .shared-slice-known2 .given 2)
-
-mul-size : tie.Need-mul-size
-mul-size c = omega (arith, c .shared-slice-known2 .given 2)
+cast-size c = omega (arith, c .shared-slice-known2 .given (c .before .before .before .args .at))
 
 cast-size-2 : tie.Need-cast-size-2
-cast-size-2 c = omega (arith, c .shared-slice-known3 .given 3)
+cast-size-2 c = omega (arith, c .shared-slice-known3 .given (c .before .before .before .before .args .at + 1))
 
-add-size : tie.Need-add-size
-add-size c = omega (arith, c .shared-slice-known3 .given 2, c .shared-slice-known3 .given 3)
+mul-size : tie.Need-mul-size
+mul-size c = omega (arith, c .shared-slice-known2 .given (c .before .before .before .args .at))
+
+add-size-2 : tie.Need-add-size-2
+add-size-2 c = omega (arith, c .before .shared-slice-known2 .given (c .before .before .before .before .args .at), c .shared-slice-known3 .given (c .before .before .before .before .args .at + 1))
 
 returns-2 : tie.Need-returns-2
-unfolding long smallest
-returns-2 c =
-    let back4 = c .before .before .before .before in
-    simp (
-      le-leb _ _ (c .before .before .before .if1 .left),
-      two-octets (back4 .before .args .s .now) (c .before .before .before .if1 .left),
-      lt-leb _ _ (c .if2 .taken),
-    )
+unfolding smallest
+returns-2 c = λ forms told. long-small forms _ _ _ 2 (lit≤ tt) told (c .before .before .before .if1 .left) (two-octets _ _ (c .before .before .before .if1 .left)) (c .if2 .taken)
 
 returns-3 : tie.Need-returns-3
-unfolding long smallest
-returns-3 c =
-    let back4 = c .before .before .before .before in
-    simp (
-      le-leb _ _ (c .before .before .before .before .if1 .left),
-      two-octets (back4 .before .before .args .s .now) (c .before .before .before .before .if1 .left),
-      le-leb _ _ (c .before .if2 .left),
-    ) (c .ending .ensures)
+unfolding smallest
+returns-3 c = λ forms told. c .ending .ensures ∙ sym (long-sized forms _ _ _ 2 (lit≤ tt) told (c .before .before .before .before .if1 .left) (two-octets _ _ (c .before .before .before .before .if1 .left)) (c .before .if2 .left))
 
 pub two-octets-spec : {M : Type 1} → statement M
 two-octets-spec =
     tie.close
     (tie.spec
+    (λ c. search needs)
     returns
     (λ c. search needs)
     cast-size
     mul-size
     (λ c. search needs)
+    (λ c. search needs)
     cast-size-2
-    add-size
+    add-size-2
     returns-2
+    (λ c. search needs)
     (λ c κs. search needs)
     returns-3)

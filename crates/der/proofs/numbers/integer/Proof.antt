@@ -1,6 +1,6 @@
 -- The code makes the definition's tests in its order, and the header's element ends within the item.
 use Prim.Native.Nat.{_+_, _≤_}
-use mathlib.Core.Path.{_≡_, sym, _∙_}
+use mathlib.Core.Path.{_≡_, refl, sym, _∙_}
 use borrow.Author.Needs.{needs}
 use borrow.Author.Tests.{lt-ltb, le-ltb, eq-eqb, ne-eqb}
 use native.Mathlib.Nat.{add-sub-cancel-left}
@@ -26,14 +26,14 @@ returns-2 c =
     let back4 = c .before .before .before .before in
     simp (
       sym (back4 .before .walk .ensures .0) ∙ c .before .before .before .enum-told .given .1,
-      sym (c .before .before .header .ensures) ∙ c .enum-told2 .given .1,
+      sym (c .before .before .header .ensures paper refl refl) ∙ c .enum-told2 .given .1,
     )
 
 -- the header is that of the item's outermost element
 headed : (c : tie.After-known-told2) →
     let h = c .before .tag .given .0 in
     headingOf paper (c .before .before .before .before .before .before .before .before .args .item .now) ≡ Header (h .0) (h .1 .0) (h .1 .1 .0)
-headed c = sym (c .before .before .before .header .ensures) ∙ c .before .tag .given .1
+headed c = sym (c .before .before .before .header .ensures paper refl refl) ∙ c .before .tag .given .1
 
 -- so the answer hangs on that element alone, which ends within the item
 told : (c : tie.After-known-told2) →

@@ -1,6 +1,6 @@
 -- The header is read from the part from `from` to `end`, within which its element ends, so no sum wraps.
 use Prim.Native.Nat.{_+_, _-_, _≤_}
-use mathlib.Core.Path.{_≡_, sym, _∙_}
+use mathlib.Core.Path.{_≡_, refl, sym, _∙_}
 use borrow.Author.Needs.{needs}
 use borrow.Author.Tests.{le-leb, lt-leb}
 use native.Mathlib.Omega.{arith}
@@ -31,7 +31,7 @@ ended c =
     let a = back8 .args in
     let rest : a .end - a .from ≤ length (drop (a .from) (a .item .now)) = rw length-drop (omega arith) in
     let part : length (take (a .end - a .from) (drop (a .from) (a .item .now))) ≡ a .end - a .from = length-take-le _ _ rest in
-    rw part at (heading-within paper _ _ _ _ (sym (c .before .before .before .header .ensures) ∙ c .before .tag .given .1) .1)
+    rw part at (heading-within paper _ _ _ _ (sym (c .before .before .before .header .ensures paper refl refl) ∙ c .before .tag .given .1) .1)
 
 add-contents : tie.Need-add-contents
 add-contents c = omega (arith, ended c)
@@ -46,7 +46,7 @@ returns-3 c =
     simp (
       le-leb _ _ (back4 .before .before .if1 .left),
       le-leb _ _ (back4 .before .if2 .left),
-      sym (c .before .before .before .header .ensures) ∙ c .before .tag .given .1,
+      sym (c .before .before .before .header .ensures paper refl refl) ∙ c .before .tag .given .1,
     )
 
 returns-4 : tie.Need-returns-4
@@ -56,7 +56,7 @@ returns-4 c =
     simp (
       le-leb _ _ (back4 .before .if1 .left),
       le-leb _ _ (c .before .before .before .before .if2 .left),
-      sym (c .before .before .header .ensures) ∙ c .enum-told .given .1,
+      sym (c .before .before .header .ensures paper refl refl) ∙ c .enum-told .given .1,
     )
 
 pub member-spec : {M : Type 1} → statement M

@@ -2,7 +2,7 @@
 -- by one, some by the fast path. The octets at hand fall at each call, twice their number, and one more for a list; so do the levels
 -- of depth that are left.
 use mathlib.Core.Path.{_≡_, refl, sym, subst, _∙_}
-use mathlib.Core.Bool.{true, false}
+use mathlib.Core.Bool.{Bool, true, false}
 use mathlib.Core.List.{List}
 use Prim.Native.Nat.{ℕ, _<_, _≤_, _+_, _*_, _-_}
 use native.Mathlib.Omega.{arith}
@@ -11,9 +11,11 @@ use borrow.Author.Tests.{eq-eqb, ne-eqb}
 use lib.ListN.{length, getD, take, drop, length-take, length-drop}
 use Rattle.refusal.specs.declared.Refusal.the-variants.{Der, Limit}
 use Rattle.der.specs.declared.heading.Heading.the-variants.{Header}
+use Rattle.der.specs.declared.walking.Read.{Read}
 use Rattle.der.specs.declared.walking.Read.the-variants.{Past, Fault}
 use Rattle.der.specs.declared.walking.Walked.{Walked}
-use Rattle.der.specs.Forms.{paper}
+use Rattle.der.specs.Forms.{Forms}
+use Rattle.der.specs.Given.{Given}
 use Rattle.der.specs.Heading.{headingOf, constructed}
 use Rattle.der.specs.Contents.{contentsGood}
 use Rattle.der.specs.Walk.{filled}
@@ -33,43 +35,71 @@ use Rattle.der.proofs.heading.header.Reads as header-reads
 use Rattle.der.proofs.walking.+element+list.{statement}
 use Rattle.der.proofs.walking.+element+list.Tie.{close}
 
--- the laws of an element, at the depth that the levels left tell
-module _ (s : List ℕ) (base left count : ℕ) {tag skip size : ℕ} (e : headingOf paper s ≡ Header tag skip size) where
-  deep : left ≡ 0 → ElementIs paper s base (17 - left) count (Fault (Limit base))
-  deep none = deep-is paper s base (17 - left) count e (let d : 16 < 17 - left = omega arith in d)
+-- forms with given numbers
+abbrev made : ℕ → Bool → ℕ → ℕ → Forms
+made digits wide most left = record { itemSize = 0; depth = left; elements = most; lengthOctets = digits; wideTags = wide }
 
-  module _ (some : left ≡ 0 → ⊥) where
-    shallow : 17 - left ≤ 16
-    shallow = omega arith
+made-given : (digits : ℕ) (wide : Bool) (most left : ℕ) → Given digits wide most left (made digits wide most left)
+made-given digits wide most left = record { octets = refl; tags = refl; limit = refl; levels = omega arith }
 
-    many : 4096 ≤ count → ElementIs paper s base (17 - left) count (Fault (Limit base))
-    many h = many-is paper s base (17 - left) count e shallow h
+-- the depth that the levels left tell
+abbrev level : Forms → ℕ → ℕ
+level forms left = forms .depth + 1 - left
 
-    module _ (few : count < 4096) where
-      leaf : constructed tag ≡ false → contentsGood tag (take (skip + size - skip) (drop skip s)) ≡ true → ElementIs paper s base (17 - left) count (Past (skip + size) (count + 1))
-      leaf h g = leaf-is paper s base (17 - left) count e shallow few h g
+module _ (digits : ℕ) (wide : Bool) (most : ℕ) (s : List ℕ) (base left count : ℕ) where
+  -- an answer, whatever the forms with these numbers are
+  abbrev Answer : Read → Type 0
+  Answer r = (forms : Forms) → Given digits wide most left forms → ElementIs forms s base (level forms left) count r
 
-      spoilt : constructed tag ≡ false → contentsGood tag (take (skip + size - skip) (drop skip s)) ≡ false → ElementIs paper s base (17 - left) count (Fault (Der base))
-      spoilt h g = spoilt-is paper s base (17 - left) count e shallow few h g
+  -- the laws of an element at that depth
+  module _ {tag skip size : ℕ} (e : (forms : Forms) → forms .lengthOctets ≡ digits → forms .wideTags ≡ wide → headingOf forms s ≡ Header tag skip size) where
+    ended : (2 ≤ skip) × (skip + size ≤ length s)
+    ended = heading-within (made digits wide most left) s tag skip size (e _ refl refl)
 
-      node : {w : Walked} → left ≤ 16 → constructed tag ≡ true → ListIs paper (take (skip + size - skip) (drop skip s)) (base + skip) (17 - (left - 1)) (count + 1) w → ElementIs paper s base (17 - left) count (filled (skip + size) w)
-      node {w} most h f =
-          let deeper : 17 - (left - 1) ≡ 17 - left + 1 = omega arith in
-          node-is paper s base (17 - left) count e shallow few h (subst (λ d. ListIs paper (take (skip + size - skip) (drop skip s)) (base + skip) d (count + 1) w) deeper f)
+    deep : left ≡ 0 → Answer (Fault (Limit base))
+    deep none forms g = deep-is forms s base (level forms left) count (e forms (g .octets) (g .tags)) (omega arith)
+
+    module _ (some : left ≡ 0 → ⊥) where
+      shallow : (forms : Forms) → level forms left ≤ forms .depth
+      shallow forms = omega arith
+
+      many : most ≤ count → Answer (Fault (Limit base))
+      many h forms g = many-is forms s base (level forms left) count (e forms (g .octets) (g .tags)) (shallow forms) (omega (arith, g .limit))
+
+      module _ (few : count < most) where
+        leaf : constructed (getD s 0 0) ≡ false → contentsGood tag (take (skip + size - skip) (drop skip s)) ≡ true → Answer (Past (skip + size) (count + 1))
+        leaf h c forms g = leaf-is forms s base (level forms left) count (e forms (g .octets) (g .tags)) (shallow forms) (omega (arith, g .limit)) h c
+
+        spoilt : constructed (getD s 0 0) ≡ false → contentsGood tag (take (skip + size - skip) (drop skip s)) ≡ false → Answer (Fault (Der base))
+        spoilt h c forms g = spoilt-is forms s base (level forms left) count (e forms (g .octets) (g .tags)) (shallow forms) (omega (arith, g .limit)) h c
+
+        node : {w : Walked} → constructed (getD s 0 0) ≡ true
+            → ((forms : Forms) → Given digits wide most (left - 1) forms → ListIs forms (take (skip + size - skip) (drop skip s)) (base + skip) (level forms (left - 1)) (count + 1) w)
+            → Answer (filled (skip + size) w)
+        node {w} h f forms g =
+            let deeper : level forms (left - 1) ≡ level forms left + 1 = omega (arith, g .levels) in
+            let below : Given digits wide most (left - 1) forms = record { octets = g .octets; tags = g .tags; limit = g .limit; levels = omega (arith, g .levels) } in
+            node-is forms s base (level forms left) count (e forms (g .octets) (g .tags)) (shallow forms) (omega (arith, g .limit)) h
+            (subst (λ d. ListIs forms (take (skip + size - skip) (drop skip s)) (base + skip) d (count + 1) w) deeper (f forms below))
+
+  -- a list of which the elements before `at` have been read
+  abbrev Rest : ℕ → ℕ → Type 0
+  Rest at read = (forms : Forms) → Given digits wide most left forms → ListLeft forms s base (level forms left) count at read
 
 -- one element more of a list
-past : (s : List ℕ) (base depth count at read used n next : ℕ) → at < length s → ListLeft paper s base depth count at read
-    → ElementIs paper (take (length s - at) (drop at s)) (base + at) depth read (Past used n) → next ≡ at + used
-    → (at < next) × (next ≤ length s) × (n ≤ 4096) × ListLeft paper s base depth count next n
-past s base depth count at read used n next more f g e =
-    let w : (2 ≤ used) × (at + used ≤ length s) × (n ≤ 4096) = read-within paper s base depth count at read more f g in
-    (omega arith, omega arith, w .2, subst (λ k. ListLeft paper s base depth count k n) (sym e) (left-next paper s base depth count at read more f g))
+past : (digits : ℕ) (wide : Bool) (most : ℕ) (s : List ℕ) (base left count at read used n next : ℕ) → at < length s
+    → Rest digits wide most s base left count at read
+    → Answer digits wide most (take (length s - at) (drop at s)) (base + at) left read (Past used n) → next ≡ at + used
+    → (at < next) × (next ≤ length s) × (n ≤ most) × Rest digits wide most s base left count next n
+past digits wide most s base left count at read used n next more f g e =
+    let w : (2 ≤ used) × (at + used ≤ length s) × (n ≤ most) = read-within (made digits wide most left) s base (level (made digits wide most left) left) count at read more (f _ (made-given digits wide most left)) (g _ (made-given digits wide most left)) in
+    (omega arith, omega arith, w .2, λ forms h. subst (λ k. ListLeft forms s base (level forms left) count k n) (sym e) (left-next forms s base (level forms left) count at read more (f forms h) (g forms h)))
 
 abbrev μ-element : Measures 1 element-kinds.ps ℕ
-μ-element κs a = 2 * length (a .0 .now)
+μ-element κs a = 2 * length (a .1 .1 .1 .0 .now)
 
 abbrev μ-list : Measures 1 list-kinds.ps ℕ
-μ-list κs a = 2 * length (a .0 .now) + 1
+μ-list κs a = 2 * length (a .1 .1 .1 .0 .now) + 1
 
 abbrev element-at : ℕ → In 1 element-kinds.ps
 element-at t = and 1 element-kinds.ps (is 1 element-kinds.ps μ-element t) element.Pre
@@ -86,100 +116,107 @@ list-below t = and 1 list-kinds.ps (falls 1 list-kinds.ps _<_ μ-list t) list.Pr
 element-returns : (t : ℕ) → element-lts.Need-returns (header-reads.Asked, header-reads.Learnt, list-below t, list.Post, contents-good-reads.Asked, contents-good-reads.Learnt) (element-at t) element.Post
 element-returns t c =
     let start = c .before .before .before .before in
-    bad-is paper (start .args .s .now) (start .args .base) (17 - start .args .left) (start .args .count) (sym (c .before .before .header .ensures) ∙ c .enum-told .given .1)
+    λ forms g. bad-is forms (start .args .s .now) (start .args .base) (level forms (start .args .left)) (start .args .count) (sym (c .before .before .header .ensures forms (g .octets) (g .tags)) ∙ c .enum-told .given .1)
 
 element-returns-2 : (t : ℕ) → element-lts.Need-returns-2 (header-reads.Asked, header-reads.Learnt, list-below t, list.Post, contents-good-reads.Asked, contents-good-reads.Learnt) (element-at t) element.Post
 element-returns-2 t c =
     let named = c .before .before in
     let start = named .before .before .before .before in
-    deep (start .args .s .now) (start .args .base) (start .args .left) (start .args .count) (sym (named .before .before .header .ensures) ∙ named .tag .given .1) (c .if1 .taken)
+    deep (start .args .digits) (start .args .wide) (start .args .most) (start .args .s .now) (start .args .base) (start .args .left) (start .args .count) (λ forms e w. sym (named .before .before .header .ensures forms e w) ∙ named .tag .given .1) (c .if1 .taken)
 
 element-returns-3 : (t : ℕ) → element-lts.Need-returns-3 (header-reads.Asked, header-reads.Learnt, list-below t, list.Post, contents-good-reads.Asked, contents-good-reads.Learnt) (element-at t) element.Post
 element-returns-3 t c =
     let named = c .before .before .before in
     let start = named .before .before .before .before in
-    many (start .args .s .now) (start .args .base) (start .args .left) (start .args .count) (sym (named .before .before .header .ensures) ∙ named .tag .given .1) (c .before .if1 .left) (c .if2 .taken)
+    many (start .args .digits) (start .args .wide) (start .args .most) (start .args .s .now) (start .args .base) (start .args .left) (start .args .count) (λ forms e w. sym (named .before .before .header .ensures forms e w) ∙ named .tag .given .1) (c .before .if1 .left) (c .if2 .taken)
 
 element-add-end : (t : ℕ) → element-lts.Need-add-end (header-reads.Asked, header-reads.Learnt, list-below t, list.Post, contents-good-reads.Asked, contents-good-reads.Learnt) (element-at t) element.Post
 element-add-end t c =
     let few = c in
     let named = few .before .before .before in
     let start = named .before .before .before .before in
-    omega (arith, heading-within paper (start .args .s .now) _ _ _ (sym (named .before .before .header .ensures) ∙ named .tag .given .1))
+    omega (arith, ended (start .args .digits) (start .args .wide) (start .args .most) (start .args .s .now) (start .args .base) (start .args .left) (start .args .count) (λ forms e w. sym (named .before .before .header .ensures forms e w) ∙ named .tag .given .1))
 
-element-part-list-end : (t : ℕ) → element-lts.Need-part-list-end (header-reads.Asked, header-reads.Learnt, list-below t, list.Post, contents-good-reads.Asked, contents-good-reads.Learnt) (element-at t) element.Post
-element-part-list-end t c =
+element-shared-slice-read-if3 : (t : ℕ) → element-lts.Need-shared-slice-read-if3 (header-reads.Asked, header-reads.Learnt, list-below t, list.Post, contents-good-reads.Asked, contents-good-reads.Learnt) (element-at t) element.Post
+element-shared-slice-read-if3 t c =
     let few = c .before in
     let named = few .before .before .before in
     let start = named .before .before .before .before in
-    omega (arith, heading-within paper (start .args .s .now) _ _ _ (sym (named .before .before .header .ensures) ∙ named .tag .given .1))
+    omega (arith, ended (start .args .digits) (start .args .wide) (start .args .most) (start .args .s .now) (start .args .base) (start .args .left) (start .args .count) (λ forms e w. sym (named .before .before .header .ensures forms e w) ∙ named .tag .given .1))
 
-element-add-list : (t : ℕ) → element-lts.Need-add-list (header-reads.Asked, header-reads.Learnt, list-below t, list.Post, contents-good-reads.Asked, contents-good-reads.Learnt) (element-at t) element.Post
-element-add-list t c =
+element-part-list-end : (t : ℕ) → element-lts.Need-part-list-end (header-reads.Asked, header-reads.Learnt, list-below t, list.Post, contents-good-reads.Asked, contents-good-reads.Learnt) (element-at t) element.Post
+element-part-list-end t c =
     let few = c .before .before in
     let named = few .before .before .before in
     let start = named .before .before .before .before in
-    omega (arith, heading-within paper (start .args .s .now) _ _ _ (sym (named .before .before .header .ensures) ∙ named .tag .given .1))
+    omega (arith, ended (start .args .digits) (start .args .wide) (start .args .most) (start .args .s .now) (start .args .base) (start .args .left) (start .args .count) (λ forms e w. sym (named .before .before .header .ensures forms e w) ∙ named .tag .given .1))
+
+element-add-list : (t : ℕ) → element-lts.Need-add-list (header-reads.Asked, header-reads.Learnt, list-below t, list.Post, contents-good-reads.Asked, contents-good-reads.Learnt) (element-at t) element.Post
+element-add-list t c =
+    let few = c .before .before .before in
+    let named = few .before .before .before in
+    let start = named .before .before .before .before in
+    omega (arith, ended (start .args .digits) (start .args .wide) (start .args .most) (start .args .s .now) (start .args .base) (start .args .left) (start .args .count) (λ forms e w. sym (named .before .before .header .ensures forms e w) ∙ named .tag .given .1))
 
 element-list-requires : (t : ℕ) → element-lts.Need-list-requires (header-reads.Asked, header-reads.Learnt, list-below t, list.Post, contents-good-reads.Asked, contents-good-reads.Learnt) (element-at t) element.Post
 element-list-requires t c κs =
-    let few = c .before .before in
+    let few = c .before .before .before in
     let named = few .before .before .before in
     let start = named .before .before .before .before in
     let skip = named .tag .given .0 .1 .0 in
     let size = named .tag .given .0 .1 .1 .0 in
     let mu : 2 * length (start .args .s .now) ≡ t = start .pre .0 in
-    omega (arith, heading-within paper (start .args .s .now) _ _ _ (sym (named .before .before .header .ensures) ∙ named .tag .given .1), length-take (skip + size - skip) (drop skip (start .args .s .now)), length-drop skip (start .args .s .now))
+    omega (arith, ended (start .args .digits) (start .args .wide) (start .args .most) (start .args .s .now) (start .args .base) (start .args .left) (start .args .count) (λ forms e w. sym (named .before .before .header .ensures forms e w) ∙ named .tag .given .1), length-take (skip + size - skip) (drop skip (start .args .s .now)), length-drop skip (start .args .s .now))
 
 element-returns-4 : (t : ℕ) → element-lts.Need-returns-4 (header-reads.Asked, header-reads.Learnt, list-below t, list.Post, contents-good-reads.Asked, contents-good-reads.Learnt) (element-at t) element.Post
 unfolding constructed filled
 element-returns-4 t c =
-    let few = c .before .before .before .before .before .before in
+    let few = c .before .before .before .before .before .before .before in
     let named = few .before .before .before in
     let start = named .before .before .before .before in
-    node (start .args .s .now) (start .args .base) (start .args .left) (start .args .count) (sym (named .before .before .header .ensures) ∙ named .tag .given .1) (few .before .if1 .left) (few .if2 .left) (start .pre .1 .1) (eq-eqb _ _ (c .before .before .before .before .before .if3 .taken)) (λ fuel h. sym (c .before .refusal .given .1) ∙ c .before .before .before .list .ensures fuel h)
+    node (start .args .digits) (start .args .wide) (start .args .most) (start .args .s .now) (start .args .base) (start .args .left) (start .args .count) (λ forms e w. sym (named .before .before .header .ensures forms e w) ∙ named .tag .given .1) (few .before .if1 .left) (few .if2 .left) (eq-eqb _ _ (c .before .before .before .before .before .if3 .taken)) (λ forms g fuel h. sym (c .before .refusal .given .1) ∙ c .before .before .before .list .ensures forms g fuel h)
 
 element-returns-5 : (t : ℕ) → element-lts.Need-returns-5 (header-reads.Asked, header-reads.Learnt, list-below t, list.Post, contents-good-reads.Asked, contents-good-reads.Learnt) (element-at t) element.Post
 unfolding constructed filled
 element-returns-5 t c =
-    let few = c .before .before .before .before .before .before in
+    let few = c .before .before .before .before .before .before .before in
     let named = few .before .before .before in
     let start = named .before .before .before .before in
-    node (start .args .s .now) (start .args .base) (start .args .left) (start .args .count) (sym (named .before .before .header .ensures) ∙ named .tag .given .1) (few .before .if1 .left) (few .if2 .left) (start .pre .1 .1) (eq-eqb _ _ (c .before .before .before .before .before .if3 .taken)) (λ fuel h. sym (c .before .count .given .1) ∙ c .before .before .before .list .ensures fuel h)
+    node (start .args .digits) (start .args .wide) (start .args .most) (start .args .s .now) (start .args .base) (start .args .left) (start .args .count) (λ forms e w. sym (named .before .before .header .ensures forms e w) ∙ named .tag .given .1) (few .before .if1 .left) (few .if2 .left) (eq-eqb _ _ (c .before .before .before .before .before .if3 .taken)) (λ forms g fuel h. sym (c .before .count .given .1) ∙ c .before .before .before .list .ensures forms g fuel h)
 
 element-part-contents-good-end : (t : ℕ) → element-lts.Need-part-contents-good-end (header-reads.Asked, header-reads.Learnt, list-below t, list.Post, contents-good-reads.Asked, contents-good-reads.Learnt) (element-at t) element.Post
 element-part-contents-good-end t c =
-    let few = c .before in
+    let few = c .before .before in
     let named = few .before .before .before in
     let start = named .before .before .before .before in
-    omega (arith, heading-within paper (start .args .s .now) _ _ _ (sym (named .before .before .header .ensures) ∙ named .tag .given .1))
+    omega (arith, ended (start .args .digits) (start .args .wide) (start .args .most) (start .args .s .now) (start .args .base) (start .args .left) (start .args .count) (λ forms e w. sym (named .before .before .header .ensures forms e w) ∙ named .tag .given .1))
 
 element-returns-6 : (t : ℕ) → element-lts.Need-returns-6 (header-reads.Asked, header-reads.Learnt, list-below t, list.Post, contents-good-reads.Asked, contents-good-reads.Learnt) (element-at t) element.Post
 unfolding constructed
 element-returns-6 t c =
-    let few = c .before .before .before .before in
+    let few = c .before .before .before .before .before in
     let named = few .before .before .before in
     let start = named .before .before .before .before in
-    leaf (start .args .s .now) (start .args .base) (start .args .left) (start .args .count) (sym (named .before .before .header .ensures) ∙ named .tag .given .1) (few .before .if1 .left) (few .if2 .left) (ne-eqb _ _ (c .before .before .before .if3 .left)) (sym (c .before .contents-good .ensures) ∙ c .if4 .taken)
+    leaf (start .args .digits) (start .args .wide) (start .args .most) (start .args .s .now) (start .args .base) (start .args .left) (start .args .count) (λ forms e w. sym (named .before .before .header .ensures forms e w) ∙ named .tag .given .1) (few .before .if1 .left) (few .if2 .left) (ne-eqb _ _ (c .before .before .before .if3 .left)) (sym (c .before .contents-good .ensures) ∙ c .if4 .taken)
 
 element-returns-7 : (t : ℕ) → element-lts.Need-returns-7 (header-reads.Asked, header-reads.Learnt, list-below t, list.Post, contents-good-reads.Asked, contents-good-reads.Learnt) (element-at t) element.Post
 unfolding constructed
 element-returns-7 t c =
-    let few = c .before .before .before .before in
+    let few = c .before .before .before .before .before in
     let named = few .before .before .before in
     let start = named .before .before .before .before in
-    spoilt (start .args .s .now) (start .args .base) (start .args .left) (start .args .count) (sym (named .before .before .header .ensures) ∙ named .tag .given .1) (few .before .if1 .left) (few .if2 .left) (ne-eqb _ _ (c .before .before .before .if3 .left)) (sym (c .before .contents-good .ensures) ∙ c .if4 .left)
+    spoilt (start .args .digits) (start .args .wide) (start .args .most) (start .args .s .now) (start .args .base) (start .args .left) (start .args .count) (λ forms e w. sym (named .before .before .header .ensures forms e w) ∙ named .tag .given .1) (few .before .if1 .left) (few .if2 .left) (ne-eqb _ _ (c .before .before .before .if3 .left)) (sym (c .before .contents-good .ensures) ∙ c .if4 .left)
 
 abbrev list-Inv-loop : list-lts.InvT-loop
-list-Inv-loop s base left count at₀ read₀ at read = (at ≤ length s) × (read ≤ 4096) × ListLeft paper s base (17 - left) count at read
+list-Inv-loop digits wide most s base left count at₀ read₀ at read = (at ≤ length s) × (read ≤ most) × Rest digits wide most s base left count at read
 
 abbrev list-μ-loop : list-lts.MeasureT-loop
-list-μ-loop s base left count at₀ read₀ at read = length s - at
+list-μ-loop digits wide most s base left count at₀ read₀ at read = length s - at
 
 list-loop-holds : (t : ℕ) → list-lts.Need-loop-holds (fast-path-reads.Asked, fast-path-reads.Learnt, element-below t, element.Post) (list-at t) list.Post list-Inv-loop list-μ-loop
 list-loop-holds t c =
     let start = c .before in
-    (omega arith, omega arith, left-first paper (start .args .s .now) (start .args .base) (17 - start .args .left) (start .args .count))
+    (omega arith, omega arith, λ forms g. left-first forms (start .args .s .now) (start .args .base) (level forms (start .args .left)) (start .args .count))
 
 list-add-at : (t : ℕ) → list-lts.Need-add-at (fast-path-reads.Asked, fast-path-reads.Learnt, element-below t, element.Post) (list-at t) list.Post list-Inv-loop list-μ-loop
 list-add-at t c = omega (arith, c .before .fast-path .ensures (c .if1 .taken) .0)
@@ -201,14 +238,14 @@ list-loop-less t c =
     let turn = c .before .before .before in
     let here = turn .before .loop in
     let start = turn .before .before .before in
-    omega (arith, past (start .args .s .now) (start .args .base) (17 - start .args .left) (start .args .count) (here .at) (here .read) (2 + getD (start .args .s .now) (here .at + 1) 0) (c .before .before .fast-path .result) (here .at + 2 + getD (start .args .s .now) (here .at + 1) 0) (turn .loop-test .taken) (here .inv .2) (c .before .before .fast-path .ensures (c .before .if1 .taken) .1 (start .args .base + here .at)) (omega arith))
+    omega (arith, past (start .args .digits) (start .args .wide) (start .args .most) (start .args .s .now) (start .args .base) (start .args .left) (start .args .count) (here .at) (here .read) (2 + getD (start .args .s .now) (here .at + 1) 0) (c .before .before .fast-path .result) (here .at + 2 + getD (start .args .s .now) (here .at + 1) 0) (turn .loop-test .taken) (here .inv .2) (λ forms g. c .before .before .fast-path .ensures (c .before .if1 .taken) .1 forms (g .limit) (g .levels) (start .args .base + here .at)) (omega arith))
 
 list-loop-again : (t : ℕ) → list-lts.Need-loop-again (fast-path-reads.Asked, fast-path-reads.Learnt, element-below t, element.Post) (list-at t) list.Post list-Inv-loop list-μ-loop
 list-loop-again t c =
     let turn = c .before .before .before in
     let here = turn .before .loop in
     let start = turn .before .before .before in
-    let on = past (start .args .s .now) (start .args .base) (17 - start .args .left) (start .args .count) (here .at) (here .read) (2 + getD (start .args .s .now) (here .at + 1) 0) (c .before .before .fast-path .result) (here .at + 2 + getD (start .args .s .now) (here .at + 1) 0) (turn .loop-test .taken) (here .inv .2) (c .before .before .fast-path .ensures (c .before .if1 .taken) .1 (start .args .base + here .at)) (omega arith) in
+    let on = past (start .args .digits) (start .args .wide) (start .args .most) (start .args .s .now) (start .args .base) (start .args .left) (start .args .count) (here .at) (here .read) (2 + getD (start .args .s .now) (here .at + 1) 0) (c .before .before .fast-path .result) (here .at + 2 + getD (start .args .s .now) (here .at + 1) 0) (turn .loop-test .taken) (here .inv .2) (λ forms g. c .before .before .fast-path .ensures (c .before .if1 .taken) .1 forms (g .limit) (g .levels) (start .args .base + here .at)) (omega arith) in
     (on .1, on .2, on .3)
 
 list-element-requires : (t : ℕ) → list-lts.Need-element-requires (fast-path-reads.Asked, fast-path-reads.Learnt, element-below t, element.Post) (list-at t) list.Post list-Inv-loop list-μ-loop
@@ -224,34 +261,34 @@ list-returns t c =
     let turn = c .before .before .before .before .before .before .before in
     let here = turn .before .loop in
     let start = turn .before .before .before in
-    left-fault paper (start .args .s .now) (start .args .base) (17 - start .args .left) (start .args .count) (here .at) (here .read) (turn .loop-test .taken) (here .inv .2) (λ fuel h. sym (c .before .refusal .given .1) ∙ c .before .before .before .element .ensures fuel h)
+    λ forms g. left-fault forms (start .args .s .now) (start .args .base) (level forms (start .args .left)) (start .args .count) (here .at) (here .read) (turn .loop-test .taken) (here .inv .2 forms g) (λ fuel h. sym (c .before .refusal .given .1) ∙ c .before .before .before .element .ensures forms g fuel h)
 
 list-add-at-4 : (t : ℕ) → list-lts.Need-add-at-4 (fast-path-reads.Asked, fast-path-reads.Learnt, element-below t, element.Post) (list-at t) list.Post list-Inv-loop list-μ-loop
 list-add-at-4 t c =
     let turn = c .before .before .before .before .before .before .before in
     let here = turn .before .loop in
     let start = turn .before .before .before in
-    omega (arith, past (start .args .s .now) (start .args .base) (17 - start .args .left) (start .args .count) (here .at) (here .read) _ _ _ (turn .loop-test .taken) (here .inv .2) (λ fuel h. sym (c .before .used .given .1) ∙ c .before .before .before .element .ensures fuel h) refl)
+    omega (arith, past (start .args .digits) (start .args .wide) (start .args .most) (start .args .s .now) (start .args .base) (start .args .left) (start .args .count) (here .at) (here .read) _ _ _ (turn .loop-test .taken) (here .inv .2) (λ forms g fuel h. sym (c .before .used .given .1) ∙ c .before .before .before .element .ensures forms g fuel h) refl)
 
 list-loop-less-2 : (t : ℕ) → list-lts.Need-loop-less-2 (fast-path-reads.Asked, fast-path-reads.Learnt, element-below t, element.Post) (list-at t) list.Post list-Inv-loop list-μ-loop
 list-loop-less-2 t c =
     let turn = c .before .before .before .before .before .before .before in
     let here = turn .before .loop in
     let start = turn .before .before .before in
-    omega (arith, past (start .args .s .now) (start .args .base) (17 - start .args .left) (start .args .count) (here .at) (here .read) _ _ _ (turn .loop-test .taken) (here .inv .2) (λ fuel h. sym (c .before .used .given .1) ∙ c .before .before .before .element .ensures fuel h) refl)
+    omega (arith, past (start .args .digits) (start .args .wide) (start .args .most) (start .args .s .now) (start .args .base) (start .args .left) (start .args .count) (here .at) (here .read) _ _ _ (turn .loop-test .taken) (here .inv .2) (λ forms g fuel h. sym (c .before .used .given .1) ∙ c .before .before .before .element .ensures forms g fuel h) refl)
 
 list-loop-again-2 : (t : ℕ) → list-lts.Need-loop-again-2 (fast-path-reads.Asked, fast-path-reads.Learnt, element-below t, element.Post) (list-at t) list.Post list-Inv-loop list-μ-loop
 list-loop-again-2 t c =
     let turn = c .before .before .before .before .before .before .before in
     let here = turn .before .loop in
     let start = turn .before .before .before in
-    let on = past (start .args .s .now) (start .args .base) (17 - start .args .left) (start .args .count) (here .at) (here .read) _ _ _ (turn .loop-test .taken) (here .inv .2) (λ fuel h. sym (c .before .used .given .1) ∙ c .before .before .before .element .ensures fuel h) refl in
+    let on = past (start .args .digits) (start .args .wide) (start .args .most) (start .args .s .now) (start .args .base) (start .args .left) (start .args .count) (here .at) (here .read) _ _ _ (turn .loop-test .taken) (here .inv .2) (λ forms g fuel h. sym (c .before .used .given .1) ∙ c .before .before .before .element .ensures forms g fuel h) refl in
     (on .1, on .2, on .3)
 
 list-returns-2 : (t : ℕ) → list-lts.Need-returns-2 (fast-path-reads.Asked, fast-path-reads.Learnt, element-below t, element.Post) (list-at t) list.Post list-Inv-loop list-μ-loop
 list-returns-2 t c =
     let start = c .before .before .before in
-    left-none paper (start .args .s .now) (start .args .base) (17 - start .args .left) (start .args .count) (c .loop-test .left) (c .before .loop .inv .2)
+    λ forms g. left-none forms (start .args .s .now) (start .args .base) (level forms (start .args .left)) (start .args .count) (c .loop-test .left) (c .before .loop .inv .2 forms g)
 
 pub +element+list-spec : {M : Type 1} → statement M
 +element+list-spec = close μ-element μ-list (λ t. element-lts.spec (
@@ -271,6 +308,7 @@ pub +element+list-spec : {M : Type 1} → statement M
     (element-returns-2 t)
     (element-returns-3 t)
     (element-add-end t)
+    (element-shared-slice-read-if3 t)
     (λ c. search needs)
     (λ c. search needs)
     (element-part-list-end t)

@@ -1,11 +1,15 @@
 -- Another first octet is no such element; an element that is found is kept if its tag is the one asked for.
 use mathlib.Core.Path.{sym, _∙_}
+use native.Mathlib.Omega.{arith}
 use borrow.Author.Needs.{needs}
 use Rattle.elements.specs.Elements.{foundTagged}
 use Rattle.elements.proofs.Members.{tag-missing, tag-kept, tag-other}
 use Rattle.elements.proofs.Tags.{found-other}
 use Rattle.elements.proofs.elements.any_tagged.Statement.{statement}
 use Rattle.elements.proofs.elements.any_tagged.Tie as tie
+
+cast-if2 : tie.Need-cast-if2
+cast-if2 c = omega (arith, c .shared-slice-known2 .given (c .before .before .before .args .from))
 
 returns : tie.Need-returns
 unfolding foundTagged
@@ -32,6 +36,7 @@ any-tagged-spec =
     tie.close
     (tie.spec
     (λ c. search needs)
+    cast-if2
     returns
     (λ c κs. search needs)
     (λ c. search needs)

@@ -15,6 +15,9 @@ returns-2 c = short-none _ _ _ _ (omega arith) (omega arith)
 returns-3 : tie.Need-returns-3
 returns-3 c = short-none _ _ _ _ (omega arith) (omega arith)
 
+cast-if4 : tie.Need-cast-if4
+cast-if4 c = omega (arith, c .shared-slice-known .given (c .before .before .before .before .args .from))
+
 returns-4 : tie.Need-returns-4
 returns-4 c = short-other _ _ _ _ (omega arith) (omega arith) (c .if4 .taken)
 
@@ -41,6 +44,7 @@ short-end-spec =
     (λ c. search needs)
     returns-3
     (λ c. search needs)
+    cast-if4
     returns-4
     (λ c. search needs)
     (λ c. search needs)

@@ -3,6 +3,7 @@ use Prim.Native.Nat.{_-_}
 use mathlib.Core.Path.{_≡_, refl, sym, _∙_}
 use borrow.Author.Needs.{needs}
 use native.Mathlib.Omega.{arith}
+use Rattle.der.specs.Forms.{paper}
 use Rattle.elements.specs.Elements.{membersOf}
 use Rattle.extensions.specs.Extensions.{placeIn}
 use Rattle.elements.proofs.Members.{found-within, members-none, members-more}
@@ -10,7 +11,7 @@ use Rattle.extensions.proofs.finding.place_of.Statement.{statement}
 use Rattle.extensions.proofs.finding.place_of.Tie as tie
 
 abbrev Inv-loop : tie.InvT-loop
-Inv-loop item from end oid at₀ at = placeIn item oid (membersOf item from end) end ≡ placeIn item oid (membersOf item at end) end
+Inv-loop item from end oid at₀ at = placeIn paper item oid (membersOf paper item from end) end ≡ placeIn paper item oid (membersOf paper item at end) end
 
 abbrev μ-loop : tie.MeasureT-loop
 μ-loop item from end oid at₀ at = end - at

@@ -3,6 +3,7 @@ use Prim.Native.Nat.{_-_, _≤_}
 use mathlib.Core.Path.{_≡_, refl, sym, _∙_}
 use native.Mathlib.Omega.{arith}
 use borrow.Author.Needs.{needs}
+use Rattle.der.specs.Forms.{paper}
 use Rattle.elements.proofs.Members.{found-within}
 use Rattle.extensions.specs.Strange.{strangeFrom, met, none}
 use Rattle.extensions.proofs.Slotless.{strange-none, strange-passed, strange-absent, strange-skip, strange-met}
@@ -10,7 +11,7 @@ use Rattle.extensions.proofs.stranger.stranger_from.Statement.{statemen
 use Rattle.extensions.proofs.stranger.stranger_from.Tie as tie
 
 abbrev Inv-loop : tie.InvT-loop
-Inv-loop item from end at₀ at = (from ≤ at) × (strangeFrom item from end ≡ strangeFrom item at end)
+Inv-loop item from end at₀ at = (from ≤ at) × (strangeFrom paper item from end ≡ strangeFrom paper item at end)
 
 abbrev μ-loop : tie.MeasureT-loop
 μ-loop item from end at₀ at = end - at

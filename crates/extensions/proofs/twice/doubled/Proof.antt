@@ -3,6 +3,7 @@ use Prim.Native.Nat.{_-_, _<_}
 use mathlib.Core.Path.{_≡_, refl, sym, _∙_}
 use mathlib.Core.Bool.{false, _||_}
 use borrow.Author.Needs.{needs}
+use Rattle.der.specs.Forms.{paper}
 use Rattle.elements.specs.Elements.{inside}
 use Rattle.extensions.specs.Strange.{strangeFrom, twiceIn}
 use Rattle.extensions.proofs.Tables.{round-less, round-end}
@@ -12,7 +13,7 @@ use Rattle.extensions.proofs.twice.doubled.Tie as tie
 abbrev Inv-loop : tie.InvT-loop
 Inv-loop item end round₀ round =
     (round .rest < end → round .twice ≡ false)
-    × ((round₀ .twice || twiceIn (strangeFrom item (round₀ .rest) end)) ≡ (round .twice || twiceIn (strangeFrom item (round .rest) end)))
+    × ((round₀ .twice || twiceIn (strangeFrom paper item (round₀ .rest) end)) ≡ (round .twice || twiceIn (strangeFrom paper item (round .rest) end)))
 
 abbrev μ-loop : tie.MeasureT-loop
 μ-loop item end round₀ round = end - round .rest
