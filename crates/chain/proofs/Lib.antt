@@ -9,6 +9,7 @@ pub mod FirstRound
 pub mod ImageOpened
 pub mod ItemsTold
 pub mod Homes
+pub mod LastStep
 pub mod Layers
 pub mod Meaning
 pub mod NearRows

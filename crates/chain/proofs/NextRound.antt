@@ -20,22 +20,17 @@ use Rattle.chain.specs.Rows.{Roles, Searched}
 use Rattle.chain.specs.Home.{Opens}
 use Rattle.chain.specs.Answer.{goodChains}
 use Rattle.chain.proofs.Booleans.{false-true, first, both-true}
-use Rattle.chain.proofs.PlacesMean.{length-items}
 use Rattle.chain.proofs.ItemsTold.{kind-told}
 use Rattle.chain.proofs.NearRows.{Told, told-next}
 use Rattle.chain.proofs.RolesMean.{roles-mean}
 use Rattle.chain.proofs.Transfer.{AllNear, done, more}
 use Rattle.chain.proofs.Theorems.{step-verified}
-use Rattle.chain.proofs.RoundsHold.{Round, way-home, answer-by}
+use Rattle.chain.proofs.RoundsHold.{Round, in-items, way-home, answer-by}
 
 -- the kinds and verdicts that a good chain has
 module _ (s table : List ℕ) (moment : ℕ) where
   abbrev good : Graph
   good = goodChains s table moment
-
-  in-items : (v : ℕ) → v < good .places → v < entryCount s
-  unfolding chains
-  in-items v h = rw (length-items s) at h
 
   link-kind : (v : ℕ) → v < entryCount s → good .link v ≡ true → entryIn s v .kind ≡ 2
   unfolding chains

@@ -49,26 +49,27 @@ unsettled round length e four = false-true (sym e ∙ rw four)
 pub unasked : {round : ℕ} {asked : Bool} → (round ≡ 4 → asked ≡ true) → asked ≡ false → round ≡ 4 → ⊥
 unasked last e four = false-true (sym e ∙ last four)
 
+-- the places of the good chains are entries
+pub in-items : (s table : List ℕ) (moment v : ℕ) → v < goodChains s table moment .places → v < entryCount s
+unfolding chains
+in-items s table moment v h = rw (length-items s) at h
+
 -- of a way on to a target of the country all places are of it, and so is where it starts
 module _ (a b : ℕ) (s table : List ℕ) (moment target : ℕ) (there : home a b s target ≡ true) where
-  in-items : (v : ℕ) → v < goodChains s table moment .places → v < entryCount s
-  unfolding chains
-  in-items v h = rw (length-items s) at h
-
   stays : (u v : ℕ) → u < entryCount s → v < entryCount s → goodChains s table moment .step u v ≡ true → home a b s v ≡ true → home a b s u ≡ true
   unfolding chains
   stays u v hu hv step h = step-home a b s (verdictIn (entryCount s) table) u v hu hv step h
 
   pub way-home : {u : ℕ} {c : List ℕ} → u < entryCount s → Onward (goodChains s table moment) target u c → home a b s u ≡ true
-  way-home {u} h (ends m signer step) = stays u target h (in-items target m) step there
-  way-home {u} h (goes {v = v} m link step rest) = stays u v h (in-items v m) step (way-home (in-items v m) rest)
+  way-home {u} h (ends m signer step) = stays u target h (in-items s table moment target m) step there
+  way-home {u} h (goes {v = v} m link step rest) = stays u v h (in-items s table moment v m) step (way-home (in-items s table moment v m) rest)
 
   -- so what is near of it is near and of the country
   pub all-inside :
       (near : List ℕ) {u : ℕ} {c : List ℕ} → Onward (goodChains s table moment) target u c → AllNear (isNear near) c
       → AllNear (inside a b s near) c
   all-inside near (ends m signer step) (more n done) = more (both-true _ _ n there) done
-  all-inside near (goes {v = v} m link step rest) (more n others) = more (both-true _ _ n (way-home (in-items v m) rest)) (all-inside near rest others)
+  all-inside near (goes {v = v} m link step rest) (more n others) = more (both-true _ _ n (way-home (in-items s table moment v m) rest)) (all-inside near rest others)
 
 module _ (a b : ℕ) (s table : List ℕ) (moment target round : ℕ) (near : List ℕ) (rows : List (List ℕ)) (counting roles : List ℕ) where
   -- the tables tell what is near, and so is each way on to the target of at most a place more than rounds were done, in the

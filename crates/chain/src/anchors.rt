@@ -1,11 +1,12 @@
-// The steps from an anchor: a fast path before a search.
+// The steps from an anchor, and those to the target: fast paths before a search.
+use crate::matching::leads;
 use crate::matching::matched;
 use crate::opened::row_at;
 use graph::Found;
 use graph::no_chain;
 use octets::octet;
 ghost use mathlib.Core.Path.{_≡_};
-ghost use mathlib.Core.Bool.{true};
+ghost use mathlib.Core.Bool.{true, false};
 ghost use mathlib.Core.List.{[], _∷_, _++_};
 ghost use Prim.Native.Nat.{ℕ, _≤_, _<_};
 ghost use lib.ListN.{replicate};
@@ -75,6 +76,32 @@ pub(crate) fn begins(
                     }
                 }
                 v += 1;
+            }
+        }
+        u += 1;
+    }
+    false
+}
+
+// Whether an anchor or link has a good step to the target.
+pub(crate) fn led_to(
+    image: &[u8],
+    table: &[u8],
+    places: usize,
+    rows: &[[usize; 17]; 96],
+    roles: [u8; 96],
+    target: usize,
+) -> bool
+    requires { ⌜ (places ≤ 96) × (target < places) ⌝ }
+    ensures { λ r. ⌜ (r ≡ false → (u : ℕ) → u < places → stepOf (now (image .entry)) places (now (table .entry)) (now (rows .entry)) roles u target ≡ false) ⌝ }
+{
+    let mut u = 0;
+    while u < places {
+        if leads(roles[u]) {
+            if octet(table, u * places + target) == 1 {
+                if matched(image, row_at(rows, u), row_at(rows, target), roles[target]) == 1 {
+                    return true;
+                }
             }
         }
         u += 1;

@@ -53,7 +53,7 @@ pub(crate) fn matched(image: &[u8], u: Row, v: Row, role: u8) -> u8
 }
 
 // An anchor or a link.
-fn leads(role: u8) -> bool
+pub(crate) fn leads(role: u8) -> bool
     ensures { λ r. ⌜ r ≡ leadsOf role ⌝ }
 {
     if role == 1 {

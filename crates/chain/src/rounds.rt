@@ -1,6 +1,7 @@
 // The search over the places near the target, round by round.
 use crate::anchors::begins;
 use crate::anchors::direct_chain;
+use crate::anchors::led_to;
 use crate::counting::counting_lists;
 use crate::matching::matching_steps;
 use crate::near::LAST;
@@ -44,6 +45,7 @@ pub(crate) fn chain_among(
 // Round 0 opens the anchors and CRLs of the target's country, and each round goes a link further back from the target. So a round
 // knows all good chains of at most two places more than its number, and the last round all: a chain found that is as short is the
 // best. In round 0 these are the steps from an anchor to the target. Where no round could open more, all good chains are known too.
+// From round 1 on all links with verdict 1 for the target are open: where nothing leads to it there is no chain.
 fn chain_home(
     image: &[u8],
     table: &[u8],
@@ -92,6 +94,9 @@ fn chain_home(
         }
         open_items(image, places, moment, first, second, near, wider, &mut rows);
         let known = roles_of(image, places, near, &rows, counting, roles);
+        if !led_to(image, table, places, &rows, known, target) {
+            return no_chain();
+        }
         if worthwhile(image, table, places, round, &rows, known) {
             let found = searched(image, table, places, &rows, known, target);
             let length = found.length;

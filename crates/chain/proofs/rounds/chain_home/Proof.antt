@@ -4,10 +4,12 @@ use mathlib.Core.Path.{_≡_, refl, sym, _∙_}
 use mathlib.Core.List.{List}
 use native.Mathlib.Omega.{arith}
 use borrow.Author.Needs.{needs}
+use borrow.Author.Tests.{not-true}
 use lib.ListN.{length, length-set}
 use Rattle.image.specs.Index.{entryCount}
 use Rattle.chain.proofs.DirectMeans.{direct-answer}
 use Rattle.chain.proofs.FirstRound.{first-round}
+use Rattle.chain.proofs.LastStep.{no-last-step}
 use Rattle.chain.proofs.NextRound.{next-round, closed-answer}
 use Rattle.chain.proofs.RoundsHold.{Round, round-answer, no-signer, settled, unsettled, unasked}
 use Rattle.chain.proofs.rounds.chain_home.Statement.{statement}
@@ -125,72 +127,94 @@ roles-of-requires-2 c κs =
     let back4 = c .before .before .before .before in
     back4 .before .before .loop .inv .small
 
+led-to-requires : tie.Need-led-to-requires Inv-loop μ-loop
+led-to-requires c κs =
+    let back4 = c .before .before .before .before in
+    let back8 = back4 .before .before .before .before in
+    (back8 .loop .inv .small, back8 .loop .inv .there)
+
+returns-4 : tie.Need-returns-4 Inv-loop μ-loop
+returns-4 c =
+    let back4 = c .before .before .before .before in
+    let back8 = back4 .before .before .before .before in
+    let inv = back8 .before .before .before .loop .inv in
+    no-last-step _ _ _ _ _ _ _ (inv .all) (next-round _ _ _ _ _ _ _ (inv .all) (inv .holds) (back8 .before .before .near-next .ensures) (inv .there) (back4 .before .before .open-items2 .ensures .1) (back4 .roles-of2 .ensures)) (c .before .before .led-to .ensures (not-true _ (c .before .if4 .taken))) (omega arith) (c .no-chain2 .ensures)
+
 worthwhile-requires : tie.Need-worthwhile-requires Inv-loop μ-loop
 worthwhile-requires c κs =
     let back4 = c .before .before .before .before in
     let back8 = back4 .before .before .before .before in
-    back8 .loop .inv .small
+    back8 .before .before .before .loop .inv .small
 
 searched-requires-2 : tie.Need-searched-requires-2 Inv-loop μ-loop
 searched-requires-2 c κs =
     let back4 = c .before .before .before .before in
     let back8 = back4 .before .before .before .before in
-    back8 .before .before .before .loop .inv .small
+    let back12 = back8 .before .before .before .before in
+    back12 .before .before .loop .inv .small
 
 enough-requires : tie.Need-enough-requires Inv-loop μ-loop
 enough-requires c κs =
     let back4 = c .before .before .before .before in
     let back8 = back4 .before .before .before .before in
     let back12 = back8 .before .before .before .before in
-    omega (arith, back12 .loop .inv .early)
+    omega (arith, back12 .before .before .before .loop .inv .early)
 
-returns-4 : tie.Need-returns-4 Inv-loop μ-loop
-returns-4 c =
+returns-5 : tie.Need-returns-5 Inv-loop μ-loop
+returns-5 c =
     let back4 = c .before .before .before .before in
     let back8 = back4 .before .before .before .before in
     let back12 = back8 .before .before .before .before in
-    round-answer _ _ _ _ _ _ _ (back12 .before .before .loop .inv .all) (next-round _ _ _ _ _ _ _ (back12 .before .before .loop .inv .all) (back12 .before .before .loop .inv .holds) (back12 .before .near-next .ensures) (back12 .before .before .loop .inv .there) (back8 .before .open-items2 .ensures .1) (back4 .before .before .before .roles-of2 .ensures)) (back12 .before .before .loop .inv .small) (c .before .before .searched2 .ensures) (settled _ _ (sym (c .before .enough .ensures) ∙ c .if5 .taken))
+    let back16 = back12 .before .before .before .before in
+    let inv = back16 .before .loop .inv in
+    round-answer _ _ _ _ _ _ _ (inv .all) (next-round _ _ _ _ _ _ _ (inv .all) (inv .holds) (back16 .near-next .ensures) (inv .there) (back12 .open-items2 .ensures .1) (back8 .before .before .roles-of2 .ensures)) (inv .small) (c .before .before .searched2 .ensures) (settled _ _ (sym (c .before .enough .ensures) ∙ c .if6 .taken))
 
 loop-less : tie.Need-loop-less Inv-loop μ-loop
 loop-less c =
     let back4 = c .before .before .before .before in
     let back8 = back4 .before .before .before .before in
     let back12 = back8 .before .before .before .before in
-    omega (arith, back12 .before .before .loop .inv .early)
+    let back16 = back12 .before .before .before .before in
+    omega (arith, back16 .before .loop .inv .early)
 
 loop-again : tie.Need-loop-again Inv-loop μ-loop
 loop-again c =
     let back4 = c .before .before .before .before in
     let back8 = back4 .before .before .before .before in
     let back12 = back8 .before .before .before .before in
-    let z = unsettled _ _ (sym (c .before .enough .ensures) ∙ c .if5 .left) in
+    let back16 = back12 .before .before .before .before in
+    let inv = back16 .before .loop .inv in
+    let z = unsettled _ _ (sym (c .before .enough .ensures) ∙ c .if6 .left) in
     record {
-      all = back12 .before .before .loop .inv .all;
-      small = back12 .before .before .loop .inv .small;
-      there = back12 .before .before .loop .inv .there;
-      early = omega (arith, z, back12 .before .before .loop .inv .early);
-      slots = back8 .before .open-items2 .ensures .0;
-      holds = next-round _ _ _ _ _ _ _ (back12 .before .before .loop .inv .all) (back12 .before .before .loop .inv .holds) (back12 .before .near-next .ensures) (back12 .before .before .loop .inv .there) (back8 .before .open-items2 .ensures .1) (back4 .before .before .before .roles-of2 .ensures);
+      all = inv .all;
+      small = inv .small;
+      there = inv .there;
+      early = omega (arith, z, inv .early);
+      slots = back12 .open-items2 .ensures .0;
+      holds = next-round _ _ _ _ _ _ _ (inv .all) (inv .holds) (back16 .near-next .ensures) (inv .there) (back12 .open-items2 .ensures .1) (back8 .before .before .roles-of2 .ensures);
     }
 
 loop-less-2 : tie.Need-loop-less-2 Inv-loop μ-loop
 loop-less-2 c =
     let back4 = c .before .before .before .before in
     let back8 = back4 .before .before .before .before in
-    omega (arith, back8 .before .before .loop .inv .early)
+    let back12 = back8 .before .before .before .before in
+    omega (arith, back12 .before .loop .inv .early)
 
 loop-again-2 : tie.Need-loop-again-2 Inv-loop μ-loop
 loop-again-2 c =
     let back4 = c .before .before .before .before in
     let back8 = back4 .before .before .before .before in
-    let z = unasked (c .before .worthwhile .ensures) (c .if4 .left) in
+    let back12 = back8 .before .before .before .before in
+    let inv = back12 .before .loop .inv in
+    let z = unasked (c .before .worthwhile .ensures) (c .if5 .left) in
     record {
-      all = back8 .before .before .loop .inv .all;
-      small = back8 .before .before .loop .inv .small;
-      there = back8 .before .before .loop .inv .there;
-      early = omega (arith, z, back8 .before .before .loop .inv .early);
-      slots = back4 .before .open-items2 .ensures .0;
-      holds = next-round _ _ _ _ _ _ _ (back8 .before .before .loop .inv .all) (back8 .before .before .loop .inv .holds) (back8 .before .near-next .ensures) (back8 .before .before .loop .inv .there) (back4 .before .open-items2 .ensures .1) (c .before .before .before .roles-of2 .ensures);
+      all = inv .all;
+      small = inv .small;
+      there = inv .there;
+      early = omega (arith, z, inv .early);
+      slots = back8 .open-items2 .ensures .0;
+      holds = next-round _ _ _ _ _ _ _ (inv .all) (inv .holds) (back12 .near-next .ensures) (inv .there) (back8 .open-items2 .ensures .1) (back4 .before .before .roles-of2 .ensures);
     }
 
 pub chain-home-spec : {M : Type 1} → statement M
@@ -221,10 +245,13 @@ chain-home-spec =
     returns-3
     open-items-requires-2
     roles-of-requires-2
+    led-to-requires
+    (λ c κs. search needs)
+    returns-4
     worthwhile-requires
     searched-requires-2
     enough-requires
-    returns-4
+    returns-5
     loop-less
     loop-again
     loop-less-2

@@ -1,0 +1,99 @@
+-- No place so far has a good step to the target.
+use Prim.Native.Nat.{ℕ, _-_, _*_, _<_, _≤_}
+use mathlib.Core.Path.{_≡_, refl, sym, _∙_}
+use mathlib.Core.Bool.{false}
+use mathlib.Core.Logic.{⊎-elim}
+use native.Mathlib.Nat.{mul-le-mul}
+use native.Mathlib.Omega.{arith}
+use borrow.Author.Count.{below-more}
+use borrow.Author.Needs.{needs}
+use Rattle.chain.specs.Rows.{stepOf}
+use Rattle.chain.proofs.RowLaws.{flag-false, step-asked, step-unasked, step-unled}
+use Rattle.chain.proofs.anchors.led_to.Statement.{statement}
+use Rattle.chain.proofs.anchors.led_to.Tie as tie
+
+abbrev Inv-loop : tie.InvT-loop
+Inv-loop image table places rows target roles u₀ u =
+    (places ≤ 96) × (target < places) × (u ≤ places) × ((w : ℕ) → w < u → stepOf image places table rows roles w target ≡ false)
+
+abbrev μ-loop : tie.MeasureT-loop
+μ-loop image table places rows target roles u₀ u = places - u
+
+few : {u places : ℕ} → places ≤ 96 → u < places → u * places ≤ 96 * 96
+few small h = mul-le-mul {n₂ = 96} {m₂ = 96} (omega arith) small
+
+loop-holds : tie.Need-loop-holds Inv-loop μ-loop
+loop-holds c = let p = c .before .before .pre in (p .0, p .1, omega arith, λ w h. absurd (omega arith))
+
+array-read-leads : tie.Need-array-read-leads Inv-loop μ-loop
+array-read-leads c = omega (arith, c .before .loop .inv .0, c .loop-test .taken)
+
+mul-octet : tie.Need-mul-octet Inv-loop μ-loop
+mul-octet c = let t = c .before .before in omega (arith, few (t .before .loop .inv .0) (t .loop-test .taken))
+
+add-octet : tie.Need-add-octet Inv-loop μ-loop
+add-octet c =
+    let t = c .before .before in
+    let i = t .before .loop .inv in
+    omega (arith, i .0, i .1, few (i .0) (t .loop-test .taken))
+
+row-at-requires : tie.Need-row-at-requires Inv-loop μ-loop
+row-at-requires c κs = let t = c .before .before .before .before in omega (arith, t .before .loop .inv .0, t .loop-test .taken)
+
+row-at-requires-2 : tie.Need-row-at-requires-2 Inv-loop μ-loop
+row-at-requires-2 c κs = let t = c .before .before .before .before in let i = t .before .before .loop .inv in omega (arith, i .0, i .1)
+
+array-read-matched : tie.Need-array-read-matched Inv-loop μ-loop
+array-read-matched c = let t = c .before .before .before .before in let i = t .before .before .before .loop .inv in omega (arith, i .0, i .1)
+
+returns : tie.Need-returns Inv-loop μ-loop
+returns c = λ e. absurd (let z : _≡_ {A = ℕ} 0 1 = cc in omega arith)
+
+add-u : tie.Need-add-u Inv-loop μ-loop
+add-u c = let t = c .before .before in omega (arith, t .before .loop .inv .0, t .loop-test .taken)
+
+loop-less : tie.Need-loop-less Inv-loop μ-loop
+loop-less c = omega (arith, c .before .before .loop-test .taken)
+
+loop-again : tie.Need-loop-again Inv-loop μ-loop
+loop-again c =
+    let t = c .before .before in
+    let i = t .before .loop .inv in
+    let leads = sym (c .before .leads .ensures) in (
+      i .0,
+      i .1,
+      omega (arith, t .loop-test .taken),
+      below-more _ _ (i .3)
+          (⊎-elim
+          (λ w. flag-false _ (step-asked _ _ _ _ _ _ _ (w .3 .ensures) (w .4 .ensures) refl refl (leads ∙ w .0 .taken) (w .1 .ensures) (w .2 .taken) (w .5 .ensures)) (w .6 .left))
+          (λ k.
+          ⊎-elim
+          (λ w. flag-false _ (step-unasked _ _ _ _ _ _ _ refl (leads ∙ w .0 .taken) (w .1 .ensures) (w .2 .left)) (λ (z : 0 ≡ 1). omega arith))
+          (λ w. flag-false _ (step-unled _ _ _ _ _ _ _ refl (leads ∙ w .left)) (λ (z : 0 ≡ 1). omega arith)) k)
+          (c .if1 .came)),
+    )
+
+returns-2 : tie.Need-returns-2 Inv-loop μ-loop
+returns-2 c = λ e u h. c .before .loop .inv .3 u (omega (arith, c .loop-test .left))
+
+pub led-to-spec : {M : Type 1} → statement M
+led-to-spec =
+    tie.close
+    (tie.spec
+    Inv-loop
+    μ-loop
+    loop-holds
+    array-read-leads
+    (λ c κs. search needs)
+    mul-octet
+    add-octet
+    (λ c κs. search needs)
+    row-at-requires
+    row-at-requires-2
+    array-read-matched
+    (λ c κs. search needs)
+    returns
+    add-u
+    loop-less
+    loop-again
+    returns-2)
