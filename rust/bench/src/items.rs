@@ -108,7 +108,11 @@ pub fn signer_with_two_strangers() -> Vec<u8> {
     let mut made = Certificate::typical(SIGNER);
     let access = b"\x30\x1f\x30\x1d\x06\x08\x2b\x06\x01\x05\x05\x07\x30\x02\x86\x11http://ut.local/c";
     made.extensions.push(Extension::new(b"\x2b\x06\x01\x05\x05\x07\x01\x01", false, access));
-    made.extensions.push(Extension::new(b"\x2b\x06\x01\x04\x01\x82\x37\x15\x07", false, b"\x30\x06\x02\x01\x64\x02\x01\x03"));
+    made.extensions.push(Extension::new(
+        b"\x2b\x06\x01\x04\x01\x82\x37\x15\x07",
+        false,
+        b"\x30\x06\x02\x01\x64\x02\x01\x03",
+    ));
     made.encode()
 }
 

@@ -125,9 +125,9 @@ impl Shape {
     }
 }
 
-/// The dearest certificate and CRL found.
-pub const CERTIFICATE: Shape = Shape { kind: LINK, strangers: 1098, oid: 6, differ: 2, ..NOTHING };
-pub const LIST: Shape = Shape { kind: CRL, strangers: 1098, oid: 6, differ: 2, ..NOTHING };
+/// The dearest certificate and CRL found: OIDs that differ only in the two octets that no number of theirs has.
+pub const CERTIFICATE: Shape = Shape { kind: LINK, strangers: 660, oid: 18, differ: 1, ..NOTHING };
+pub const LIST: Shape = Shape { kind: CRL, strangers: 672, oid: 18, differ: 1, ..NOTHING };
 
 const NOTHING: Shape = Shape {
     kind: CRL,
@@ -144,7 +144,7 @@ const NOTHING: Shape = Shape {
 };
 
 /// The dearest chain found.
-pub const CHAIN: Pack = Pack { links: 14, lists: 1, link: CERTIFICATE, list: NOTHING, leading: 1 };
+pub const CHAIN: Pack = Pack { links: 0, lists: 15, link: NOTHING, list: LIST, leading: 1 };
 
 /// An image of one anchor, one signer, and so many links and CRLs of two shapes, all verdicts 1.
 #[derive(Clone, Debug)]
