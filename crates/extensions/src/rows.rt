@@ -29,8 +29,17 @@ pub(crate) fn row_of(item: &[u8], oid: Element) -> Row
     ensures numbers { λ r. ⌜ Numbered (now (item .entry)) r ⌝ }
 {
     let own = contents(item, oid);
+    let last = key_of(own);
+    if own.len() <= 8 {
+        return Row {
+            last,
+            first: last,
+            start: oid.contents,
+            end: oid.end,
+        };
+    }
     Row {
-        last: key_of(own),
+        last,
         first: key_of(part(own, 0, 8)),
         start: oid.contents,
         end: oid.end,

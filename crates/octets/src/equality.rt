@@ -13,10 +13,10 @@ pub fn same(a: &[u8], b: &[u8]) -> bool
     if n != b.len() {
         return false;
     }
-    if n < 8 {
-        return same_part(a, b, 0, n);
-    }
     if n < 16 {
+        if n < 8 {
+            return same_part(a, b, 0, n);
+        }
         if !same_part(a, b, 0, 8) {
             return false;
         }
