@@ -49,7 +49,9 @@ known-octets s from stop arc whole here some oid size a b c last =
       own = three-octets s from stop whole here some oid size ∙ rw (a, b, c);
     }
 
-module _ (s : List ℕ) (x : Element) {middle : ℕ} (tag : x .tag ≡ 0x30) (one : Known paper s (x .contents) (x .end) 0x23 middle) (other : Known paper s middle (x .end) 0x14 (x .end)) where
+module _
+    (s : List ℕ) (x : Element) {middle : ℕ} (tag : x .tag ≡ 0x30) (one : Known paper s (x .contents) (x .end) 0x23 middle)
+    (other : Known paper s middle (x .end) 0x14 (x .end)) where
   two : membersOf paper s (x .contents) (x .end) ≡ one .e ∷ other .e ∷ []
   two =
       members-more s (x .contents) (x .end) (one .found)
@@ -58,6 +60,26 @@ module _ (s : List ℕ) (x : Element) {middle : ℕ} (tag : x .tag ≡ 0x30) (on
       ∙ ap (λ (n : ℕ). one .e ∷ other .e ∷ membersOf paper s n (x .end)) (sym (other .ends))
       ∙ ap (λ (es : List Element). one .e ∷ other .e ∷ es) (members-none s (x .end) (x .end) (beyond s (omega arith)))
 
+  shaped : extensionsShaped paper s x ≡ true
+  unfolding extensionsShaped inside allShaped present
+  shaped = rw (eq-eqb _ _ tag, two, one .is, other .is)
+
+  mild : criticalOf paper s x false ≡ false
+  unfolding criticalOf inside someCritical refusedCritical
+  mild = rw (two, one .is, other .is)
+
+  once : doubledOf paper s x ≡ false
+  unfolding doubledOf inside doubledIn standsIn sameOids hasOid alike
+  once = rw (two, one .is, other .is, one .own, other .own)
+
+  keyed : keyThere paper s x ≡ true
+  unfolding keyThere lookupOf inside firstWith hasOid alike present
+  keyed = rw (two, one .is, one .own)
+
+  numbered : numberThere paper s x ≡ true
+  unfolding numberThere lookupOf inside firstWith hasOid alike present
+  numbered = rw (two, one .is, other .is, one .own, other .own)
+
   pub pair-own : ownUsual ≡ ownOf paper s x
-  unfolding ownOf extensionsShaped criticalOf doubledOf keyThere numberThere lookupOf inside allShaped someCritical doubledIn standsIn firstWith present refusedCritical sameOids hasOid alike
-  pair-own = sym (rw (eq-eqb _ _ tag, two, one .is, other .is, one .own, other .own))
+  unfolding ownOf
+  pair-own = rw (shaped, mild, once, keyed, numbered)

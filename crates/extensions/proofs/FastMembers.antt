@@ -100,7 +100,8 @@ module _ (s : List ℕ) (from stop : ℕ) {end next : ℕ} (whole : 0 < end) (he
             ends = refl;
             familiar = λ more.
                 by-oid s (brief 0x30 from end) (brief 0x06 (from + 2) next) (λ x. strangeOid s x more ≡ more) refl
-                (λ critical value. rw (with-slot (contentsOf s (brief 0x06 (from + 2) next)) 23 k l (ap (λ (o : List ℕ). alike o (oidOf k)) three-octets ∙ slot)))
+                (λ critical value. rw (with-slot (contentsOf s (brief 0x06 (from + 2) next)) 23 k l
+                (ap (λ (o : List ℕ). alike o (oidOf k)) three-octets ∙ slot)))
                 (rw (short-found s (from + 2) end 0x06 refl some oid));
           }
 

@@ -27,7 +27,9 @@ pub record Far (s : List ℕ) (x : Element) (shaped marked critical twice unsure
   pub table : Open s (x .contents) (x .end) slots at
   pub apart : Apart s (x .contents) (x .end) slots twice unsure marks at
 
-pub far-start : (s : List ℕ) (x : Element) → Far s x (eqb (x .tag) 0x30) false false false false (replicate 23 (heldOf Absent)) (replicate 64 false) (x .contents)
+pub far-start :
+    (s : List ℕ) (x : Element)
+    → Far s x (eqb (x .tag) 0x30) false false false false (replicate 23 (heldOf Absent)) (replicate 64 false) (x .contents)
 far-start s x =
     record {
       shape = shape-start s x;
@@ -37,7 +39,9 @@ far-start s x =
       apart = apart-start s (x .contents) (x .end);
     }
 
-module _ {s : List ℕ} {x : Element} {shaped marked critical twice unsure : Bool} {slots : List Held} {marks : List Bool} {at : ℕ} (p : Far s x shaped marked critical twice unsure slots marks at) where
+module _
+    {s : List ℕ} {x : Element} {shaped marked critical twice unsure : Bool} {slots : List Held} {marks : List Bool} {at : ℕ}
+    (p : Far s x shaped marked critical twice unsure slots marks at) where
   module _ (f : foundAt paper s at (x .end) ≡ Missing) where
     pub end-shape : shaped ≡ extensionsShaped paper s x
     end-shape = shape-end f (p .shape)
@@ -70,8 +74,8 @@ module _ {s : List ℕ} {x : Element} {shaped marked critical twice unsure : Boo
     Next twice unsure slots marks = Far s x (shaped && not (eqb slot 24)) (marked || mark) (critical || told) twice unsure slots marks next
 
     far-next :
-        {after : List Held} {noted : List Bool} {doubled doubt : Bool} → Open s (x .contents) (x .end) after (e .end) → Apart s (x .contents) (x .end) after doubled doubt noted (e .end)
-        → Next doubled doubt after noted
+        {after : List Held} {noted : List Bool} {doubled doubt : Bool} → Open s (x .contents) (x .end) after (e .end)
+        → Apart s (x .contents) (x .end) after doubled doubt noted (e .end) → Next doubled doubt after noted
     far-next o a =
         record {
           shape = shape-on f ends (p .shape) (sym (h .there));
@@ -81,7 +85,9 @@ module _ {s : List ℕ} {x : Element} {shaped marked critical twice unsure : Boo
           apart = rw ends a;
         }
 
-    pub far-new : {held : Held} → held ≡ heldOf (extensionOf paper s e) → slot < 23 → getD slots slot (heldOf Absent) .there ≡ false → Next twice unsure (set slots slot held) marks
+    pub far-new :
+        {held : Held} → held ≡ heldOf (extensionOf paper s e) → slot < 23 → getD slots slot (heldOf Absent) .there ≡ false
+        → Next twice unsure (set slots slot held) marks
     far-new {held} new l g = far-next (open-set (p .table) f h new l g) (apart-new (p .apart) f h l held there (p .table .long) g)
       where
         there : held .there ≡ true

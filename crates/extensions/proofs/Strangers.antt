@@ -174,7 +174,9 @@ module _ {s : List ℕ} {from end at : ℕ} {slots : List Held} {twice unsure : 
       skip : strangeFrom paper s at end ≡ strangeFrom paper s (e .end) end
       skip = strange-skip s at end f refl h l
 
-      pub apart-new : (held : Held) → held .there ≡ true → length slots ≡ 23 → getD slots slot (heldOf Absent) .there ≡ false → Apart s from end (set slots slot held) twice unsure marks (e .end)
+      pub apart-new :
+          (held : Held) → held .there ≡ true → length slots ≡ 23 → getD slots slot (heldOf Absent) .there ≡ false
+          → Apart s from end (set slots slot held) twice unsure marks (e .end)
       apart-new held new long g =
           record {
             seen = also s (a .seen) (extensionOf paper s e);
@@ -232,9 +234,13 @@ module _ {s : List ℕ} {from end at : ℕ} {slots : List Held} {twice unsure : 
           ∙ left-stranger s (a .seen) e (membersOf paper s (e .end) end) (stranger-and h far)
           (known-stranger s (a .seen) (extensionOf paper s e) (λ k l. sym (h .each k l) ∙ ne-eqb slot k λ q. omega arith) (a .others))
 
+      -- what is left, with a test for those without a slot that were met
+      abbrev rest : (List ℕ → Bool) → Bool
+      rest strange = someIn strange (strangeFrom paper s (e .end) end) || twiceIn (strangeFrom paper s (e .end) end)
+
       passed :
-          (unsure' : Bool) (marks' : List Bool) (strange : List ℕ → Bool) → length marks' ≡ 64 → ((o : List ℕ) → strange o ≡ true → getD marks' (markOf o) false ≡ true)
-          → (unsure' ≡ false → twiceIn (strangeFrom paper s from end) ≡ (someIn strange (strangeFrom paper s (e .end) end) || twiceIn (strangeFrom paper s (e .end) end)))
+          (unsure' : Bool) (marks' : List Bool) (strange : List ℕ → Bool) → length marks' ≡ 64
+          → ((o : List ℕ) → strange o ≡ true → getD marks' (markOf o) false ≡ true) → (unsure' ≡ false → twiceIn (strangeFrom paper s from end) ≡ rest strange)
           → Apart s from end slots twice unsure' marks' (e .end)
       passed unsure' marks' strange wide noted few =
           record {
@@ -263,7 +269,9 @@ module _ {s : List ℕ} {from end at : ℕ} {slots : List Held} {twice unsure : 
           after : List ℕ → Bool
           after x = cond (alike x o) true (a .strange x)
 
-          on : (x : List ℕ) (t : Bool) → eqb (markOf x) mark ≡ t → (t ≡ false → getD marks (markOf x) false ≡ true) → getD (set marks mark true) (markOf x) false ≡ true
+          on :
+              (x : List ℕ) (t : Bool) → eqb (markOf x) mark ≡ t → (t ≡ false → getD marks (markOf x) false ≡ true)
+              → getD (set marks mark true) (markOf x) false ≡ true
           on x true q h = rw (eqb-true (markOf x) mark q) (getD-set-same marks mark true false (omega (arith, low, a .wide)))
           on x false q h = getD-set-other marks mark (markOf x) true false (eqb-false (markOf x) mark q) ∙ h refl
 
@@ -291,13 +299,14 @@ module _ {s : List ℕ} {from end at : ℕ} {slots : List Held} {twice unsure : 
           turn false true r = refl
           turn false false r = refl
 
-          few : (unsure || getD marks mark false) ≡ false → twiceIn (strangeFrom paper s from end) ≡ (someIn after (strangeFrom paper s (e .end) end) || twiceIn (strangeFrom paper s (e .end) end))
+          few : (unsure || getD marks mark false) ≡ false → twiceIn (strangeFrom paper s from end) ≡ rest after
           few u =
               let both = neither unsure (getD marks mark false) u in
-              let left : strangeFrom paper s at end ≡ o ∷ strangeFrom paper s (e .end) end = first (extensionOf paper s e) refl (h .there ∙ rw (ne-eqb slot 24 other)) in
+              let more = strangeFrom paper s (e .end) end in
+              let left : strangeFrom paper s at end ≡ o ∷ more = first (extensionOf paper s e) refl (h .there ∙ rw (ne-eqb slot 24 other)) in
               a .few (both .0)
-              ∙ rw (left, new (a .strange o) refl (both .1), some-more (a .strange) after o (λ x. refl) (strangeFrom paper s (e .end) end))
-              (turn (someIn (a .strange) (strangeFrom paper s (e .end) end)) (isIn o (strangeFrom paper s (e .end) end)) (twiceIn (strangeFrom paper s (e .end) end)))
+              ∙ rw (left, new (a .strange o) refl (both .1), some-more (a .strange) after o (λ x. refl) more)
+              (turn (someIn (a .strange) more) (isIn o more) (twiceIn more))
 
       pub apart-absent : extensionOf paper s e ≡ Absent → Apart s from end slots twice unsure marks (e .end)
       apart-absent n = passed unsure marks (a .strange) (a .wide) (a .noted) (λ t. a .few t ∙ rw skip)

@@ -24,6 +24,7 @@ pub(crate) const VACANT: Row = Row {
     end: 0,
 };
 
+// An OID of at most eight octets has one number: it is worked out once.
 pub(crate) fn row_of(item: &[u8], oid: Element) -> Row
     ensures is { λ r. ⌜ rowOid (now (item .entry)) r ≡ contentsOf (now (item .entry)) oid ⌝ }
     ensures numbers { λ r. ⌜ Numbered (now (item .entry)) r ⌝ }

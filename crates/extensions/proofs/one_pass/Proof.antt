@@ -82,7 +82,9 @@ loop-again-3 c =
     let back8 = back4 .before .before .before .before in
     let met = back8 .met-at .ensures .some (not-false _ (back4 .before .before .if1 .left)) in
     let slotted = back4 .before .slot-of .ensures in
-    far-stranger (back8 .before .loop .inv) (met .found) (met .ends) (rw (met .is) at slotted) (rw (← met .is) (back4 .is-critical .ensures _)) (rw (← met .is) (c .before .before .before .unusual .ensures _ slotted)) (c .before .before .if2 .left) (c .before .if4 .taken) (rw (← met .is) (c .mark-of .ensures .0)) (c .mark-of .ensures .1)
+    far-stranger (back8 .before .loop .inv) (met .found) (met .ends) (rw (met .is) at slotted) (rw (← met .is) (back4 .is-critical .ensures _))
+    (rw (← met .is) (c .before .before .before .unusual .ensures _ slotted)) (c .before .before .if2 .left) (c .before .if4 .taken)
+    (rw (← met .is) (c .mark-of .ensures .0)) (c .mark-of .ensures .1)
 
 loop-less-4 : tie.Need-loop-less-4 Inv-loop μ-loop
 loop-less-4 c =
