@@ -1,6 +1,7 @@
 pub mod Chains
 pub mod Surveys
 pub mod OwnExtensions
+pub mod Pairs
 pub mod Firsts
 pub mod Serials
 pub mod FastEntries

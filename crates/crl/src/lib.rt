@@ -4,6 +4,7 @@ mod entries;
 mod fast;
 mod listing;
 mod own;
+mod pair;
 mod reasons;
 mod rules;
 mod shapes;

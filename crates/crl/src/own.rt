@@ -1,4 +1,5 @@
-// What the rules ask of the CRL's own extensions, found in one pass.
+// What the rules ask of the CRL's own extensions, found in one pass where they are not the usual two.
+use crate::pair::usual_pair;
 use elements::Element;
 use extensions::one_pass;
 ghost use mathlib.Core.Path.{_≡_};
@@ -18,6 +19,15 @@ pub struct Own {
 pub(crate) fn own_of(item: &[u8], extensions: Element) -> Own
     ensures { λ r. ⌜ r ≡ ownOf paper (now (item .entry)) extensions ⌝ }
 {
+    if usual_pair(item, extensions) {
+        return Own {
+            shaped: true,
+            marked: false,
+            doubled: false,
+            keyed: true,
+            numbered: true,
+        };
+    }
     let seen = one_pass(item, extensions);
     let slots = seen.slots;
     let authority = slots[21];

@@ -75,9 +75,9 @@ module _ (s : List ℕ) (from stop : ℕ) {end next : ℕ} (whole : 0 < end) (he
       let m = member-uncritical last in
       record { e = m .e; found = m .found; ends = m .ends; there = rw (← m .is); mild = rw (← m .is) }
 
-  -- an OID of three octets that has a slot
-  module _ (size : next ≡ from + 7) {k : ℕ} (l : k < 23) (slot : alike (getD s (from + 4) 0 ∷ getD s (from + 5) 0 ∷ getD s (from + 6) 0 ∷ []) (oidOf k) ≡ true) where
-    three-octets : contentsOf s (brief 0x06 (from + 2) next) ≡ getD s (from + 4) 0 ∷ getD s (from + 5) 0 ∷ getD s (from + 6) 0 ∷ []
+  -- an OID of three octets
+  module _ (size : next ≡ from + 7) where
+    pub three-octets : contentsOf s (brief 0x06 (from + 2) next) ≡ getD s (from + 4) 0 ∷ getD s (from + 5) 0 ∷ getD s (from + 6) 0 ∷ []
     unfolding contentsOf
     three-octets =
         let count : next - (from + 2 + 2) ≡ 3 = omega (arith, size) in
@@ -89,18 +89,21 @@ module _ (s : List ℕ) (from stop : ℕ) {end next : ℕ} (whole : 0 < end) (he
         nth : (i : ℕ) {j : ℕ} → i < 3 → from + 4 + i ≡ j → getD (take 3 (drop (from + 4) s)) i 0 ≡ getD s j 0
         nth i h q = getD-take 3 (drop (from + 4) s) i 0 h ∙ getD-drop (from + 4) s i 0 ∙ ap (λ (n : ℕ). getD s n 0) q
 
-    pub passed-slot : Passed paper s from stop end
-    unfolding strangeOid foundTagged withTag identifierGood
-    passed-slot =
-        record {
-          e = brief 0x30 from end;
-          found = there;
-          ends = refl;
-          familiar = λ more.
-              by-oid s (brief 0x30 from end) (brief 0x06 (from + 2) next) (λ x. strangeOid s x more ≡ more) refl
-              (λ critical value. rw (with-slot (contentsOf s (brief 0x06 (from + 2) next)) 23 k l (ap (λ (o : List ℕ). alike o (oidOf k)) three-octets ∙ slot)))
-              (rw (short-found s (from + 2) end 0x06 refl some oid));
-        }
+    -- one that has a slot
+    module _ {k : ℕ} (l : k < 23) (slot : alike (getD s (from + 4) 0 ∷ getD s (from + 5) 0 ∷ getD s (from + 6) 0 ∷ []) (oidOf k) ≡ true) where
+      pub passed-slot : Passed paper s from stop end
+      unfolding strangeOid foundTagged withTag identifierGood
+      passed-slot =
+          record {
+            e = brief 0x30 from end;
+            found = there;
+            ends = refl;
+            familiar = λ more.
+                by-oid s (brief 0x30 from end) (brief 0x06 (from + 2) next) (λ x. strangeOid s x more ≡ more) refl
+                (λ critical value. rw (with-slot (contentsOf s (brief 0x06 (from + 2) next)) 23 k l
+                (ap (λ (o : List ℕ). alike o (oidOf k)) three-octets ∙ slot)))
+                (rw (short-found s (from + 2) end 0x06 refl some oid));
+          }
 
 -- an element with a short header, by its octets
 short-at :

@@ -6,7 +6,7 @@ use Prim.Native.Nat.{ℕ, _<_, _≤_}
 use native.Mathlib.Omega.{arith}
 use borrow.Author.Tests.{eq-eqb, ne-eqb, eqb-true, eqb-false}
 use lib.Dec.{eqb}
-use lib.ListN.{length, getD, set, replicate, getD-replicate}
+use lib.ListN.{length, getD, set, replicate, getD-replicate, length-set}
 use lib.Seq.{getD-set-same, getD-set-other}
 use Rattle.der.specs.Forms.{paper}
 use Rattle.elements.specs.declared.elements.Element.{Element}
@@ -19,8 +19,9 @@ use Rattle.elements.specs.Elements.{foundAt, membersOf, contentsOf}
 use Rattle.octets.proofs.Likeness.{alike-is, is-alike, unequal-unlike}
 use Rattle.elements.proofs.Members.{members-none, members-more}
 use Rattle.extensions.specs.Extensions.{extensionOf, present, hasOid, sameOids, standsIn, doubledIn, oidOf, heldOf, Slotted}
-use Rattle.extensions.specs.Strange.{strangeFrom, isIn, twiceIn}
+use Rattle.extensions.specs.Strange.{strangeFrom, ownOid, markOf, isIn, twiceIn}
 use Rattle.extensions.proofs.Slotless.{strange-none, strange-absent, strange-skip, strange-met}
+use Rattle.extensions.proofs.Tables.{someIn, some-more, none-in}
 use Rattle.extensions.proofs.Halves.{slotAnd, slotTwice, slot-and, stranger-and, split}
 
 -- the OIDs that were met, as a test; whether an extension has one of them, and those with its own
@@ -116,25 +117,22 @@ module _ (s : List ℕ) (seen : List ℕ → Bool) where
   known-stranger (Is oid critical value) h n =
       n (contentsOf s oid) λ k l q. let z : true ≡ false = sym (is-alike _ _ q) ∙ h k l in let y : _≡_ {A = ℕ} 0 1 = cc in omega arith
 
--- the OID of an extension
-unfoldable ownOid : List ℕ → Extension → List ℕ
-ownOid s Absent = []
-ownOid s (Is oid critical value) = contentsOf s oid
-
 -- The OIDs with a slot that were met before `at`: the slots tell which. While none was met twice, what is left decides, and the
--- OIDs without a slot: of those none was met, or one alone, or it is to be asked.
-pub record Apart (s : List ℕ) (from end : ℕ) (slots : List Held) (twice strange unsure : Bool) (at : ℕ) : Type 0 where
+-- OIDs without a slot: while no two of those met have one mark, none of them is another, and what is left decides; else it is to be
+-- asked.
+pub record Apart (s : List ℕ) (from end : ℕ) (slots : List Held) (twice unsure : Bool) (marks : List Bool) (at : ℕ) : Type 0 where
   pub seen : List ℕ → Bool
   pub filled : (k : ℕ) → k < 23 → seen (oidOf k) ≡ getD slots k (heldOf Absent) .there
   pub others : (o : List ℕ) → ((k : ℕ) → k < 23 → o ≡ oidOf k → ⊥) → seen o ≡ false
   pub sound : left s seen (membersOf paper s at end) ≡ true → doubledIn paper s (membersOf paper s from end) ≡ true
   pub told : twice ≡ true → doubledIn paper s (membersOf paper s from end) ≡ true
   pub whole : twice ≡ false → doubledIn paper s (membersOf paper s from end) ≡ (left s seen (membersOf paper s at end) || twiceIn (strangeFrom paper s from end))
-  pub alone : List ℕ
-  pub none : strange ≡ false → strangeFrom paper s from end ≡ strangeFrom paper s at end
-  pub one : strange ≡ true → unsure ≡ false → strangeFrom paper s from end ≡ alone ∷ strangeFrom paper s at end
+  pub wide : length marks ≡ 64
+  pub strange : List ℕ → Bool
+  pub noted : (o : List ℕ) → strange o ≡ true → getD marks (markOf o) false ≡ true
+  pub few : unsure ≡ false → twiceIn (strangeFrom paper s from end) ≡ (someIn strange (strangeFrom paper s at end) || twiceIn (strangeFrom paper s at end))
 
-pub apart-start : (s : List ℕ) (from end : ℕ) → Apart s from end (replicate 23 (heldOf Absent)) false false false from
+pub apart-start : (s : List ℕ) (from end : ℕ) → Apart s from end (replicate 23 (heldOf Absent)) false false (replicate 64 false) from
 unfolding left heldOf strangeFrom
 apart-start s from end =
     record {
@@ -144,24 +142,21 @@ apart-start s from end =
       sound = λ t. let slot : slotTwice s (membersOf paper s from end) ≡ true = rw (none-known s (membersOf paper s from end)) at t in split s (membersOf paper s from end) ∙ rw slot;
       told = λ t. let y : _≡_ {A = ℕ} 0 1 = cc in absurd (omega arith);
       whole = λ t. rw (none-known s (membersOf paper s from end)) (split s (membersOf paper s from end));
-      alone = [];
-      none = λ t. refl;
-      one = λ t. let y : _≡_ {A = ℕ} 0 1 = cc in absurd (omega arith);
+      wide = refl;
+      strange = λ o. false;
+      noted = λ o t. let y : _≡_ {A = ℕ} 0 1 = cc in absurd (omega arith);
+      few = λ t. rw (none-in (λ o. false) (λ o. refl) (strangeFrom paper s from end));
     }
 
-module _ {s : List ℕ} {from end at : ℕ} {slots : List Held} {twice strange unsure : Bool} (a : Apart s from end slots twice strange unsure at) where
+module _ {s : List ℕ} {from end at : ℕ} {slots : List Held} {twice unsure : Bool} {marks : List Bool} (a : Apart s from end slots twice unsure marks at) where
   module _ (h : foundAt paper s at end ≡ Missing) where
     pub apart-none : twice ≡ false → doubledIn paper s (membersOf paper s from end) ≡ twiceIn (strangeFrom paper s from end)
     unfolding left someKnown slotTwice
     apart-none t = a .whole t ∙ rw (members-none s at end h)
 
     pub apart-few : unsure ≡ false → twiceIn (strangeFrom paper s from end) ≡ false
-    unfolding twiceIn isIn
-    apart-few u = go strange refl
-      where
-        go : (t : Bool) → strange ≡ t → twiceIn (strangeFrom paper s from end) ≡ false
-        go true q = rw (a .one q u, strange-none s at end h)
-        go false q = rw (a .none q, strange-none s at end h)
+    unfolding twiceIn someIn
+    apart-few u = a .few u ∙ rw (strange-none s at end h)
 
   module _ {e : Element} {slot : ℕ} (f : foundAt paper s at end ≡ One e) (h : Slotted s (extensionOf paper s e) slot) where
     -- an OID that has a slot
@@ -179,7 +174,9 @@ module _ {s : List ℕ} {from end at : ℕ} {slots : List Held} {twice strange u
       skip : strangeFrom paper s at end ≡ strangeFrom paper s (e .end) end
       skip = strange-skip s at end f refl h l
 
-      pub apart-new : (held : Held) → held .there ≡ true → length slots ≡ 23 → getD slots slot (heldOf Absent) .there ≡ false → Apart s from end (set slots slot held) twice strange unsure (e .end)
+      pub apart-new :
+          (held : Held) → held .there ≡ true → length slots ≡ 23 → getD slots slot (heldOf Absent) .there ≡ false
+          → Apart s from end (set slots slot held) twice unsure marks (e .end)
       apart-new held new long g =
           record {
             seen = also s (a .seen) (extensionOf paper s e);
@@ -189,9 +186,10 @@ module _ {s : List ℕ} {from end at : ℕ} {slots : List Held} {twice strange u
             sound = λ t. a .sound (step ∙ rw t (or (known s (a .seen) (extensionOf paper s e))));
             told = a .told;
             whole = λ t. a .whole t ∙ rw (step, known-slot, g);
-            alone = a .alone;
-            none = λ t. a .none t ∙ skip;
-            one = λ t u. a .one t u ∙ ap (_∷_ (a .alone)) skip;
+            wide = a .wide;
+            strange = a .strange;
+            noted = a .noted;
+            few = λ t. a .few t ∙ rw skip;
           }
         where
           or : (k : Bool) → (k || true) ≡ true
@@ -210,7 +208,7 @@ module _ {s : List ℕ} {from end at : ℕ} {slots : List Held} {twice strange u
           go k room true q = rw (sym (eqb-true slot k q)) here
           go k room false q = rw (getD-set-other slots slot k held (heldOf Absent) (λ w. eqb-false slot k q (sym w))) (kept k room (eqb-false slot k q))
 
-      pub apart-again : getD slots slot (heldOf Absent) .there ≡ true → Apart s from end slots true strange unsure (e .end)
+      pub apart-again : getD slots slot (heldOf Absent) .there ≡ true → Apart s from end slots true unsure marks (e .end)
       apart-again n =
           record {
             seen = a .seen;
@@ -219,9 +217,10 @@ module _ {s : List ℕ} {from end at : ℕ} {slots : List Held} {twice strange u
             sound = λ t. doubles;
             told = λ t. doubles;
             whole = λ t. let y : _≡_ {A = ℕ} 0 1 = cc in absurd (omega arith);
-            alone = a .alone;
-            none = λ t. a .none t ∙ skip;
-            one = λ t u. a .one t u ∙ ap (_∷_ (a .alone)) skip;
+            wide = a .wide;
+            strange = a .strange;
+            noted = a .noted;
+            few = λ t. a .few t ∙ rw skip;
           }
         where
           doubles : doubledIn paper s (membersOf paper s from end) ≡ true
@@ -235,10 +234,15 @@ module _ {s : List ℕ} {from end at : ℕ} {slots : List Held} {twice strange u
           ∙ left-stranger s (a .seen) e (membersOf paper s (e .end) end) (stranger-and h far)
           (known-stranger s (a .seen) (extensionOf paper s e) (λ k l. sym (h .each k l) ∙ ne-eqb slot k λ q. omega arith) (a .others))
 
-      passed : (strange' unsure' : Bool) (alone : List ℕ) → (strange' ≡ false → strangeFrom paper s from end ≡ strangeFrom paper s (e .end) end)
-          → (strange' ≡ true → unsure' ≡ false → strangeFrom paper s from end ≡ alone ∷ strangeFrom paper s (e .end) end)
-          → Apart s from end slots twice strange' unsure' (e .end)
-      passed strange' unsure' alone none one =
+      -- what is left, with a test for those without a slot that were met
+      abbrev rest : (List ℕ → Bool) → Bool
+      rest strange = someIn strange (strangeFrom paper s (e .end) end) || twiceIn (strangeFrom paper s (e .end) end)
+
+      passed :
+          (unsure' : Bool) (marks' : List Bool) (strange : List ℕ → Bool) → length marks' ≡ 64
+          → ((o : List ℕ) → strange o ≡ true → getD marks' (markOf o) false ≡ true) → (unsure' ≡ false → twiceIn (strangeFrom paper s from end) ≡ rest strange)
+          → Apart s from end slots twice unsure' marks' (e .end)
+      passed unsure' marks' strange wide noted few =
           record {
             seen = a .seen;
             filled = a .filled;
@@ -246,28 +250,66 @@ module _ {s : List ℕ} {from end at : ℕ} {slots : List Held} {twice strange u
             sound = λ t. a .sound (pass ∙ t);
             told = a .told;
             whole = λ t. a .whole t ∙ rw pass;
-            alone = alone;
-            none = none;
-            one = one;
+            wide = wide;
+            strange = strange;
+            noted = noted;
+            few = few;
           }
 
-      pub apart-stranger : (slot ≡ 24 → ⊥) → Apart s from end slots twice true (unsure || strange) (e .end)
-      unfolding ownOid present
-      apart-stranger other =
-          passed true (unsure || strange) (ownOid s (extensionOf paper s e)) (λ t. let y : _≡_ {A = ℕ} 0 1 = cc in absurd (omega arith))
-          (λ t u. a .none (neither unsure strange u .1) ∙ first (extensionOf paper s e) refl (h .there ∙ rw (ne-eqb slot 24 other)))
+      pub apart-stranger :
+          {mark : ℕ} → (slot ≡ 24 → ⊥) → mark ≡ markOf (ownOid s (extensionOf paper s e)) → mark < 64
+          → Apart s from end slots twice (unsure || getD marks mark false) (set marks mark true) (e .end)
+      unfolding ownOid present someIn twiceIn
+      apart-stranger {mark} other is low =
+          passed (unsure || getD marks mark false) (set marks mark true) after (length-set marks mark true ∙ a .wide) noted few
         where
+          o : List ℕ
+          o = ownOid s (extensionOf paper s e)
+
+          after : List ℕ → Bool
+          after x = cond (alike x o) true (a .strange x)
+
+          on :
+              (x : List ℕ) (t : Bool) → eqb (markOf x) mark ≡ t → (t ≡ false → getD marks (markOf x) false ≡ true)
+              → getD (set marks mark true) (markOf x) false ≡ true
+          on x true q h = rw (eqb-true (markOf x) mark q) (getD-set-same marks mark true false (omega (arith, low, a .wide)))
+          on x false q h = getD-set-other marks mark (markOf x) true false (eqb-false (markOf x) mark q) ∙ h refl
+
+          noted : (x : List ℕ) → after x ≡ true → getD (set marks mark true) (markOf x) false ≡ true
+          noted x = go (alike x o) refl
+            where
+              go : (t : Bool) → alike x o ≡ t → cond t true (a .strange x) ≡ true → getD (set marks mark true) (markOf x) false ≡ true
+              go true q h = on x true (eq-eqb (markOf x) mark (ap markOf (alike-is x o q) ∙ sym is)) (λ w. let y : _≡_ {A = ℕ} 0 1 = cc in absurd (omega arith))
+              go false q h = on x (eqb (markOf x) mark) refl (λ w. a .noted x h)
+
           neither : (p q : Bool) → (p || q) ≡ false → (p ≡ false) × (q ≡ false)
           neither true q w = (w, cc)
           neither false q w = (refl, w)
+
+          new : (t : Bool) → a .strange o ≡ t → getD marks mark false ≡ false → t ≡ false
+          new false q h = refl
+          new true q h = let z : true ≡ false = sym (a .noted o q) ∙ rw (sym is) h in let y : _≡_ {A = ℕ} 0 1 = cc in absurd (omega arith)
 
           first : (y : Extension) → extensionOf paper s e ≡ y → present y ≡ true → strangeFrom paper s at end ≡ ownOid s y ∷ strangeFrom paper s (e .end) end
           first Absent q w = let z : _≡_ {A = ℕ} 0 1 = cc in absurd (omega arith)
           first (Is oid critical value) q w = strange-met s at end f refl q h far
 
-      pub apart-absent : extensionOf paper s e ≡ Absent → Apart s from end slots twice strange unsure (e .end)
-      apart-absent n =
-          passed strange unsure (a .alone) (λ t. a .none t ∙ skip) (λ t u. a .one t u ∙ ap (_∷_ (a .alone)) skip)
+          turn : (p q r : Bool) → (p || cond q true r) ≡ ((p || q) || r)
+          turn true q r = refl
+          turn false true r = refl
+          turn false false r = refl
+
+          few : (unsure || getD marks mark false) ≡ false → twiceIn (strangeFrom paper s from end) ≡ rest after
+          few u =
+              let both = neither unsure (getD marks mark false) u in
+              let more = strangeFrom paper s (e .end) end in
+              let left : strangeFrom paper s at end ≡ o ∷ more = first (extensionOf paper s e) refl (h .there ∙ rw (ne-eqb slot 24 other)) in
+              a .few (both .0)
+              ∙ rw (left, new (a .strange o) refl (both .1), some-more (a .strange) after o (λ x. refl) more)
+              (turn (someIn (a .strange) more) (isIn o more) (twiceIn more))
+
+      pub apart-absent : extensionOf paper s e ≡ Absent → Apart s from end slots twice unsure marks (e .end)
+      apart-absent n = passed unsure marks (a .strange) (a .wide) (a .noted) (λ t. a .few t ∙ rw skip)
         where
           skip : strangeFrom paper s at end ≡ strangeFrom paper s (e .end) end
           skip = strange-absent s at end f refl n

@@ -27,7 +27,7 @@ someIn seen [] = false
 someIn seen (x ∷ rest) = cond (seen x) true (someIn seen rest)
 
 -- a test that lets one OID more pass
-some-more :
+pub some-more :
     (seen after : List ℕ → Bool) (o : List ℕ) → ((x : List ℕ) → after x ≡ cond (alike x o) true (seen x)) → (xs : List (List ℕ))
     → someIn after xs ≡ (someIn seen xs || isIn o xs)
 unfolding someIn isIn
@@ -82,7 +82,7 @@ module _ (s : List ℕ) (table : List Row) (x : List ℕ) where
   unfolding seenIn
   seen-set row count l = rw (getD-set-same table count row vacant l, seen-kept row count count (omega arith))
 
-none-in : (seen : List ℕ → Bool) → ((x : List ℕ) → seen x ≡ false) → (xs : List (List ℕ)) → someIn seen xs ≡ false
+pub none-in : (seen : List ℕ → Bool) → ((x : List ℕ) → seen x ≡ false) → (xs : List (List ℕ)) → someIn seen xs ≡ false
 unfolding someIn
 none-in seen h [] = refl
 none-in seen h (x ∷ rest) = rw (h x, none-in seen h rest)

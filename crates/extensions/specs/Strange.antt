@@ -3,7 +3,7 @@ use Prim.Native.Nat.{ℕ, zero, suc, _+_, _-_, _*_, _%_, _<_, _≤_}
 use mathlib.Core.Path.{_≡_}
 use mathlib.Core.Bool.{Bool, true, false, cond, _||_}
 use mathlib.Core.List.{List, [], _∷_}
-use lib.ListN.{take, drop}
+use lib.ListN.{length, getD, take, drop}
 use Rattle.der.specs.Forms.{Forms}
 use Rattle.octets.specs.Alike.{alike}
 use Rattle.elements.specs.declared.elements.Element.{Element}
@@ -33,6 +33,15 @@ strangeOids forms s (e ∷ rest) = strangeOid s (extensionOf forms s e) (strange
 
 unfoldable pub strangeFrom : Forms → List ℕ → ℕ → ℕ → List (List ℕ)
 strangeFrom forms s from end = strangeOids forms s (membersOf forms s from end)
+
+-- the OID of an extension
+unfoldable pub ownOid : List ℕ → Extension → List ℕ
+ownOid s Absent = []
+ownOid s (Is oid critical value) = contentsOf s oid
+
+-- the mark of an OID, a number below 64: OIDs with other marks are not equal
+unfoldable pub markOf : List ℕ → ℕ
+markOf o = (getD o (length o - 1) 0 + length o % 8 * 8) % 64
 
 -- whether one of them is this one
 unfoldable pub isIn : List ℕ → List (List ℕ) → Bool

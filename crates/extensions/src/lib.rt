@@ -1,6 +1,7 @@
 // Extensions: what one pass tells of all of them, and the look-up by OID.
 mod fast;
 mod finding;
+mod marks;
 mod members;
 mod outline;
 mod rows;
@@ -11,6 +12,7 @@ mod told;
 mod twice;
 
 use elements::Element;
+use marks::mark_of;
 use members::met_at;
 use slot::slot_of;
 use told::held_of;
@@ -43,17 +45,18 @@ pub struct Held {
 
 // What one pass over the extensions tells: whether each member is one; whether one is critical, and whether one beside
 // keyUsage and basicConstraints is; whether an OID stands twice; and what the first extension with each slot's OID holds:
-// 2.5.29.14 to 2.5.29.35 in slots 0 to 21, the document type list in slot 22.
+// 2.5.29.14 to 2.5.29.35 in slots 0 to 21, the document type list in slot 22. The slots come first: behind the flags they
+// would be copied twice.
 pub struct Overview {
+    pub slots: [Held; 23],
     pub shaped: bool,
     pub marked: bool,
     pub critical: bool,
     pub doubled: bool,
-    pub slots: [Held; 23],
 }
 
-// An OID with a slot stands twice where its slot is taken when it is met. Those without a slot are compared only where there
-// are two or more.
+// An OID with a slot stands twice where its slot is taken when it is met. Those without a slot are compared only where two of
+// them have one mark.
 pub fn one_pass(item: &[u8], extensions: Element) -> Overview
     ensures { λ r. ⌜ Viewed paper (now (item .entry)) extensions r ⌝ }
 {
@@ -61,8 +64,8 @@ pub fn one_pass(item: &[u8], extensions: Element) -> Overview
     let mut marked = false;
     let mut critical = false;
     let mut repeated = false;
-    let mut strange = false;
     let mut unsure = false;
+    let mut marks = [false; 64];
     let none = held_of(Extension::Absent);
     let mut slots = [none; 23];
     let mut at = extensions.contents;
@@ -84,8 +87,9 @@ pub fn one_pass(item: &[u8], extensions: Element) -> Overview
                 slots[slot] = held_of(own);
             }
         } else if slot != 24 {
-            unsure = unsure | strange;
-            strange = true;
+            let mark = mark_of(item, own);
+            unsure = unsure | marks[mark];
+            marks[mark] = true;
         }
         at = met.next;
     }
@@ -95,11 +99,11 @@ pub fn one_pass(item: &[u8], extensions: Element) -> Overview
         }
     }
     Overview {
+        slots,
         shaped,
         marked,
         critical,
         doubled: repeated,
-        slots,
     }
 }
 

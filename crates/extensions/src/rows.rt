@@ -24,13 +24,23 @@ pub(crate) const VACANT: Row = Row {
     end: 0,
 };
 
+// An OID of at most eight octets has one number: it is worked out once.
 pub(crate) fn row_of(item: &[u8], oid: Element) -> Row
     ensures is { λ r. ⌜ rowOid (now (item .entry)) r ≡ contentsOf (now (item .entry)) oid ⌝ }
     ensures numbers { λ r. ⌜ Numbered (now (item .entry)) r ⌝ }
 {
     let own = contents(item, oid);
+    let last = key_of(own);
+    if own.len() <= 8 {
+        return Row {
+            last,
+            first: last,
+            start: oid.contents,
+            end: oid.end,
+        };
+    }
     Row {
-        last: key_of(own),
+        last,
         first: key_of(part(own, 0, 8)),
         start: oid.contents,
         end: oid.end,

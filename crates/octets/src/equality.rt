@@ -4,7 +4,8 @@ ghost use Prim.Native.Nat.{_+_, _≤_};
 ghost use lib.ListN.{length, take, drop};
 ghost use Rattle.octets.specs.Alike.{alike};
 
-// Whether two strings of octets are equal. They are compared in blocks of 16, of which the last two may overlap.
+// Whether two strings of octets are equal. They are compared in blocks of 16, fewer than 16 in blocks of 8; the last two blocks
+// may overlap.
 pub fn same(a: &[u8], b: &[u8]) -> bool
     ensures { λ r. ⌜ r ≡ alike (now (a .entry)) (now (b .entry)) ⌝ }
 {
@@ -13,7 +14,13 @@ pub fn same(a: &[u8], b: &[u8]) -> bool
         return false;
     }
     if n < 16 {
-        return same_part(a, b, 0, n);
+        if n < 8 {
+            return same_part(a, b, 0, n);
+        }
+        if !same_part(a, b, 0, 8) {
+            return false;
+        }
+        return same_part(a, b, n - 8, 8);
     }
     let mut i = 0;
     while i < n - 16 {

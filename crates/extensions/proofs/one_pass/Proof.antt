@@ -11,11 +11,11 @@ use Rattle.extensions.proofs.one_pass.Statement.{statement}
 use Rattle.extensions.proofs.one_pass.Tie as tie
 
 abbrev Inv-loop : tie.InvT-loop
-Inv-loop item extensions shaped₀ marked₀ critical₀ repeated₀ strange₀ unsure₀ slots₀ at₀ shaped marked critical repeated strange unsure slots at =
-    Far item extensions shaped marked critical repeated strange unsure slots at
+Inv-loop item extensions shaped₀ marked₀ critical₀ repeated₀ unsure₀ marks₀ slots₀ at₀ shaped marked critical repeated unsure marks slots at =
+    Far item extensions shaped marked critical repeated unsure slots marks at
 
 abbrev μ-loop : tie.MeasureT-loop
-μ-loop item extensions shaped₀ marked₀ critical₀ repeated₀ strange₀ unsure₀ slots₀ at₀ shaped marked critical repeated strange unsure slots at =
+μ-loop item extensions shaped₀ marked₀ critical₀ repeated₀ unsure₀ marks₀ slots₀ at₀ shaped marked critical repeated unsure marks slots at =
     extensions .end - at
 
 loop-holds : tie.Need-loop-holds Inv-loop μ-loop
@@ -31,6 +31,18 @@ array-set-from-slots c =
     let back4 = c .before .before .before .before in
     let back8 = back4 .before .before .before .before in
     omega (arith, back8 .before .before .loop .inv .table .long, c .before .before .before .if2 .taken)
+
+array-read-unsure : tie.Need-array-read-unsure Inv-loop μ-loop
+array-read-unsure c =
+    let back4 = c .before .before .before .before in
+    let back8 = back4 .before .before .before .before in
+    omega (arith, back8 .before .loop .inv .apart .wide, c .mark-of .ensures .1)
+
+array-write-marks : tie.Need-array-write-marks Inv-loop μ-loop
+array-write-marks c =
+    let back4 = c .before .before .before .before in
+    let back8 = back4 .before .before .before .before in
+    omega (arith, back8 .before .loop .inv .apart .wide, c .mark-of .ensures .1)
 
 loop-less : tie.Need-loop-less Inv-loop μ-loop
 loop-less c =
@@ -61,13 +73,18 @@ loop-again-2 c =
 loop-less-3 : tie.Need-loop-less-3 Inv-loop μ-loop
 loop-less-3 c =
     let back4 = c .before .before .before .before in
-    omega (arith, (back4 .before .before .before .met-at .ensures .some (not-false _ (back4 .before .if1 .left))) .ends, found-within _ _ _ ((back4 .before .before .before .met-at .ensures .some (not-false _ (back4 .before .if1 .left))) .found))
+    let met = back4 .before .before .before .before .met-at .ensures .some (not-false _ (back4 .before .before .if1 .left)) in
+    omega (arith, met .ends, found-within _ _ _ (met .found))
 
 loop-again-3 : tie.Need-loop-again-3 Inv-loop μ-loop
 loop-again-3 c =
     let back4 = c .before .before .before .before in
     let back8 = back4 .before .before .before .before in
-    far-stranger (back8 .loop .inv) ((back4 .before .before .before .met-at .ensures .some (not-false _ (back4 .before .if1 .left))) .found) ((back4 .before .before .before .met-at .ensures .some (not-false _ (back4 .before .if1 .left))) .ends) (rw ((back4 .before .before .before .met-at .ensures .some (not-false _ (back4 .before .if1 .left))) .is) at (c .before .before .before .before .slot-of .ensures)) (rw (← (back4 .before .before .before .met-at .ensures .some (not-false _ (back4 .before .if1 .left))) .is) (c .before .before .before .is-critical .ensures _)) (rw (← (back4 .before .before .before .met-at .ensures .some (not-false _ (back4 .before .if1 .left))) .is) (c .before .before .unusual .ensures _ (c .before .before .before .before .slot-of .ensures))) (c .before .if2 .left) (c .if4 .taken)
+    let met = back8 .met-at .ensures .some (not-false _ (back4 .before .before .if1 .left)) in
+    let slotted = back4 .before .slot-of .ensures in
+    far-stranger (back8 .before .loop .inv) (met .found) (met .ends) (rw (met .is) at slotted) (rw (← met .is) (back4 .is-critical .ensures _))
+    (rw (← met .is) (c .before .before .before .unusual .ensures _ slotted)) (c .before .before .if2 .left) (c .before .if4 .taken)
+    (rw (← met .is) (c .mark-of .ensures .0)) (c .mark-of .ensures .1)
 
 loop-less-4 : tie.Need-loop-less-4 Inv-loop μ-loop
 loop-less-4 c =
@@ -128,6 +145,9 @@ one-pass-spec =
     (λ c κs. search needs)
     (λ c. search needs)
     array-set-from-slots
+    (λ c κs. search needs)
+    array-read-unsure
+    array-write-marks
     loop-less
     loop-again
     loop-less-2

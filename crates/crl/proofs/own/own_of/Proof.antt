@@ -1,4 +1,4 @@
--- The pass tells the first three, and its slots the other two.
+-- The usual two are told at once; of others the pass tells the first three, and its slots the other two.
 use native.Mathlib.Omega.{arith}
 use borrow.Author.Needs.{needs}
 use Rattle.der.specs.Forms.{paper}
@@ -10,11 +10,14 @@ use Rattle.crl.proofs.own.own_of.Statement.{statement}
 use Rattle.crl.proofs.own.own_of.Tie as tie
 
 returns : tie.Need-returns
+returns c = c .before .usual-pair .ensures (c .if1 .taken)
+
+returns-2 : tie.Need-returns-2
 unfolding ownOf keyThere numberThere oidOf heldOf
-returns c =
+returns-2 c =
     let seen = c .before .before .before .one-pass .ensures in
-    let s = c .before .before .before .before .before .args .item .now in
-    let e = c .before .before .before .before .before .args .extensions in
+    let s = c .before .before .before .before .before .before .before .args .item .now in
+    let e = c .before .before .before .before .before .before .before .args .extensions in
     rw (
       seen .shaped,
       seen .marked,
@@ -24,4 +27,4 @@ returns c =
     )
 
 pub own-of-spec : {M : Type 1} → statement M
-own-of-spec = tie.close (tie.spec (λ c κs. search needs) (λ c. search needs) (λ c. search needs) returns)
+own-of-spec = tie.close (tie.spec (λ c κs. search needs) returns (λ c κs. search needs) (λ c. search needs) (λ c. search needs) returns-2)

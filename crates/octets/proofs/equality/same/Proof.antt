@@ -22,17 +22,35 @@ same-part-requires c κs = (omega arith, omega arith)
 
 returns-2 : tie.Need-returns-2 Inv-loop μ-loop
 returns-2 c =
-    let back4 = c .before .before .before .before in
-    c .same-part .ensures ∙ alike-last (back4 .before .args .a .now) (back4 .before .args .b .now) 0 0 (length (back4 .before .args .a .now)) (omega arith) (omega arith) (omega arith) refl
-
-loop-holds : tie.Need-loop-holds Inv-loop μ-loop
-loop-holds c = (omega arith, refl)
+    let start = c .before .before .before .before .before .before .args in
+    let a = start .a .now in
+    c .same-part .ensures ∙ alike-last a (start .b .now) 0 0 (length a) (omega arith) (omega arith) (omega arith) refl
 
 same-part-requires-2 : tie.Need-same-part-requires-2 Inv-loop μ-loop
 same-part-requires-2 c κs = (omega arith, omega arith)
 
 returns-3 : tie.Need-returns-3 Inv-loop μ-loop
-returns-3 c = sym (unlike-part _ _ (c .before .before .before .loop .i) 16 (sym (c .before .same-part2 .ensures) ∙ not-true _ (c .if3 .taken)))
+returns-3 c = sym (unlike-part _ _ 0 8 (sym (c .before .same-part2 .ensures) ∙ not-true _ (c .if4 .taken)))
+
+same-part-requires-3 : tie.Need-same-part-requires-3 Inv-loop μ-loop
+same-part-requires-3 c κs = (omega arith, omega arith)
+
+returns-4 : tie.Need-returns-4 Inv-loop μ-loop
+returns-4 c =
+    let start = c .before .before .before .before .before .before .before .before .args in
+    let a = start .a .now in
+    let b = start .b .now in
+    let first : take 8 a ≡ take 8 b = taken-more a b 0 8 refl (sym (c .before .before .same-part2 .ensures) ∙ not-false _ (c .before .if4 .left)) in
+    c .same-part3 .ensures ∙ alike-last a b (length a - 8) 8 8 (omega arith) (omega arith) (omega arith) first
+
+loop-holds : tie.Need-loop-holds Inv-loop μ-loop
+loop-holds c = (omega arith, refl)
+
+same-part-requires-4 : tie.Need-same-part-requires-4 Inv-loop μ-loop
+same-part-requires-4 c κs = (omega arith, omega arith)
+
+returns-5 : tie.Need-returns-5 Inv-loop μ-loop
+returns-5 c = sym (unlike-part _ _ (c .before .before .before .loop .i) 16 (sym (c .before .same-part4 .ensures) ∙ not-true _ (c .if5 .taken)))
 
 add-i : tie.Need-add-i Inv-loop μ-loop
 add-i c = omega arith
@@ -41,15 +59,19 @@ loop-less : tie.Need-loop-less Inv-loop μ-loop
 loop-less c = omega arith
 
 loop-again : tie.Need-loop-again Inv-loop μ-loop
-loop-again c = (omega arith, taken-more _ _ (c .before .before .before .loop .i) 16 (c .before .before .before .loop .inv .1) (sym (c .before .same-part2 .ensures) ∙ not-false _ (c .if3 .left)))
+loop-again c =
+    let at = c .before .before .before .loop in
+    (omega arith, taken-more _ _ (at .i) 16 (at .inv .1) (sym (c .before .same-part4 .ensures) ∙ not-false _ (c .if5 .left)))
 
-same-part-requires-3 : tie.Need-same-part-requires-3 Inv-loop μ-loop
-same-part-requires-3 c κs = (omega arith, omega arith)
+same-part-requires-5 : tie.Need-same-part-requires-5 Inv-loop μ-loop
+same-part-requires-5 c κs = (omega arith, omega arith)
 
-returns-4 : tie.Need-returns-4 Inv-loop μ-loop
-returns-4 c =
-    let back4 = c .before .before .before .before in
-    c .same-part3 .ensures ∙ alike-last (back4 .before .before .before .args .a .now) (back4 .before .before .before .args .b .now) (length (back4 .before .before .before .args .a .now) - 16) (c .before .before .loop .i) 16 (omega arith) (omega arith) (omega arith) (c .before .before .loop .inv .1)
+returns-6 : tie.Need-returns-6 Inv-loop μ-loop
+returns-6 c =
+    let start = c .before .before .before .before .before .before .before .args in
+    let a = start .a .now in
+    let at = c .before .before .loop in
+    c .same-part5 .ensures ∙ alike-last a (start .b .now) (length a - 16) (at .i) 16 (omega arith) (omega arith) (omega arith) (at .inv .1)
 
 pub same-spec : {M : Type 1} → statement M
 same-spec =
@@ -60,11 +82,15 @@ same-spec =
     returns
     same-part-requires
     returns-2
-    loop-holds
     same-part-requires-2
     returns-3
+    same-part-requires-3
+    returns-4
+    loop-holds
+    same-part-requires-4
+    returns-5
     add-i
     loop-less
     loop-again
-    same-part-requires-3
-    returns-4)
+    same-part-requires-5
+    returns-6)
