@@ -1,6 +1,5 @@
-// Extensions: what one pass tells of all of them, and the look-up by OID.
+// Extensions: what one pass tells of all of them.
 mod fast;
-mod finding;
 mod members;
 mod outline;
 mod rows;
@@ -19,7 +18,6 @@ use told::unusual;
 use twice::doubled;
 ghost use Rattle.der.specs.Forms.{paper};
 ghost use Rattle.extensions.specs.Extensions.{Viewed};
-pub use finding::lookup;
 pub use outline::Outline;
 pub use outline::outline_of;
 pub use told::is_there;
