@@ -12,9 +12,10 @@ use Rattle.crl.proofs.own.own_of.Tie as tie
 returns : tie.Need-returns
 unfolding ownOf keyThere numberThere oidOf heldOf
 returns c =
-    let seen = c .before .before .before .one-pass .ensures in
-    let s = c .before .before .before .before .before .args .item .now in
-    let e = c .before .before .before .before .before .args .extensions in
+    let read = c .before .before .before in
+    let seen = read .one-pass .ensures in
+    let s = read .before .before .args .item .now in
+    let e = read .before .before .args .extensions in
     rw (
       seen .shaped,
       seen .marked,
