@@ -41,7 +41,7 @@ some-more seen after o h (x ∷ rest) = rw (h x, some-more seen after o h rest) 
     go false true c d = refl
     go false false c d = refl
 
-abbrev vacant : Row
+abbrev pub vacant : Row
 vacant = record { last = 0; first = 0; start = 0; end = 0 }
 
 -- whether one of the first rows has that OID

@@ -57,11 +57,6 @@ firstWith forms s oid (e ∷ rest) = cond (hasOid s oid (extensionOf forms s e))
 unfoldable pub lookupOf : Forms → List ℕ → Element → List ℕ → Extension
 lookupOf forms s extensions oid = firstWith forms s oid (inside forms s extensions)
 
--- where the first of them with that OID starts, else `none`
-unfoldable pub placeIn : Forms → List ℕ → List ℕ → List Element → ℕ → ℕ
-placeIn forms s oid [] none = none
-placeIn forms s oid (e ∷ rest) none = cond (hasOid s oid (extensionOf forms s e)) (e .at) (placeIn forms s oid rest none)
-
 -- the OIDs that have a slot: 2.5.29.14 to 2.5.29.35 in slots 0 to 21, the document type list in slot 22
 unfoldable pub oidOf : ℕ → List ℕ
 oidOf k =

@@ -1,6 +1,5 @@
-// Extensions: what one pass tells of all of them, and the look-up by OID.
+// Extensions: what one pass tells of all of them.
 mod fast;
-mod finding;
 mod marks;
 mod members;
 mod outline;
@@ -21,7 +20,6 @@ use told::unusual;
 use twice::doubled;
 ghost use Rattle.der.specs.Forms.{paper};
 ghost use Rattle.extensions.specs.Extensions.{Viewed};
-pub use finding::lookup;
 pub use outline::Outline;
 pub use outline::outline_of;
 pub use told::is_there;

@@ -21,15 +21,17 @@ pub enum Stranger {
     Nothing,
 }
 
-// The first one from `from` on.
+// The first one from `from` on. The loop yields its offset.
 pub(crate) fn stranger_from(item: &[u8], from: usize, end: usize) -> Stranger
     ensures { λ r. ⌜ Ahead paper (now (item .entry)) from end r ⌝ }
 {
     let mut at = from;
-    loop {
-        let next = slotted_end(item, at, end);
-        if 0 < next {
-            at = next;
+    let next;
+    let oid;
+    let place = loop {
+        let passed = slotted_end(item, at, end);
+        if 0 < passed {
+            at = passed;
         } else {
             let Found::One(e) = element_at(item, at, end) else {
                 return Stranger::Nothing;
@@ -37,20 +39,19 @@ pub(crate) fn stranger_from(item: &[u8], from: usize, end: usize) -> Stranger
             let own = any_extension(item, e);
             if 23 <= slot_of(item, own) {
                 if let Extension::Is {
-                    oid,
+                    oid: its,
                     critical: _,
                     value: _,
                 } = own {
-                    return Stranger::At {
-                        place: at,
-                        next: e.end,
-                        oid,
-                    };
+                    next = e.end;
+                    oid = its;
+                    break at;
                 }
             }
             at = e.end;
         }
-    }
+    };
+    Stranger::At { place, next, oid }
 }
 
 // Where the member at `from` ends, before `stop`, if its headers are short and an OID of three octets with a slot opens it; else 0.

@@ -1,12 +1,29 @@
 -- The shape comes first, then the rules, then the fields.
-use mathlib.Core.Path.{sym, _∙_}
+use mathlib.Core.Path.{_≡_, sym, _∙_}
 use borrow.Author.Tests.{not-true, not-false, eq-eqb, ne-eqb}
 use borrow.Author.Needs.{needs}
+use Rattle.der.specs.Forms.{paper}
+use Rattle.crl.specs.declared.shapes.Shape.the-variants.{Parts}
+use Rattle.crl.specs.Shape.{partsOf, layoutOf}
 use Rattle.crl.specs.Answer.{graded, profileOf}
 use Rattle.crl.proofs.Chains.{shape-missing, shape-there, laid-none, laid-bad, laid-good}
 use Rattle.crl.proofs.OwnExtensions.{own-shaped}
 use Rattle.crl.proofs.profile.Statement.{statement}
 use Rattle.crl.proofs.profile.Tie as tie
+
+-- the parts
+parts : (c : tie.After-l) → partsOf paper (c .before .before .before .before .args .item .now) ≡ Parts (c .l .given .0 .0)
+parts c = sym (c .before .before .parts-of .ensures) ∙ c .l .given .1
+
+-- where they were found
+abbrev shaped : tie.After-own-of → tie.After-l
+shaped c = c .before .before .before
+
+-- the layout, once the extensions have their shape
+laid : (c : tie.Else1) →
+    let found = shaped (c .before .before) in
+    layoutOf paper (found .before .before .before .before .args .item .now) ≡ Parts (found .l .given .0 .0)
+laid c = laid-good _ (parts (shaped (c .before .before))) (sym (own-shaped _ _ (c .before .before .own-of .ensures)) ∙ not-false _ (c .if1 .left))
 
 returns : tie.Need-returns
 unfolding profileOf
@@ -15,19 +32,25 @@ returns c = shape-missing _ (laid-none _ (sym (c .before .before .parts-of .ensu
 returns-2 : tie.Need-returns-2
 unfolding profileOf
 returns-2 c =
-    shape-missing _ (laid-bad _ (sym (c .before .before .before .before .before .before .before .parts-of .ensures) ∙ c .before .before .before .before .before .l .given .1) (sym (own-shaped _ _ (c .before .before .own-of .ensures)) ∙ not-true _ (c .if1 .taken)))
+    let own = c .before .before in
+    shape-missing _ (laid-bad _ (parts (shaped own)) (sym (own-shaped _ _ (own .own-of .ensures)) ∙ not-true _ (c .if1 .taken)))
 
 returns-3 : tie.Need-returns-3
 unfolding profileOf graded
 returns-3 c =
-    let laid = laid-good _ (sym (c .before .before .before .before .before .before .before .before .before .before .parts-of .ensures) ∙ c .before .before .before .before .before .before .before .before .l .given .1) (sym (own-shaped _ _ (c .before .before .before .before .before .own-of .ensures)) ∙ not-false _ (c .before .before .before .if1 .left)) in
-    shape-there _ laid (rw (← c .before .before .readings-of .ensures, ← c .before .rules-2-to-8 .ensures, ne-eqb _ _ (c .if2 .taken)))
+    shape-there _ (laid (c .before .before .before))
+    (rw (← c .before .before .readings-of .ensures, ← c .before .rules-2-to-8 .ensures, ne-eqb _ _ (c .if2 .taken)))
 
 returns-4 : tie.Need-returns-4
 unfolding profileOf graded
 returns-4 c =
-    let laid = laid-good _ (sym (c .before .before .before .before .before .before .before .before .before .before .before .parts-of .ensures) ∙ c .before .before .before .before .before .before .before .before .before .l .given .1) (sym (own-shaped _ _ (c .before .before .before .before .before .before .own-of .ensures)) ∙ not-false _ (c .before .before .before .before .if1 .left)) in
-    shape-there _ laid (rw (← c .before .before .before .readings-of .ensures, ← c .before .before .rules-2-to-8 .ensures, eq-eqb _ _ (c .before .if2 .left), c .fields-of .ensures))
+    shape-there _ (laid (c .before .before .before .before))
+    (rw (
+      ← c .before .before .before .readings-of .ensures,
+      ← c .before .before .rules-2-to-8 .ensures,
+      eq-eqb _ _ (c .before .if2 .left),
+      c .fields-of .ensures,
+    ))
 
 pub profile-spec : {M : Type 1} → statement M
 profile-spec =

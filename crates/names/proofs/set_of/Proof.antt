@@ -19,6 +19,13 @@ Inv-loop item e seen₀ attribute₀ seen attribute = attributesOf paper item (a
 abbrev μ-loop : tie.MeasureT-loop
 μ-loop item e seen₀ attribute₀ seen attribute = e .end - attribute .end
 
+-- Points passed before: the call, and where the first attribute was looked for.
+abbrev called : tie.After-element-at Inv-loop μ-loop → tie.Start Inv-loop μ-loop
+called c = c .before .before .before .before
+
+abbrev begun : tie.At-loop Inv-loop μ-loop → tie.After-element-at Inv-loop μ-loop
+begun c = c .before .before .before .before
+
 returns : tie.Need-returns Inv-loop μ-loop
 returns c = sym (set-not _ _ _ (c .if1 .taken))
 
@@ -32,7 +39,11 @@ returns-3 : tie.Need-returns-3 Inv-loop μ-loop
 returns-3 c = sym (attributes-bad _ _ _ _ (sym (c .before .before .attribute-of .ensures) ∙ c .enum-told2 .given .1)) ∙ c .before .before .before .loop .inv
 
 -- past this attribute
-further : (c : tie.At-match2-came Inv-loop μ-loop) → let args = c .before .before .before .before .before .before .before .before .before .before .args in attributesOf paper (args .item .now) (membersOf paper (args .item .now) (c .before .before .loop .attribute .end) (args .e .end)) (c .match2 .seen) ≡ oneSet paper (args .item .now) (args .e) (args .before)
+further : (c : tie.At-match2-came Inv-loop μ-loop) →
+    let now = c .before .before in
+    let args = called (begun now) .args in
+    let item = args .item .now in
+    attributesOf paper item (membersOf paper item (now .loop .attribute .end) (args .e .end)) (c .match2 .seen) ≡ oneSet paper item (args .e) (args .before)
 further c =
     ⊎-elim
     (λ w. rw (w .2) (sym (attributes-other _ _ _ _ (sym (c .before .attribute-of .ensures) ∙ w .1 .given .1)) ∙ c .before .before .loop .inv))

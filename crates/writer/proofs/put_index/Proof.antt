@@ -23,113 +23,92 @@ Inv-loop version kinds flags lengths out₀ wide offset₀ at₀ i₀ out offset
 abbrev μ-loop : tie.MeasureT-loop
 μ-loop version kinds flags lengths out₀ wide offset₀ at₀ i₀ out offset at i = length kinds - i
 
+-- Points passed before: the call, the start of the turn at hand, and where its row was read.
+abbrev called : tie.After-slice-known Inv-loop μ-loop → tie.Start Inv-loop μ-loop
+called c = c .before .before .before .before
+
+abbrev begun : tie.At-loop Inv-loop μ-loop → tie.Start Inv-loop μ-loop
+begun c = called (c .before .before)
+
+abbrev turn : tie.After-shared-slice-known6 Inv-loop μ-loop → tie.At-loop Inv-loop μ-loop
+turn c = c .before .before .before .before
+
+abbrev reading : tie.After-slice-known2 Inv-loop μ-loop → tie.After-shared-slice-known6 Inv-loop μ-loop
+reading c = c .before .before .before .before
+
 loop-holds : tie.Need-loop-holds Inv-loop μ-loop
 loop-holds c = (omega arith, omega arith, omega arith, refl, ([], refl, refl, refl))
 
 -- the entry at hand ends within the output
 within : (c : tie.In-loop Inv-loop μ-loop) →
-    let a = c .before .before .before .before .before .before .before .args in
+    let a = begun (c .before) .args in
     c .before .loop .at + width (a .version) ≤ length (a .out .now)
 within c =
-    let back4 = c .before .before .before .before in
-    let back7 = back4 .before .before .before in
-    let a = back7 .args in
+    let a = begun (c .before) .args in
     let now = c .before .loop in
-    omega (arith, now .inv .1, back7 .pre .3, width-within (width (a .version)) (now .i) (length (a .kinds .now)) (c .loop-test .taken))
+    omega (arith, now .inv .1, begun (c .before) .pre .3, width-within (width (a .version)) (now .i) (length (a .kinds .now)) (c .loop-test .taken))
 
 mul-size : tie.Need-mul-size Inv-loop μ-loop
-mul-size c =
-    let back4 = c .before .before .before .before in
-    omega (arith, back4 .before .before .before .pre)
+mul-size c = omega (arith, begun (c .before) .pre)
 
 shared-slice-read-size : tie.Need-shared-slice-read-size Inv-loop μ-loop
-shared-slice-read-size c =
-    let back4 = c .before .before .before .before in
-    let back8 = back4 .before .before .before .before in
-    omega (arith, back8 .pre)
+shared-slice-read-size c = omega (arith, begun (c .before .before) .pre)
 
 cast-size : tie.Need-cast-size Inv-loop μ-loop
 cast-size c = omega (arith, c .shared-slice-known4 .given (c .before .before .loop .i))
 
 shared-slice-read-put-entry : tie.Need-shared-slice-read-put-entry Inv-loop μ-loop
-shared-slice-read-put-entry c =
-    let back4 = c .before .before .before .before in
-    let back8 = back4 .before .before .before .before in
-    omega (arith, back8 .before .pre)
+shared-slice-read-put-entry c = omega (arith, begun (c .before .before .before) .pre)
 
 shared-slice-read-put-entry-2 : tie.Need-shared-slice-read-put-entry-2 Inv-loop μ-loop
-shared-slice-read-put-entry-2 c =
-    let back4 = c .before .before .before .before in
-    let back8 = back4 .before .before .before .before in
-    omega (arith, back8 .before .before .pre)
+shared-slice-read-put-entry-2 c = omega (arith, begun (turn c) .pre)
 
 sub-put-entry : tie.Need-sub-put-entry Inv-loop μ-loop
-sub-put-entry c =
-    let back4 = c .before .before .before .before in
-    omega (arith, back4 .loop .inv .3, within (c .before .before .before))
+sub-put-entry c = omega (arith, turn c .loop .inv .3, within (c .before .before .before))
 
 part-put-entry-start : tie.Need-part-put-entry-start Inv-loop μ-loop
-part-put-entry-start c =
-    let back4 = c .before .before .before .before in
-    omega (arith, back4 .loop .inv .3, within (c .before .before .before))
+part-put-entry-start c = omega (arith, turn c .loop .inv .3, within (c .before .before .before))
 
 part-put-entry-end : tie.Need-part-put-entry-end Inv-loop μ-loop
-part-put-entry-end c =
-    let back4 = c .before .before .before .before in
-    omega (arith, back4 .loop .inv .3, within (c .before .before .before))
+part-put-entry-end c = omega (arith, turn c .loop .inv .3, within (c .before .before .before))
 
 put-entry-requires : tie.Need-put-entry-requires Inv-loop μ-loop
 put-entry-requires c κs =
-    let back4 = c .before .before .before .before in
-    simp (length-take, length-drop) (omega (arith, back4 .before .loop .inv .3, within back4))
+    simp (length-take, length-drop) (omega (arith, turn (c .before) .loop .inv .3, within (c .before .before .before .before)))
 
 add-offset : tie.Need-add-offset Inv-loop μ-loop
 add-offset c =
-    let back4 = c .before .before .before .before in
-    let back8 = back4 .before .before .before .before in
-    let back12 = back8 .before .before .before .before in
-    omega (arith, back12 .before .before .pre, back4 .before .before .shared-slice-known4 .given (back8 .loop .i))
+    omega (arith, begun (turn (reading c)) .pre, reading c .before .before .shared-slice-known4 .given (turn (reading c) .loop .i))
 
 add-at : tie.Need-add-at Inv-loop μ-loop
 add-at c =
-    let back4 = c .before .before .before .before in
-    let back8 = back4 .before .before .before .before in
-    let back12 = back8 .before .before .before .before in
-    omega (arith, back12 .before .before .good, back8 .before .width .ensures, within (back4 .before .before .before))
+    omega (arith, begun (turn (reading c)) .good, turn (reading c) .before .width .ensures, within (reading c .before .before .before))
 
 add-i : tie.Need-add-i Inv-loop μ-loop
-add-i c =
-    let back4 = c .before .before .before .before in
-    let back8 = back4 .before .before .before .before in
-    let back12 = back8 .before .before .before .before in
-    omega (arith, back12 .before .before .pre)
+add-i c = omega (arith, begun (turn (reading c)) .pre)
 
 loop-less : tie.Need-loop-less Inv-loop μ-loop
-loop-less c =
-    let back4 = c .before .before .before .before in
-    let back8 = back4 .before .before .before .before in
-    let back12 = back8 .before .before .before .before in
-    omega (arith, back12 .before .before .pre)
+loop-less c = omega (arith, begun (turn (reading c)) .pre)
 
 loop-again : tie.Need-loop-again Inv-loop μ-loop
 loop-again c =
-    let back4 = c .before .before .before .before in
-    let back8 = back4 .before .before .before .before in
-    let back12 = back8 .before .before .before .before in
-    let a = back12 .before .before .args in
+    let start = turn (reading c) in
+    let a = begun start .args in
     let version = a .version in
-    let now = back8 .loop in
-    let wide = back8 .before .width .result in
-    let same : wide ≡ width version = back8 .before .width .ensures in
+    let now = start .loop in
+    let wide = start .before .width .result in
+    let same : wide ≡ width version = start .before .width .ensures in
     let done = now .inv .4 .0 in
     let entry = entryBytes version (getD (a .kinds .now) (now .i) 0) (getD (a .flags .now) (now .i) 0) (getD (a .lengths .now) (now .i) 0) (now .offset) in
-    let row = rows-next (a .kinds .now) (a .flags .now) (a .lengths .now) (now .i) (back4 .before .before .before .loop-test .taken) version (now .offset) in
+    let row = rows-next (a .kinds .now) (a .flags .now) (a .lengths .now) (now .i) (reading c .before .before .before .loop-test .taken) version
+    (now .offset) in
     let rest = rowsBytes version (now .offset + getD (a .lengths .now) (now .i) 0) (drop (now .i + 1) (a .kinds .now)) (drop (now .i + 1) (a .flags .now)) (drop (now .i + 1) (a .lengths .now)) in
-    let size : length (done ++ entry) ≡ now .at + wide = length-append done entry ∙ rw (now .inv .4 .1, entry-length, same) in
+    let long : length entry ≡ width version = entry-length version _ _ _ _ in
+    let size : length (done ++ entry) ≡ now .at + wide = omega (arith, length-append done entry, now .inv .4 .1, long, same) in
     let put = put-next (a .out .now) done entry (now .out) _ (now .at) (width version) (now .inv .4 .1) (now .inv .4 .2) (c .before .before .put-entry .ensures) in (
       omega arith,
       omega (arith, now .inv .1, same),
-      omega (arith, back4 .before .before .shared-slice-known4 .given (now .i)),
+      omega (arith, reading c .before .before .shared-slice-known4 .given (now .i)),
       c .before .out .given .1 ∙ now .inv .3,
       (
         done ++ entry,
@@ -140,15 +119,12 @@ loop-again c =
     )
 
 same-length : tie.Need-same-length Inv-loop μ-loop
-same-length c =
-    let back4 = c .before .before .before .before in
-    omega (arith, back4 .before .before .before .pre)
+same-length c = omega (arith, begun (c .before) .pre)
 
 returns : tie.Need-returns Inv-loop μ-loop
 unfolding rowsBytes
 returns c =
-    let back4 = c .before .before .before .before in
-    let a = back4 .before .before .before .args in
+    let a = begun (c .before) .args in
     let kinds = a .kinds .now in
     let now = c .before .loop in
     let last : now .i ≡ length kinds = omega (arith, now .inv .0, c .loop-test .left) in

@@ -19,33 +19,44 @@ use borrow.Author.Needs.{needs}
 use Rattle.writer.proofs.write.Statement.{statement}
 use Rattle.writer.proofs.write.Tie as tie
 
+-- Points passed before: the call; where the width was found, the octets were copied, the index was put.
+abbrev called : tie.After-shared-slice-known4 → tie.Start
+called c = c .before .before .before .before
+
+abbrev asked : tie.After-arguments-good → tie.Start
+asked c = called (c .before .before)
+
+abbrev measured : tie.After-copy → tie.After-width
+measured c = c .before .before .before .before
+
+abbrev copied : tie.After-put-index → tie.After-copy
+copied c = c .before .before .before .before
+
+abbrev indexed : tie.After-put-trailer → tie.After-put-index
+indexed c = c .before .before .before .before
+
 returns : tie.Need-returns
 returns c =
-    let back4 = c .before .before .before .before in
-    let a = back4 .before .before .before .args in
+    let a = asked (c .before) .args in
     let told = refused-argument 1 (a .packed .now) (a .kinds .now) (a .flags .now) (a .lengths .now) (a .day) (a .out .now) (sym (c .before .arguments-good .ensures) ∙ not-true _ (c .if1 .taken)) in
     (sym told, output-refused 1 (a .packed .now) (a .kinds .now) (a .flags .now) (a .lengths .now) (a .day) (a .out .now) told)
 
 good : (c : tie.Else1) →
-    let a = c .before .before .before .before .before .before .before .args in
+    let a = asked (c .before) .args in
     argumentsGood (a .packed .now) (a .kinds .now) (a .flags .now) (a .lengths .now) (a .day) ≡ true
 good c = sym (c .before .arguments-good .ensures) ∙ not-false _ (c .if1 .left)
 
-few : (c : tie.Else1) → length (c .before .before .before .before .before .before .before .args .kinds .now) ≤ 96
+few : (c : tie.Else1) → length (asked (c .before) .args .kinds .now) ≤ 96
 few c =
-    let back4 = c .before .before .before .before in
-    let a = back4 .before .before .before .args in
+    let a = asked (c .before) .args in
     arguments-tell (a .packed .now) (a .kinds .now) (a .flags .now) (a .lengths .now) (a .day) (good c) .0
 
 -- the octets of the index are few, and the image has as many as are said
-index-few : (c : tie.After-width) → c .width .result * length (c .before .before .before .before .before .before .before .before .args .kinds .now) ≤ 65536
-index-few c =
-    let back4 = c .before .before .before .before in
-    let back8 = back4 .before .before .before .before in
-    index-small 1 (length (back8 .args .kinds .now)) (c .width .ensures) (few (c .before))
+index-few : (c : tie.After-width) → c .width .result * length (asked (c .before .before) .args .kinds .now) ≤ 65536
+index-few c = index-small 1 (length (asked (c .before .before) .args .kinds .now)) (c .width .ensures) (few (c .before))
 
 size : (c : tie.After-width) →
-    let a = c .before .before .before .before .before .before .before .before .args in
+    let a = asked (c .before .before) .args in
     length (a .packed .now) + c .width .result * length (a .kinds .now) + 12 ≡ sizeOf 1 (a .packed .now) (a .kinds .now)
 unfolding sizeOf
 size c = rw (c .width .ensures)
@@ -54,73 +65,66 @@ mul-trailer : tie.Need-mul-trailer
 mul-trailer c = omega (arith, index-few c)
 
 add-trailer : tie.Need-add-trailer
-add-trailer c =
-    let back4 = c .before .before .before .before in
-    let back8 = back4 .before .before .before .before in
-    omega (arith, index-few c, back8 .good)
+add-trailer c = omega (arith, index-few c, asked (c .before .before) .good)
 
 add-size : tie.Need-add-size
-add-size c =
-    let back4 = c .before .before .before .before in
-    let back8 = back4 .before .before .before .before in
-    omega (arith, index-few c, back8 .good)
+add-size c = omega (arith, index-few c, asked (c .before .before) .good)
 
 returns-2 : tie.Need-returns-2
 returns-2 c =
-    let back4 = c .before .before .before .before in
-    let back8 = back4 .before .before .before .before in
-    let a = back8 .before .args in
+    let a = asked (c .before .before .before) .args in
     let told = refused-limit 1 (a .packed .now) (a .kinds .now) (a .flags .now) (a .lengths .now) (a .day) (a .out .now) (good (c .before .before)) (omega (arith, size (c .before), c .if2 .taken)) in
     (sym told, output-refused 1 (a .packed .now) (a .kinds .now) (a .flags .now) (a .lengths .now) (a .day) (a .out .now) told)
 
 -- an image that is not too long
 small : (c : tie.Else2) →
-    let a = c .before .before .before .before .before .before .before .before .before .args in
+    let a = asked (c .before .before .before) .args in
     sizeOf 1 (a .packed .now) (a .kinds .now) ≤ 262144
 small c = omega (arith, size (c .before), c .if2 .left)
 
 returns-3 : tie.Need-returns-3
 returns-3 c =
-    let back4 = c .before .before .before .before in
-    let back8 = back4 .before .before .before .before in
-    let a = back8 .before .before .args in
+    let a = asked (c .before .before .before .before) .args in
     let told = refused-short 1 (a .packed .now) (a .kinds .now) (a .flags .now) (a .lengths .now) (a .day) (a .out .now) (good (c .before .before .before)) (small (c .before)) (omega (arith, size (c .before .before), c .if3 .taken)) in
     (sym told, output-refused 1 (a .packed .now) (a .kinds .now) (a .flags .now) (a .lengths .now) (a .day) (a .out .now) told)
 
 put-index-requires : tie.Need-put-index-requires
 unfolding sizeOf
 put-index-requires c κs =
-    let back4 = c .before .before .before .before in
-    let back8 = back4 .before .before .before .before in
-    let back12 = back8 .before .before .before .before in
-    let a = back12 .before .before .before .args in
-    let tell = arguments-tell (a .packed .now) (a .kinds .now) (a .flags .now) (a .lengths .now) (a .day) (good back8) in
-    (tell .1, tell .2, tell .0, simp (length-take, length-drop) (omega (arith, size (back4 .before .before .before), back4 .before .if3 .left, c .before .before .out .given, c .before .before .before .copy .kept)))
+    let copies = c .before .before .before in
+    let sized = measured copies in
+    let a = asked (sized .before .before) .args in
+    let tell = arguments-tell (a .packed .now) (a .kinds .now) (a .flags .now) (a .lengths .now) (a .day) (good (sized .before)) in (
+      tell .1,
+      tell .2,
+      tell .0,
+      simp (length-take, length-drop) (omega (arith, size sized, copies .before .before .if3 .left, c .before .before .out .given, copies .copy .kept)),
+    )
 
 returns-4 : tie.Need-returns-4
 returns-4 c =
-    let back4 = c .before .before .before .before in
-    let back8 = back4 .before .before .before .before in
-    let back12 = back8 .before .before .before .before in
-    let back16 = back12 .before .before .before .before in
-    let back20 = back16 .before .before .before .before in
-    let a = back20 .before .before .args in
+    let index-put = indexed (c .before .before) in
+    let copies = copied index-put in
+    let sized = measured copies in
+    let a = asked (sized .before .before) .args in
     let octets = a .packed .now in
     let kinds = a .kinds .now in
     let rows = rowsBytes 1 0 kinds (a .flags .now) (a .lengths .now) in
     let trailer = trailerBytes 1 (length octets) (length kinds) (a .day) in
     let old = a .out .now in
-    let wide = back12 .before .before .width .result in
-    let same : width 1 ≡ wide = sym (back12 .before .before .width .ensures) in
-    let counted = size (back12 .before .before) in
+    let wide = sized .width .result in
+    let same : width 1 ≡ wide = sym (sized .width .ensures) in
+    let counted = size sized in
     let sum : length (octets ++ rows) ≡ length octets + wide * length kinds =
     length-append octets rows ∙ rw (rows-length 1 kinds (a .flags .now) (a .lengths .now) 0, same) in
-    let index = put-next old octets rows _ _ (length octets) (width 1 * length kinds) refl (back8 .before .before .copy .ensures) (back4 .before .before .put-index .ensures) in
+    let index = put-next old octets rows _ _ (length octets) (width 1 * length kinds) refl (copies .copy .ensures) (index-put .put-index .ensures) in
     let index′ = index ∙ ap (λ (n : ℕ). (octets ++ rows) ++ drop (length octets + n * length kinds) old) same in
     let all = put-next old (octets ++ rows) trailer _ _ (length octets + wide * length kinds) 12 sum index′ (c .before .before .put-trailer .ensures) in
-    let room : sizeOf 1 octets kinds ≤ length old = omega (arith, counted, back12 .if3 .left) in
-    let answer = all-written 1 octets kinds (a .flags .now) (a .lengths .now) (a .day) old (good (back12 .before .before .before)) (small (back12 .before)) room in
-    let told = output-written 1 octets kinds (a .flags .now) (a .lengths .now) (a .day) old (good (back12 .before .before .before)) (small (back12 .before)) room in
+    let room : sizeOf 1 octets kinds ≤ length old = omega (arith, counted, copies .before .before .if3 .left) in
+    let answer = all-written 1 octets kinds (a .flags .now) (a .lengths .now) (a .day) old (good (sized .before))
+    (small (copies .before .before .before)) room in
+    let told = output-written 1 octets kinds (a .flags .now) (a .lengths .now) (a .day) old (good (sized .before))
+    (small (copies .before .before .before)) room in
     (ap Length counted ∙ sym answer, all ∙ ap (λ (n : ℕ). ((octets ++ rows) ++ trailer) ++ drop n old) counted ∙ sym told)
 
 pub write-spec : {M : Type 1} → statement M

@@ -15,9 +15,11 @@ returns c = c .before .usual-pair .ensures (c .if1 .taken)
 returns-2 : tie.Need-returns-2
 unfolding ownOf keyThere numberThere oidOf heldOf
 returns-2 c =
-    let seen = c .before .before .before .one-pass .ensures in
-    let s = c .before .before .before .before .before .before .before .args .item .now in
-    let e = c .before .before .before .before .before .before .before .args .extensions in
+    let read = c .before .before .before in
+    let start = read .before .before .before .before in
+    let seen = read .one-pass .ensures in
+    let s = start .args .item .now in
+    let e = start .args .extensions in
     rw (
       seen .shaped,
       seen .marked,

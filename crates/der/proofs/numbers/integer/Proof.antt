@@ -9,12 +9,21 @@ use lib.ListN.{length}
 use mir.Syntax.{w64}
 use mir.ValLaws.{toZ-ofZ}
 use Rattle.der.specs.declared.heading.Heading.the-variants.{Header}
+use Rattle.der.specs.declared.walking.Walked.the-variants.{Passed}
 use Rattle.der.specs.Forms.{paper}
 use Rattle.der.specs.Heading.{headingOf}
 use Rattle.der.specs.Integer.{held, asked, integerOf}
+use Rattle.der.specs.Walk.{walkOf}
 use Rattle.der.proofs.Bounds.{heading-within}
 use Rattle.der.proofs.numbers.integer.Statement.{statement}
 use Rattle.der.proofs.numbers.integer.Tie as tie
+
+-- the item passes the walk
+abbrev called : tie.After-enum-told → tie.Start
+called c = c .before .before .before .before
+
+walked : (c : tie.After-enum-told) → walkOf paper (called c .args .item .now) ≡ Passed (c .enum-told .given .0 .0)
+walked c = sym (c .before .before .walk .ensures .0) ∙ c .enum-told .given .1
 
 returns : tie.Need-returns
 unfolding integerOf asked
@@ -23,34 +32,28 @@ returns c = simp (sym (c .before .before .before .walk .ensures .0) ∙ c .befor
 returns-2 : tie.Need-returns-2
 unfolding integerOf asked held
 returns-2 c =
-    let back4 = c .before .before .before .before in
     simp (
-      sym (back4 .before .walk .ensures .0) ∙ c .before .before .before .enum-told .given .1,
+      walked (c .before .before .before),
       sym (c .before .before .header .ensures paper refl refl) ∙ c .enum-told2 .given .1,
     )
 
 -- the header is that of the item's outermost element
 headed : (c : tie.After-known-told2) →
     let h = c .before .tag .given .0 in
-    headingOf paper (c .before .before .before .before .before .before .before .before .args .item .now) ≡ Header (h .0) (h .1 .0) (h .1 .1 .0)
+    headingOf paper (called (c .before .before .before .before) .args .item .now) ≡ Header (h .0) (h .1 .0) (h .1 .1 .0)
 headed c = sym (c .before .before .before .header .ensures paper refl refl) ∙ c .before .tag .given .1
 
 -- so the answer hangs on that element alone, which ends within the item
 told : (c : tie.After-known-told2) →
-    let item = c .before .before .before .before .before .before .before .before .args .item .now in
+    let item = called (c .before .before .before .before) .args .item .now in
     let h = c .before .tag .given .0 in
     integerOf paper item ≡ held item (Header (h .0) (h .1 .0) (h .1 .1 .0))
 unfolding integerOf asked
-told c =
-    let back4 = c .before .before .before .before in
-    simp (
-      sym (back4 .before .before .walk .ensures .0) ∙ c .before .before .before .before .enum-told .given .1,
-      headed c,
-    )
+told c = simp (walked (c .before .before .before .before), headed c)
 
 inside : (c : tie.After-known-told2) →
     let h = c .before .tag .given .0 in
-    h .1 .0 + h .1 .1 .0 ≤ length (c .before .before .before .before .before .before .before .before .args .item .now)
+    h .1 .0 + h .1 .1 .0 ≤ length (called (c .before .before .before .before) .args .item .now)
 inside c = heading-within paper _ _ _ _ (headed c) .1
 
 returns-3 : tie.Need-returns-3

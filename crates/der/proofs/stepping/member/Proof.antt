@@ -12,6 +12,10 @@ use Rattle.der.proofs.Bounds.{heading-within}
 use Rattle.der.proofs.stepping.member.Statement.{statement}
 use Rattle.der.proofs.stepping.member.Tie as tie
 
+-- the call, from where the part is lent to `header`
+abbrev called : tie.After-header-arg → tie.Start
+called c = c .before .before .before .before
+
 returns : tie.Need-returns
 unfolding memberOf
 returns c = simp (lt-leb _ _ (c .if1 .taken))
@@ -22,13 +26,11 @@ returns-2 c = simp (le-leb _ _ (c .before .if1 .left), lt-leb _ _ (c .if2 .taken
 
 -- the element ends within the part
 ended : (c : tie.After-known-told) →
-    let a = c .before .before .before .before .before .before .before .before .args in
+    let a = called (c .before .before .before .before) .args in
     let h = c .before .tag .given .0 in
     h .1 .0 + h .1 .1 .0 ≤ a .end - a .from
 ended c =
-    let back4 = c .before .before .before .before in
-    let back8 = back4 .before .before .before .before in
-    let a = back8 .args in
+    let a = called (c .before .before .before .before) .args in
     let rest : a .end - a .from ≤ length (drop (a .from) (a .item .now)) = rw length-drop (omega arith) in
     let part : length (take (a .end - a .from) (drop (a .from) (a .item .now))) ≡ a .end - a .from = length-take-le _ _ rest in
     rw part at (heading-within paper _ _ _ _ (sym (c .before .before .before .header .ensures paper refl refl) ∙ c .before .tag .given .1) .1)
@@ -42,20 +44,20 @@ add-after c = omega (arith, ended c)
 returns-3 : tie.Need-returns-3
 unfolding memberOf placed
 returns-3 c =
-    let back4 = c .before .before .before .before in
+    let lent = c .before .before .before .before in
     simp (
-      le-leb _ _ (back4 .before .before .if1 .left),
-      le-leb _ _ (back4 .before .if2 .left),
+      le-leb _ _ (lent .before .before .if1 .left),
+      le-leb _ _ (lent .before .if2 .left),
       sym (c .before .before .before .header .ensures paper refl refl) ∙ c .before .tag .given .1,
     )
 
 returns-4 : tie.Need-returns-4
 unfolding memberOf placed
 returns-4 c =
-    let back4 = c .before .before .before .before in
+    let lent = c .before .before .before in
     simp (
-      le-leb _ _ (back4 .before .if1 .left),
-      le-leb _ _ (c .before .before .before .before .if2 .left),
+      le-leb _ _ (lent .before .before .if1 .left),
+      le-leb _ _ (lent .before .if2 .left),
       sym (c .before .before .header .ensures paper refl refl) ∙ c .enum-told .given .1,
     )
 

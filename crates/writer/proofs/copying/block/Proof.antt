@@ -7,10 +7,17 @@ use borrow.Author.Needs.{needs}
 use Rattle.writer.proofs.copying.block.Statement.{statement}
 use Rattle.writer.proofs.copying.block.Tie as tie
 
+-- Points passed before: the call, and where the octets were held.
+abbrev called : tie.After-held → tie.Start
+called c = c .before .before .before .before
+
+abbrev filled : tie.After-few2 → tie.After-few
+filled c = c .before .before .before .before
+
 returns : tie.Need-returns
 returns c =
-    let lent = c .before .before .before .before .before .before in
-    let start = lent .before .before .before .before .before in
+    let lent = filled (c .before .before) in
+    let start = called (lent .before) in
     let from = start .args .from .now in
     let size : length (take 64 from) ≡ 64 = length-take-le 64 from (start .pre .0) in
     let held : lent .few .last .1 .0 ≡ take 64 from = (rw size at (lent .few .ensures)) ∙ append-nil (take 64 from) in

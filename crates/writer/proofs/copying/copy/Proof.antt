@@ -17,15 +17,22 @@ Inv-loop from out₀ at₀ out at = (at ≤ length from) × (length out ≡ leng
 abbrev μ-loop : tie.MeasureT-loop
 μ-loop from out₀ at₀ out at = length from - at
 
+-- The start of the turn at hand, and of the last one.
+abbrev turn : tie.After-block Inv-loop μ-loop → tie.At-loop Inv-loop μ-loop
+turn c = c .before .before .before .before
+
+abbrev last-turn : tie.After-few Inv-loop μ-loop → tie.At-loop Inv-loop μ-loop
+last-turn c = c .before .before .before .before
+
 block-requires : tie.Need-block-requires Inv-loop μ-loop
 block-requires c κs = (simp (length-take, length-drop) (omega arith), simp (length-take, length-drop) (omega arith))
 
 loop-again : tie.Need-loop-again Inv-loop μ-loop
 loop-again c =
-    let back6 = c .before .before .before .before .before .before in
-    let from = back6 .before .before .before .args .from .now in
-    let old = back6 .before .before .before .args .out .now in
-    let now = back6 .loop in
+    let start = turn (c .before .before) in
+    let from = start .before .before .before .args .from .now in
+    let old = start .before .before .before .args .out .now in
+    let now = start .loop in
     let block = take 64 (drop (now .at) from) in
     let all = rw (part-to-end from (now .at)) at (c .before .before .block .ensures) in
     let next = put-next old (take (now .at) from) block (now .out) _ (now .at) 64 (length-take-le (now .at) from (now .inv .0)) (now .inv .2) all in
@@ -36,10 +43,10 @@ few-requires c κs = simp (length-take, length-drop) (omega arith)
 
 returns : tie.Need-returns Inv-loop μ-loop
 returns c =
-    let back6 = c .before .before .before .before .before .before in
-    let from = back6 .before .before .before .args .from .now in
-    let old = back6 .before .before .before .args .out .now in
-    let now = back6 .loop in
+    let start = last-turn (c .before .before) in
+    let from = start .before .before .before .args .from .now in
+    let old = start .before .before .before .args .out .now in
+    let now = start .loop in
     let rest = drop (now .at) from in
     let all = rw (part-to-end from (now .at)) at (c .before .before .few .ensures) in
     let last = put-next old (take (now .at) from) rest (now .out) _ (now .at) (length rest) (length-take-le (now .at) from (now .inv .0)) (now .inv .2) all in
