@@ -46,12 +46,12 @@ column {places} {table} {roles} {u} l h = let k = line-short table places u (l .
 
 loop-holds : tie.Need-loop-holds Inv-loop2 μ-loop2 Inv-loop μ-loop
 loop-holds c = (
-    c .before .before .pre,
-    omega arith,
-    (
-      length-replicate {A = ℕ} 9216 0,
-      record { before = λ w x k h. absurd (omega arith); behind = λ w x k h. empty-slots 9216 (w * 96 + x) },
-    ),
+  c .before .before .pre,
+  omega arith,
+  (
+    length-replicate {A = ℕ} 9216 0,
+    record { before = λ w x k h. absurd (omega arith); behind = λ w x k h. empty-slots 9216 (w * 96 + x) },
+  ),
 )
 
 array-read-leads : tie.Need-array-read-leads Inv-loop2 μ-loop2 Inv-loop μ-loop
@@ -65,14 +65,14 @@ mul-part c =
 
 loop2-holds : tie.Need-loop2-holds Inv-loop2 μ-loop2 Inv-loop μ-loop
 loop2-holds c = (
-    record {
-      small = c .before .before .before .before .loop .inv .0;
-      place = c .before .before .before .loop-test .taken;
-      leads = sym (c .before .before .leads .ensures) ∙ c .before .if1 .taken;
-      is = c .part .ensures;
-      read = omega arith;
-    },
-    c .before .before .before .before .loop .inv .2,
+  record {
+    small = c .before .before .before .before .loop .inv .0;
+    place = c .before .before .before .loop-test .taken;
+    leads = sym (c .before .before .leads .ensures) ∙ c .before .if1 .taken;
+    is = c .part .ensures;
+    read = omega arith;
+  },
+  c .before .before .before .before .loop .inv .2,
 )
 
 shared-slice-read-if2 : tie.Need-shared-slice-read-if2 Inv-loop2 μ-loop2 Inv-loop μ-loop
@@ -105,14 +105,16 @@ loop2-again c =
     let here : c .before .before .before .before .before .before .before .before .loop .u < 96 = omega (arith, l .small, l .place) in
     let there : v < 96 = omega (arith, l .small, inside) in (
       record { small = l .small; place = l .place; leads = l .leads; is = l .is; read = omega (arith, c .before .before .loop2-test .taken) },
-      (⊎-elim (λ w. rw (w .2, length-set) room) (λ w. rw (w .1) room) (c .if2 .came),
-      ⊎-elim
-          (λ w.
-          rw (w .2)
-          (cell-set (l .small) cells inside (omega (arith, room, l .small, l .place, inside))
-          (step-asked _ _ _ _ _ _ v refl refl refl refl (l .leads) octet (w .0 .taken) (w .1 .ensures .0 here there))))
-          (λ w. rw (w .1) (cell-left (l .small) cells inside (step-unasked _ _ _ _ _ _ v refl (l .leads) octet (w .0 .left))))
-          (c .if2 .came)),
+      (
+        ⊎-elim (λ w. rw (w .2, length-set) room) (λ w. rw (w .1) room) (c .if2 .came),
+        ⊎-elim
+            (λ w.
+            rw (w .2)
+            (cell-set (l .small) cells inside (omega (arith, room, l .small, l .place, inside))
+            (step-asked _ _ _ _ _ _ v refl refl refl refl (l .leads) octet (w .0 .taken) (w .1 .ensures .0 here there))))
+            (λ w. rw (w .1) (cell-left (l .small) cells inside (step-unasked _ _ _ _ _ _ v refl (l .leads) octet (w .0 .left))))
+            (c .if2 .came),
+      ),
     )
 
 add-u : tie.Need-add-u Inv-loop2 μ-loop2 Inv-loop μ-loop
@@ -126,16 +128,18 @@ loop-again c =
     let (small, few, (room, cells)) = c .before .before .before .loop .inv in (
       small,
       omega (arith, c .before .before .loop-test .taken),
-      (⊎-elim (λ w. rw (w .4) (w .2 .inv .1 .0)) (λ w. rw (w .1) room) (c .if1 .came),
-      ⊎-elim
-          (λ w.
-          let l = w .2 .inv .0 in
-          let short = line-short (c .before .before .before .before .before .before .args .table .now) (c .before .before .before .before .before .before .args .places) (c .before .before .before .loop .u) (l .is) in
-          rw (w .4)
-          (row-rest small (omega (arith, short, l .read)) (w .2 .inv .1 .1)
-          (λ x h k. step-unasked _ _ _ _ _ _ x refl (l .leads) refl (line-past (c .before .before .before .before .before .before .args .table .now) (c .before .before .before .before .before .before .args .places) (c .before .before .before .loop .u) x (l .is) k (omega (arith, h, w .3 .left))))))
-          (λ w. rw (w .1) (row-left small cells (λ x k. step-unled _ _ _ _ _ _ x refl (sym (c .before .leads .ensures) ∙ w .0 .left))))
-          (c .if1 .came)),
+      (
+        ⊎-elim (λ w. rw (w .4) (w .2 .inv .1 .0)) (λ w. rw (w .1) room) (c .if1 .came),
+        ⊎-elim
+            (λ w.
+            let l = w .2 .inv .0 in
+            let short = line-short (c .before .before .before .before .before .before .args .table .now) (c .before .before .before .before .before .before .args .places) (c .before .before .before .loop .u) (l .is) in
+            rw (w .4)
+            (row-rest small (omega (arith, short, l .read)) (w .2 .inv .1 .1)
+            (λ x h k. step-unasked _ _ _ _ _ _ x refl (l .leads) refl (line-past (c .before .before .before .before .before .before .args .table .now) (c .before .before .before .before .before .before .args .places) (c .before .before .before .loop .u) x (l .is) k (omega (arith, h, w .3 .left))))))
+            (λ w. rw (w .1) (row-left small cells (λ x k. step-unled _ _ _ _ _ _ x refl (sym (c .before .leads .ensures) ∙ w .0 .left))))
+            (c .if1 .came),
+      ),
     )
 
 returns : tie.Need-returns Inv-loop2 μ-loop2 Inv-loop μ-loop
