@@ -21,7 +21,7 @@ use Rattle.chain.specs.declared.asking.Asked.{Asked}
 use Rattle.chain.specs.declared.asking.Asked.the-variants as asked
 use Rattle.chain.specs.declared.Answer.{Answer}
 use Rattle.chain.specs.Answer.{onImage, askedOf, goodChains, Shows, nothing, something, Answered, none, found}
-use Rattle.chain.specs.Table.{tableGood}
+use Rattle.usable.specs.Table.{tableGood}
 use Rattle.chain.proofs.ImageOpened.{opened-image}
 
 not-over : {why : Refusal} {n : ℕ} → _≡_ {A = Asked} (asked.Refused why) (asked.Over n) → ⊥

@@ -22,12 +22,13 @@ use Rattle.image.specs.Index.{entryCount, itemsIn}
 use Rattle.chain.specs.declared.asking.Asked.the-variants as asked
 use Rattle.chain.specs.Answer.{askedOf, goodChains}
 use Rattle.chain.specs.Demand.{EnabledAnchor, UsableAs, Demanded}
-use Rattle.chain.specs.Items.{itemAt, onCertificate, certificateAt, within}
-use Rattle.chain.specs.Steps.{hasKind, chains}
-use Rattle.chain.specs.Table.{verdictIn}
-use Rattle.chain.specs.Usable.{valid, usableAnchor, usable}
+use Rattle.usable.specs.Items.{itemAt, onCertificate, certificateAt, within}
+use Rattle.chain.specs.Good.{chains}
+use Rattle.usable.specs.Steps.{hasKind}
+use Rattle.usable.specs.Table.{verdictIn}
+use Rattle.usable.specs.Usable.{valid, usableAnchor, usable}
 use Rattle.chain.proofs.Answering.{asked-over}
-use Rattle.chain.proofs.Booleans.{false-true, first, second}
+use Rattle.usable.proofs.Booleans.{false-true, first, second}
 use Rattle.chain.proofs.PlacesMean.{length-items}
 
 module _ (items : List Item) (moment u : ℕ) where

@@ -13,24 +13,27 @@ use Rattle.graph.specs.Chains.{Onward, ends, goes}
 use Rattle.graph.specs.declared.Found.{Found}
 use Rattle.graph.specs.Answer.{NoChain, Answered, none}
 use Rattle.graph.proofs.Targets.{chain-target}
-use Rattle.image.specs.Index.{entryIn, itemsIn, entryCount}
-use Rattle.chain.specs.declared.opened.Row.{Row}
-use Rattle.chain.specs.Near.{isNear, firstOf}
-use Rattle.chain.specs.Rows.{blank, rowFrom, rowOf, rowAt, Counted, Roles}
-use Rattle.chain.specs.Home.{wantedOf, Opens}
-use Rattle.chain.specs.Steps.{hasKind, chains}
-use Rattle.chain.specs.Usable.{valid, usable}
-use Rattle.chain.specs.Answer.{goodChains}
-use Rattle.chain.proofs.Booleans.{false-true, first, second, both-true}
-use Rattle.chain.proofs.Slots.{empty-slots}
-use Rattle.chain.proofs.Homes.{home, certificate-home, wanted-signed}
-use Rattle.chain.proofs.ItemsTold.{kind-told, valid-told}
-use Rattle.chain.proofs.NearRows.{Told, Based, told-next}
-use Rattle.chain.proofs.RowLaws.{blank-rows, set-here, set-there}
-use Rattle.chain.proofs.RowReadings.{Reading, reading, certificate, list, neither}
-use Rattle.chain.proofs.StandingMeans.{standing-signed}
-use Rattle.chain.proofs.CountingMeans.{Counts, counting-means}
-use Rattle.chain.proofs.RolesMean.{roles-mean}
+use Rattle.image.specs.Items.{Item}
+use Rattle.usable.specs.declared.opened.Row.{Row}
+use Rattle.usable.specs.Items.{itemAt}
+use Rattle.usable.specs.Usable.{valid, usable}
+use Rattle.usable.specs.Steps.{hasKind}
+use Rattle.usable.specs.Rows.{blank, rowFrom, rowOf, rowAt, isNear, Counted, Roles}
+use Rattle.usable.proofs.Booleans.{false-true, first, second, both-true}
+use Rattle.usable.proofs.Slots.{empty-slots}
+use Rattle.usable.proofs.RowLaws.{blank-rows, set-here, set-there}
+use Rattle.usable.proofs.RowReadings.{validOf, Reading, reading, certificate, list, neither}
+use Rattle.usable.proofs.Scope.{Placed, Told}
+use Rattle.usable.proofs.StandingMeans.{standing-signed}
+use Rattle.usable.proofs.CountingMeans.{Counts, valid-told, counting-means}
+use Rattle.usable.proofs.RolesMean.{roles-mean}
+use Rattle.chain.specs.Good.{chains}
+use Rattle.chain.specs.Near.{firstOf}
+use Rattle.chain.specs.Rounds.{wantedOf, Opens}
+use Rattle.chain.proofs.Homes.{home, certificate-home}
+use Rattle.chain.proofs.HomeScope.{Based, isOpen, wanted-signer, home-scope}
+use Rattle.chain.proofs.Meaning.{goodOf}
+use Rattle.chain.proofs.NearRows.{told-next}
 use Rattle.chain.proofs.Transfer.{AllNear, done, more}
 use Rattle.chain.proofs.RoundsHold.{Round}
 
@@ -38,21 +41,21 @@ no-slots : (p : ℕ) → isNear (replicate 96 0) p ≡ true → ⊥
 unfolding isNear
 no-slots p e = false-true (rw (empty-slots {A = ℕ} 96 p) at e)
 
-module _ (s table : List ℕ) (moment target n : ℕ) (same : n ≡ entryCount s) (near : List ℕ) (firsts : (p : ℕ) → p < n → getD near p 0 ≡ firstOf target p (entryIn s p .kind)) where
-  first-based : Based s n near
+module _ (items : List Item) (at : ℕ → ℕ) (held : Row → List ℕ) (placed : Placed held items at) (table : List ℕ) (moment target : ℕ) (near : List ℕ) (firsts : (p : ℕ) → p < length items → getD near p 0 ≡ firstOf target p (itemAt items p .kind)) where
+  first-based : Based items near
   unfolding isNear firstOf
-  first-based p h e = go (eqb p target) (eqb (entryIn s p .kind) 2) refl (eqb (entryIn s p .kind) 3) refl (rw (firsts p h) at e)
+  first-based p h e = go (eqb p target) (eqb (itemAt items p .kind) 2) refl (eqb (itemAt items p .kind) 3) refl (rw (firsts p h) at e)
     where
       go :
-          (a b : Bool) → eqb (entryIn s p .kind) 2 ≡ b → (c : Bool) → eqb (entryIn s p .kind) 3 ≡ c
+          (a b : Bool) → eqb (itemAt items p .kind) 2 ≡ b → (c : Bool) → eqb (itemAt items p .kind) 3 ≡ c
           → eqb (cond a 1 (cond b 2 (cond c 0 1))) 1 ≡ false
-          → (eqb (entryIn s p .kind) 1 ≡ false) × (eqb (entryIn s p .kind) 4 ≡ false)
+          → (eqb (itemAt items p .kind) 1 ≡ false) × (eqb (itemAt items p .kind) 4 ≡ false)
       go true b q c k f = false-true (sym f)
-      go false true q c k f = let two = eqb-true (entryIn s p .kind) 2 q in (rw two, rw two)
-      go false false q true k f = let three = eqb-true (entryIn s p .kind) 3 k in (rw three, rw three)
+      go false true q c k f = let two = eqb-true (itemAt items p .kind) 2 q in (rw two, rw two)
+      go false false q true k f = let three = eqb-true (itemAt items p .kind) 3 k in (rw three, rw three)
       go false false q false k f = false-true (sym f)
 
-  first-waiting : (p : ℕ) → p < n → isNear near p ≡ false → entryIn s p .kind ≡ 2 → getD near p 0 ≡ 2
+  first-waiting : (p : ℕ) → p < length items → isNear near p ≡ false → itemAt items p .kind ≡ 2 → getD near p 0 ≡ 2
   unfolding isNear firstOf
   first-waiting p h e two = rw (firsts p h, two) (go (eqb p target) (rw (firsts p h, two) at e))
     where
@@ -60,12 +63,12 @@ module _ (s table : List ℕ) (moment target n : ℕ) (same : n ≡ entryCount s
       go true f = false-true (sym f)
       go false f = refl
 
-  first-end : target < n → isNear near target ≡ true
+  first-end : target < length items → isNear near target ≡ true
   unfolding isNear firstOf
   first-end h = rw (firsts target h, eq-eqb target target refl)
 
   first-reach :
-      target < n → {u : ℕ} {c : List ℕ} → Onward (goodChains s table moment) target u c → (length c ≤ 0 + 1) ⊎ (_≡_ {A = ℕ} 0 4)
+      target < length items → {u : ℕ} {c : List ℕ} → Onward (goodOf items table moment) target u c → (length c ≤ 0 + 1) ⊎ (_≡_ {A = ℕ} 0 4)
       → AllNear (isNear near) c
   first-reach h (ends l signer step) few = more (first-end h) done
   first-reach h (goes l link step (ends m signer next)) few = absurd (⊎-elim (λ k. omega arith) (λ k. omega arith) few)
@@ -73,8 +76,8 @@ module _ (s table : List ℕ) (moment target n : ℕ) (same : n ≡ entryCount s
 
   -- the target's row, and none else, is told first
   first-told :
-      (a b : ℕ) (signer : List ℕ) → target < n → n ≤ 96 → entryIn s target .kind ≡ 3 → rowFrom signer ≡ rowOf moment s (entryIn s target)
-      → Told a b moment s n (set (replicate 96 0) target 1) (set (replicate 96 (replicate 17 0)) target signer)
+      (a b : ℕ) (signer : List ℕ) → target < length items → length items ≤ 96 → itemAt items target .kind ≡ 3 → rowFrom signer ≡ rowOf moment (itemAt items target) (at target)
+      → Told moment items at (isOpen a b items table (set (replicate 96 0) target 1)) (set (replicate 96 (replicate 17 0)) target signer)
   unfolding isNear
   first-told a b signer h few three is p k = go (eqb p target) refl
     where
@@ -84,10 +87,10 @@ module _ (s table : List ℕ) (moment target n : ℕ) (same : n ≡ entryCount s
       go :
           (t : Bool) → eqb p target ≡ t
           → rowAt (set (replicate 96 (replicate 17 0)) target signer) p
-          ≡ cond (eqb (getD (set (replicate 96 0) target 1) p 0) 1 && wantedOf a b s (entryIn s p)) (rowOf moment s (entryIn s p)) blank
+          ≡ cond (eqb (getD (set (replicate 96 0) target 1) p 0) 1 && wantedOf a b (length items) table items p) (rowOf moment (itemAt items p) (at p)) blank
       go true e =
           let q : p ≡ target = eqb-true p target e in
-          let wanted : wantedOf a b s (entryIn s target) ≡ true = wanted-signed a b s target (omega arith) (omega arith) in
+          let wanted : wantedOf a b (length items) table items target ≡ true = wanted-signer a b (length items) table items target three in
           rw (q, getD-set-same {A = ℕ} (replicate 96 0) target 1 0 room, wanted)
           (set-here (replicate 96 (replicate 17 0)) target signer room ∙ is)
       go false e =
@@ -95,7 +98,7 @@ module _ (s table : List ℕ) (moment target n : ℕ) (same : n ≡ entryCount s
           rw (getD-set-other {A = ℕ} (replicate 96 0) target p 1 0 q, empty-slots {A = ℕ} {d = 0} 96 p)
           (set-there (replicate 96 (replicate 17 0)) target signer p q ∙ blank-rows 96 p)
 
-  first-kept : (p : ℕ) → p < n → isNear (set (replicate 96 0) target 1) p ≡ true → isNear near p ≡ true
+  first-kept : (p : ℕ) → p < length items → isNear (set (replicate 96 0) target 1) p ≡ true → isNear near p ≡ true
   unfolding isNear
   first-kept p h e = go (eqb p target) refl
     where
@@ -107,59 +110,57 @@ module _ (s table : List ℕ) (moment target n : ℕ) (same : n ≡ entryCount s
 
   -- the letters of a signer's row are its country's
   row-home :
-      (signer : List ℕ) → entryIn s target .kind ≡ 3 → rowFrom signer ≡ rowOf moment s (entryIn s target) → (getD signer 0 0 ≡ 0 → ⊥)
-      → home (getD signer 1 0) (getD signer 2 0) s target ≡ true
+      (signer : List ℕ) → itemAt items target .kind ≡ 3 → rowFrom signer ≡ rowOf moment (itemAt items target) (at target) → (getD signer 0 0 ≡ 0 → ⊥)
+      → home (getD signer 1 0) (getD signer 2 0) items target ≡ true
   unfolding blank
-  row-home signer three is some = go (reading moment s (entryIn s target))
+  row-home signer three is some = go (reading moment (itemAt items target) (at target))
     where
-      go : Reading moment s (entryIn s target) true (rowOf moment s (entryIn s target)) → home (getD signer 1 0) (getD signer 2 0) s target ≡ true
+      go : Reading moment (itemAt items target) (at target) true (rowOf moment (itemAt items target) (at target)) → home (getD signer 1 0) (getD signer 2 0) items target ≡ true
       go (certificate f n j v lo hi on h) =
           let first : getD signer 1 0 ≡ f .first = ap (λ (r : Row). r .first) (is ∙ h) in
           let second : getD signer 2 0 ≡ f .second = ap (λ (r : Row). r .second) (is ∙ h) in
-          certificate-home (getD signer 1 0) (getD signer 2 0) s target f j (rw three)
+          certificate-home (getD signer 1 0) (getD signer 2 0) items target f j (rw three)
           ∙ rw (first, second, eq-eqb (f .first) (f .first) refl) (eq-eqb (f .second) (f .second) refl)
       go (list f n four j v h) = absurd (omega arith)
       go (neither x y z h) = absurd (some (ap (λ (r : Row). r .standing) (is ∙ h)))
 
   pub first-round :
-      (signer : List ℕ) {rows : List (List ℕ)} {counting roles : List ℕ} → n ≤ 96 → target < n → entryIn s target .kind ≡ 3
-      → rowFrom signer ≡ rowOf moment s (entryIn s target) → (getD signer 0 0 ≡ 0 → ⊥)
-      → Opens moment (getD signer 1 0) (getD signer 2 0) s n (set (replicate 96 0) target 1) near (set (replicate 96 (replicate 17 0)) target signer) rows
-      → Counted n table rows counting → Roles s n (replicate 96 0) rows counting (replicate 96 0) roles
-      → Round (getD signer 1 0) (getD signer 2 0) s table moment target 0 near rows counting roles
+      (signer : List ℕ) {rows : List (List ℕ)} {counting roles : List ℕ} → length items ≤ 96 → target < length items → itemAt items target .kind ≡ 3
+      → rowFrom signer ≡ rowOf moment (itemAt items target) (at target) → (getD signer 0 0 ≡ 0 → ⊥)
+      → Opens moment (getD signer 1 0) (getD signer 2 0) (length items) table items at (set (replicate 96 0) target 1) near (set (replicate 96 (replicate 17 0)) target signer) rows
+      → Counted (length items) table rows counting → Roles held (length items) (replicate 96 0) rows counting (replicate 96 0) roles
+      → Round (getD signer 1 0) (getD signer 2 0) items at table moment target 0 near rows counting roles
   first-round signer {rows} {counting} {roles} few h three is some opens counted known =
       let a = getD signer 1 0 in
       let b = getD signer 2 0 in
-      let told : Told a b moment s (entryCount s) near rows =
-      rw same at (told-next a b moment s n _ near _ rows (first-told a b signer h few three is) first-kept opens) in
-      let based : Based s (entryCount s) near = rw same at first-based in
-      let counts : Counts a b s table moment counting =
-      counting-means a b s table moment near rows told based counting (rw same at counted) in
+      let told = told-next a b items at table moment _ near _ rows (first-told a b signer h few three is) first-kept opens in
+      let scope = home-scope a b items table moment near first-based in
+      let counts = counting-means items at table moment scope rows told counting counted in
       record {
         told = told;
-        based = based;
+        based = first-based;
         counts = counts;
-        known = roles-mean a b s table moment near rows told based counting counts (replicate 96 0) (replicate 96 0) roles (rw same at known)
+        known = roles-mean items at table moment scope rows told held placed counting counts (replicate 96 0) (replicate 96 0) roles known
             (λ p k e. absurd (no-slots p e));
         country = row-home signer three is some;
         end = first-end h;
-        waiting = rw same at first-waiting;
+        waiting = first-waiting;
         reach = first-reach h;
       }
 
 -- a target whose row is blank has no chain
 pub no-row :
-    (s table : List ℕ) (moment target : ℕ) (signer : List ℕ) {f : Found} → target < entryCount s
-    → rowFrom signer ≡ rowOf moment s (entryIn s target) → getD signer 0 0 ≡ 0 → NoChain f → Answered (goodChains s table moment) target f
-unfolding chains usable
-no-row s table moment target signer h is zero empty =
+    (items : List Item) (at : ℕ → ℕ) (table : List ℕ) (moment target : ℕ) (signer : List ℕ) {f : Found}
+    → rowFrom signer ≡ rowOf moment (itemAt items target) (at target) → getD signer 0 0 ≡ 0 → NoChain f → Answered (goodOf items table moment) target f
+unfolding chains usable hasKind
+no-row items at table moment target signer is zero empty =
     none
     (λ c e.
     let usable = chain-target e .1 in
-    let kind = sym (kind-told s target h 3) ∙ first (hasKind (itemsIn s) 3 target) _ usable in
-    let times = sym (valid-told s target h moment) ∙ first (valid (itemsIn s) moment target) _ (second (hasKind (itemsIn s) 3 target) _ usable) in
-    let standing : rowOf moment s (entryIn s target) .standing ≡ 0 = ap (λ (r : Row). r .standing) (sym is) ∙ zero in
+    let kind = first (eqb (itemAt items target .kind) 3) _ usable in
+    let times = sym (valid-told items moment target) ∙ first (valid items moment target) _ (second (eqb (itemAt items target .kind) 3) _ usable) in
+    let standing : rowOf moment (itemAt items target) (at target) .standing ≡ 0 = ap (λ (r : Row). r .standing) (sym is) ∙ zero in
     false-true
     (ap (λ (m : ℕ). eqb m 3) (sym standing)
-    ∙ standing-signed (reading moment s (entryIn s target)) 3 (omega arith) (omega arith) ∙ both-true _ _ kind times))
+    ∙ standing-signed (reading moment (itemAt items target) (at target)) 3 (omega arith) (omega arith) ∙ both-true _ _ kind times))
     empty

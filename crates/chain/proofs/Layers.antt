@@ -10,9 +10,10 @@ use borrow.Author.Tests.{eqb-true, eqb-false}
 use lib.Dec.{eqb}
 use lib.ListN.{length, getD, set}
 use lib.Seq.{getD-set-same, getD-set-other}
-use Rattle.chain.specs.Near.{markedOf, ledOf, Near, Wider}
-use Rattle.chain.specs.Table.{verdictIn}
-use Rattle.chain.proofs.Booleans.{false-true}
+use Rattle.usable.specs.Rows.{ledOf}
+use Rattle.chain.specs.Near.{markedOf, Near, Wider}
+use Rattle.usable.specs.Table.{verdictIn}
+use Rattle.usable.proofs.Booleans.{false-true}
 
 -- a mark becomes 1, or stays
 marked-or-kept : (before verdict mark : ℕ) → (markedOf before verdict mark ≡ 1) ⊎ (markedOf before verdict mark ≡ mark)

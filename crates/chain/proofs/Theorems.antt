@@ -25,14 +25,16 @@ use Rattle.image.specs.Answer.{graded, openedOf}
 use Rattle.chain.specs.declared.asking.Asked.the-variants as asked
 use Rattle.chain.specs.declared.Answer.{Answer}
 use Rattle.chain.specs.declared.Outcome.the-variants.{Shown, Refused}
-use Rattle.chain.specs.Items.{itemAt, someBelow, somePlace}
-use Rattle.chain.specs.Usable.{valid, usableAnchor, counts, covers, lists, speaksOf, usable}
-use Rattle.chain.specs.Steps.{hasKind, fits, goodStep, chains}
-use Rattle.chain.specs.Table.{tableGood}
+use Rattle.usable.specs.Items.{itemAt, someBelow, somePlace}
+use Rattle.usable.specs.Usable.{valid, usableAnchor, counts, covers, lists, speaksOf, usable}
+use Rattle.chain.specs.Good.{chains}
+use Rattle.usable.specs.Steps.{hasKind, fits, goodStep}
+use Rattle.usable.specs.Table.{tableGood}
 use Rattle.chain.specs.Answer as answers
 use Rattle.chain.specs.Answer.{onImage, askedOf, goodChains, With, Answered}
 use Rattle.chain.specs.Demand.{Demanded}
 use Rattle.chain.proofs.Demands.{demands}
+use Rattle.chain.proofs.Homes.{step-verdict}
 
 both : (p q : Bool) → (p && q) ≡ true → (p ≡ true) × (q ≡ true)
 both true q e = (refl, e)
@@ -108,13 +110,7 @@ module _ (items : List Item) (verdict : ℕ → ℕ → Bool) (moment : ℕ) whe
 
   -- A step of a good chain has the chip's yes.
   pub step-verified : (u v : ℕ) → goodStep items verdict u v ≡ true → verdict u v ≡ true
-  unfolding goodStep
-  step-verified u v e =
-      let last = verdict u v && fits items u v in
-      let to = hasKind items 2 v || hasKind items 3 v in
-      let a = both (hasKind items 1 u || hasKind items 2 u) (to && last) e in
-      let b = both to last (a .1) in
-      both (verdict u v) (fits items u v) (b .1) .0
+  step-verified = step-verdict items verdict
 
   -- There is at most one best chain: two readers with the same items, verdicts and moment show the same.
   pub one-best :

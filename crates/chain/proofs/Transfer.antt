@@ -10,7 +10,7 @@ use lib.ListN.{length}
 use Rattle.graph.specs.declared.Found.{Found}
 use Rattle.graph.specs.Chains.{Graph, Onward, ends, goes, Chain, chain}
 use Rattle.graph.specs.Answer.{Answered, found, none}
-use Rattle.chain.proofs.Booleans.{second, both-true}
+use Rattle.usable.proofs.Booleans.{second, both-true}
 
 -- the same places, of the anchors, links and signers those that are near, and the same steps from an anchor or a link to a link or a
 -- signer

@@ -19,8 +19,8 @@ use Rattle.chain.specs.declared.asking.Asked.the-variants as asked
 use Rattle.chain.specs.declared.Answer.{Answer}
 use Rattle.chain.specs.declared.Outcome.{Outcome}
 use Rattle.chain.specs.declared.Outcome.the-variants.{Shown, Refused}
-use Rattle.chain.specs.Steps.{chains}
-use Rattle.chain.specs.Table.{verdictIn, tableGood}
+use Rattle.chain.specs.Good.{chains}
+use Rattle.usable.specs.Table.{verdictIn, tableGood}
 
 -- question order: image (5), table, moment, target place exists and is kind 3 (all 1)
 unfoldable pub onImage : List ℕ → List ℕ → ℕ → ℕ → Opened → Asked

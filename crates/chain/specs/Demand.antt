@@ -12,10 +12,10 @@ use Rattle.graph.specs.Chains.{Chain, NotLater}
 use Rattle.image.specs.Items.{Item}
 use Rattle.image.specs.Index.{entryCount, itemsIn}
 use Rattle.chain.specs.Answer.{goodChains}
-use Rattle.chain.specs.Items.{itemAt}
-use Rattle.chain.specs.Steps.{goodStep}
-use Rattle.chain.specs.Table.{verdictIn}
-use Rattle.chain.specs.Usable.{usable}
+use Rattle.usable.specs.Items.{itemAt}
+use Rattle.usable.specs.Steps.{goodStep}
+use Rattle.usable.specs.Table.{verdictIn}
+use Rattle.usable.specs.Usable.{usable}
 
 -- an anchor that is enabled, passes its profile, and has the moment within its times
 pub record EnabledAnchor (items : List Item) (moment place : ℕ) : Type 0 where

@@ -1,9 +1,5 @@
-pub mod Items
-pub mod Usable
-pub mod Steps
-pub mod Table
+pub mod Good
 pub mod Near
-pub mod Rows
-pub mod Home
+pub mod Rounds
 pub mod Answer
 pub mod Demand

@@ -6,10 +6,8 @@ use mathlib.Core.List.{List}
 use mathlib.Core.Logic.{_⊎_}
 use lib.Dec.{eqb}
 use lib.ListN.{getD}
-use Rattle.chain.specs.Table.{verdictIn}
-
-unfoldable pub isNear : List ℕ → ℕ → Bool
-isNear near place = eqb (getD near place 0) 1
+use Rattle.usable.specs.Rows.{ledOf}
+use Rattle.usable.specs.Table.{verdictIn}
 
 -- near now and not before
 unfoldable pub freshOf : ℕ → ℕ → Bool
@@ -22,10 +20,6 @@ firstOf target place kind = cond (eqb place target) 1 (cond (eqb kind 2) 2 (cond
 -- a link with verdict 1 is near
 unfoldable pub markedOf : ℕ → ℕ → ℕ → ℕ
 markedOf before verdict mark = cond (eqb before 2) (cond (eqb verdict 1) 1 mark) mark
-
--- role 2 or 3: a usable link or signer
-unfoldable pub ledOf : ℕ → Bool
-ledOf role = cond (eqb role 2) true (eqb role 3)
 
 -- some slots are 1 now, among them each link that has verdict 1 for a usable link or signer
 pub record Near (n : ℕ) (table roles before near : List ℕ) : Type 0 where

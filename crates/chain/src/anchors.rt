@@ -1,16 +1,16 @@
 // The steps from an anchor, and those to the target: fast paths before a search.
 use crate::matching::leads;
-use crate::matching::matched;
-use crate::opened::row_at;
 use graph::Found;
 use graph::no_chain;
 use octets::octet;
+use usable::matched;
 ghost use mathlib.Core.Path.{_≡_};
 ghost use mathlib.Core.Bool.{true, false};
 ghost use mathlib.Core.List.{[], _∷_, _++_};
 ghost use Prim.Native.Nat.{ℕ, _≤_, _<_};
 ghost use lib.ListN.{replicate};
-ghost use Rattle.chain.specs.Rows.{stepOf, Direct};
+ghost use Rattle.usable.specs.Rows.{heldIn, stepOf};
+ghost use Rattle.chain.specs.Rounds.{Direct};
 
 // The chain of the first anchor that has a good step to the target; length 0 where none has.
 pub(crate) fn direct_chain(
@@ -22,13 +22,13 @@ pub(crate) fn direct_chain(
     target: usize,
 ) -> Found
     requires { ⌜ (places ≤ 96) × (target < places) ⌝ }
-    ensures { λ r. ⌜ ((r .length ≡ 0 → ⊥) → Direct (now (image .entry)) places (now (table .entry)) (now (rows .entry)) roles target r) ⌝ }
+    ensures { λ r. ⌜ ((r .length ≡ 0 → ⊥) → Direct (heldIn (now (image .entry))) places (now (table .entry)) (now (rows .entry)) roles target r) ⌝ }
 {
     let mut u = 0;
     while u < places {
         if roles[u] == 1 {
             if octet(table, u * places + target) == 1 {
-                if matched(image, row_at(rows, u), row_at(rows, target), roles[target]) == 1 {
+                if matched(image, rows, u, target, roles[target]) == 1 {
                     return pair(u, target);
                 }
             }
@@ -61,7 +61,7 @@ pub(crate) fn begins(
     roles: [u8; 96],
 ) -> bool
     requires { ⌜ places ≤ 96 ⌝ }
-    ensures { λ r. ⌜ (r ≡ true → (u : ℕ) × (v : ℕ) × (stepOf (now (image .entry)) places (now (table .entry)) (now (rows .entry)) roles u v ≡ true)) ⌝ }
+    ensures { λ r. ⌜ (r ≡ true → (u : ℕ) × (v : ℕ) × (stepOf (heldIn (now (image .entry))) places (now (table .entry)) (now (rows .entry)) roles u v ≡ true)) ⌝ }
 {
     let mut u = 0;
     while u < places {
@@ -70,7 +70,7 @@ pub(crate) fn begins(
             while v < places {
                 if roles[v] == 2 {
                     if octet(table, u * places + v) == 1 {
-                        if matched(image, row_at(rows, u), row_at(rows, v), 2) == 1 {
+                        if matched(image, rows, u, v, 2) == 1 {
                             return true;
                         }
                     }
@@ -93,13 +93,13 @@ pub(crate) fn led_to(
     target: usize,
 ) -> bool
     requires { ⌜ (places ≤ 96) × (target < places) ⌝ }
-    ensures { λ r. ⌜ (r ≡ false → (u : ℕ) → u < places → stepOf (now (image .entry)) places (now (table .entry)) (now (rows .entry)) roles u target ≡ false) ⌝ }
+    ensures { λ r. ⌜ (r ≡ false → (u : ℕ) → u < places → stepOf (heldIn (now (image .entry))) places (now (table .entry)) (now (rows .entry)) roles u target ≡ false) ⌝ }
 {
     let mut u = 0;
     while u < places {
         if leads(roles[u]) {
             if octet(table, u * places + target) == 1 {
-                if matched(image, row_at(rows, u), row_at(rows, target), roles[target]) == 1 {
+                if matched(image, rows, u, target, roles[target]) == 1 {
                     return true;
                 }
             }

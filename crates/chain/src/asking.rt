@@ -7,7 +7,7 @@ use refusal::Refusal;
 ghost use mathlib.Core.Path.{_≡_};
 ghost use Prim.Native.Nat.{_≤_};
 ghost use Rattle.chain.specs.Answer.{askedOf};
-ghost use Rattle.chain.specs.Table.{bits, tableGood};
+ghost use Rattle.usable.specs.Table.{bits, tableGood};
 
 // The number of places that it is asked over.
 pub enum Asked {

@@ -1,15 +1,9 @@
 // The chain from an enabled anchor to a document signer at a moment: the shortest, and of those the first.
 mod anchors;
 mod asking;
-mod certificates;
-mod counting;
-mod countries;
-mod lists;
 mod matching;
 mod near;
-mod opened;
 mod opening;
-mod roles;
 mod rounds;
 
 use asking::Asked;

@@ -1,20 +1,22 @@
 // The items of the places that are near, each opened once.
-use crate::certificates::certificate_row;
-use crate::countries::home;
-use crate::lists::list_row;
-use image::IndexEntry;
 use image::entry_in;
 use octets::part;
+use usable::of_country;
+use usable::open_item;
 ghost use mathlib.Core.Path.{_≡_};
-ghost use Prim.Native.Nat.{_≤_};
+ghost use Prim.Native.Nat.{_≤_, _<_};
+ghost use mathlib.Core.List.{List};
 ghost use lib.ListN.{length};
+ghost use Rattle.image.specs.Items.{Item};
+ghost use Rattle.image.specs.Index.{entryCount, itemsIn};
+ghost use Rattle.usable.specs.Items.{itemAt};
 ghost use Rattle.chain.specs.Near.{freshOf};
-ghost use Rattle.chain.specs.Home.{wantedOf, Opens};
-ghost use Rattle.chain.specs.Rows.{rowFrom, rowOf};
+ghost use Rattle.chain.specs.Rounds.{startsIn, speaksUp, wantedOf, Opens};
 
 // The rows of the places that were not near before; the others stay as they are.
 pub(crate) fn open_items(
     image: &[u8],
+    table: &[u8],
     places: usize,
     moment: u64,
     first: usize,
@@ -23,15 +25,16 @@ pub(crate) fn open_items(
     near: [u8; 96],
     rows: &mut [[usize; 17]; 96],
 )
-    requires { ⌜ (places ≤ 96) × (length (now rows) ≡ 96) ⌝ }
-    ensures { λ r. ⌜ (length (now (rows .exit)) ≡ 96) × Opens moment first second (now (image .entry)) places before near (now (rows .entry)) (now (rows .exit)) ⌝ }
+    requires { ⌜ (places ≡ entryCount (now image)) × (places ≤ 96) × (length (now rows) ≡ 96) ⌝ }
+    ensures { λ r. ⌜ (length (now (rows .exit)) ≡ 96) × Opens moment first second places (now (table .entry)) (itemsIn (now (image .entry))) (startsIn (now (image .entry))) before near (now (rows .entry)) (now (rows .exit)) ⌝ }
 {
     let mut place = 0;
     while place < places {
         if fresh(before[place], near[place]) {
             let e = entry_in(image, place);
-            if wanted(image, e, first, second) {
-                let row = open_item(image, e, moment);
+            let item = part(image, e.offset, e.length);
+            if wanted(table, places, place, item, e.kind, first, second) {
+                let row = open_item(item, e.kind, e.flags, e.offset, moment);
                 rows[place] = row;
             }
         }
@@ -52,31 +55,45 @@ fn fresh(before: u8, near: u8) -> bool
     true
 }
 
-// What is of another country stays shut; of links and the target it is not asked.
-fn wanted(image: &[u8], e: IndexEntry, first: usize, second: usize) -> bool
-    ensures { λ r. ⌜ r ≡ wantedOf first second (now (image .entry)) e ⌝ }
+// What is of another country stays shut, and an anchor from which no verdict leads on; of links and the target it is not asked.
+fn wanted(
+    table: &[u8],
+    places: usize,
+    place: usize,
+    item: &[u8],
+    kind: usize,
+    first: usize,
+    second: usize,
+) -> bool
+    requires { ⌜ (places ≤ 96) × (place < places) ⌝ }
+    ensures { λ r. ⌜ ((items : List Item) → itemAt items place .kind ≡ kind → itemAt items place .bytes ≡ now (item .entry) → r ≡ wantedOf first second places (now (table .entry)) items place) ⌝ }
 {
-    if e.kind == 2 {
+    if kind == 2 {
         return true;
     }
-    if e.kind == 3 {
+    if kind == 3 {
         return true;
     }
-    home(image, e, first, second)
-}
-
-// A disabled anchor is not opened.
-pub(crate) fn open_item(image: &[u8], e: IndexEntry, moment: u64) -> [usize; 17]
-    ensures { λ r. ⌜ rowFrom r ≡ rowOf moment (now (image .entry)) e ⌝ }
-{
-    let item = part(image, e.offset, e.length);
-    if e.kind == 4 {
-        return list_row(item, e, moment);
-    }
-    if e.kind == 1 {
-        if e.flags != 1 {
-            return [0; 17];
+    if kind == 1 {
+        if !speaks_up(table, places, place) {
+            return false;
         }
     }
-    certificate_row(item, e, moment)
+    of_country(item, kind, first, second)
+}
+
+// Whether the place has verdict 1 for some other.
+fn speaks_up(table: &[u8], places: usize, place: usize) -> bool
+    requires { ⌜ (places ≤ 96) × (place < places) ⌝ }
+    ensures { λ r. ⌜ r ≡ speaksUp places (now (table .entry)) place ⌝ }
+{
+    let line = part(table, place * places, places);
+    let mut v = 0;
+    while v < line.len() {
+        if line[v] == 1 {
+            return true;
+        }
+        v += 1;
+    }
+    false
 }

@@ -2,27 +2,30 @@
 use crate::anchors::begins;
 use crate::anchors::direct_chain;
 use crate::anchors::led_to;
-use crate::counting::counting_lists;
 use crate::matching::matching_steps;
 use crate::near::LAST;
 use crate::near::near_first;
 use crate::near::near_next;
 use crate::near::unchanged;
-use crate::opening::open_item;
 use crate::opening::open_items;
-use crate::roles::roles_of;
 use graph::Found;
 use graph::chain_to;
 use graph::no_chain;
 use image::entry_in;
+use octets::part;
+use usable::counting_lists;
+use usable::open_item;
+use usable::roles_of;
 ghost use mathlib.Core.Path.{_≡_};
 ghost use mathlib.Core.Bool.{true};
 ghost use Prim.Native.Nat.{_≤_, _<_};
 ghost use lib.ListN.{getD};
 ghost use Rattle.chain.specs.Answer.{goodChains};
-ghost use Rattle.chain.specs.Rows.{rowFrom, rowOf, Searched, enoughOf};
+ghost use Rattle.usable.specs.Items.{itemAt};
+ghost use Rattle.usable.specs.Rows.{rowFrom, rowOf, heldIn};
+ghost use Rattle.chain.specs.Rounds.{startsIn, Searched, enoughOf};
 ghost use Rattle.graph.specs.Answer as search;
-ghost use Rattle.image.specs.Index.{entryCount, entryIn};
+ghost use Rattle.image.specs.Index.{entryCount, entryIn, itemsIn};
 
 // The target is opened first: where it cannot stand in a chain there is none.
 pub(crate) fn chain_among(
@@ -35,7 +38,9 @@ pub(crate) fn chain_among(
     requires { ⌜ (places ≡ entryCount (now image)) × (places ≤ 96) × (target < places) × (entryIn (now image) target .kind ≡ 3) ⌝ }
     ensures { λ r. ⌜ search.Answered (goodChains (now (image .entry)) (now (table .entry)) moment) target r ⌝ }
 {
-    let signer = open_item(image, entry_in(image, target), moment);
+    let e = entry_in(image, target);
+    let item = part(image, e.offset, e.length);
+    let signer = open_item(item, e.kind, e.flags, e.offset, moment);
     if signer[0] == 0 {
         return no_chain();
     }
@@ -54,7 +59,7 @@ fn chain_home(
     target: usize,
     signer: [usize; 17],
 ) -> Found
-    requires { ⌜ (places ≡ entryCount (now image)) × (places ≤ 96) × (target < places) × (entryIn (now image) target .kind ≡ 3) × (rowFrom signer ≡ rowOf moment (now image) (entryIn (now image) target)) × (getD signer 0 0 ≡ 0 → ⊥) ⌝ }
+    requires { ⌜ (places ≡ entryCount (now image)) × (places ≤ 96) × (target < places) × (entryIn (now image) target .kind ≡ 3) × (rowFrom signer ≡ rowOf moment (itemAt (itemsIn (now image)) target) (startsIn (now image) target)) × (getD signer 0 0 ≡ 0 → ⊥) ⌝ }
     ensures { λ r. ⌜ search.Answered (goodChains (now (image .entry)) (now (table .entry)) moment) target r ⌝ }
 {
     let nothing = [0u8; 96];
@@ -67,6 +72,7 @@ fn chain_home(
     let mut near = near_first(image, places, target);
     open_items(
         image,
+        table,
         places,
         moment,
         first,
@@ -92,7 +98,17 @@ fn chain_home(
         if unchanged(places, near, wider) {
             return searched(image, table, places, &rows, roles, target);
         }
-        open_items(image, places, moment, first, second, near, wider, &mut rows);
+        open_items(
+            image,
+            table,
+            places,
+            moment,
+            first,
+            second,
+            near,
+            wider,
+            &mut rows,
+        );
         let known = roles_of(image, places, near, &rows, counting, roles);
         if !led_to(image, table, places, &rows, known, target) {
             return no_chain();
@@ -151,7 +167,7 @@ fn searched(
     target: usize,
 ) -> Found
     requires { ⌜ places ≤ 96 ⌝ }
-    ensures { λ r. ⌜ Searched (now (image .entry)) places (now (table .entry)) (now (rows .entry)) roles target r ⌝ }
+    ensures { λ r. ⌜ Searched (heldIn (now (image .entry))) places (now (table .entry)) (now (rows .entry)) roles target r ⌝ }
 {
     let steps = matching_steps(image, table, places, rows, roles);
     chain_to(places, &roles, &steps, target)

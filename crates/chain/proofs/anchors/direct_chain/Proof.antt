@@ -8,8 +8,8 @@ use native.Mathlib.Nat.{mul-le-mul}
 use native.Mathlib.Omega.{arith}
 use borrow.Author.Needs.{needs}
 use lib.ListN.{getD}
-use Rattle.chain.specs.Rows.{stepOf}
-use Rattle.chain.proofs.RowLaws.{none-more, flag-true, flag-false, leads-anchor, step-asked, step-unasked}
+use Rattle.usable.specs.Rows.{heldIn, stepOf}
+use Rattle.usable.proofs.RowLaws.{none-more, flag-true, flag-false, leads-anchor, step-asked, step-unasked}
 use Rattle.chain.proofs.anchors.direct_chain.Statement.{statement}
 use Rattle.chain.proofs.anchors.direct_chain.Tie as tie
 
@@ -18,7 +18,7 @@ record Turn (image table : List ℕ) (places : ℕ) (rows : List (List ℕ)) (ta
   small : places ≤ 96
   there : target < places
   inside : u ≤ places
-  none : (w : ℕ) → w < u → getD roles w 0 ≡ 1 → stepOf image places table rows roles w target ≡ false
+  none : (w : ℕ) → w < u → getD roles w 0 ≡ 1 → stepOf (heldIn image) places table rows roles w target ≡ false
 
 abbrev Inv-loop : tie.InvT-loop
 Inv-loop image table places rows target roles u₀ u = Turn image table places rows target roles u
@@ -43,36 +43,27 @@ add-octet c =
     let i = c .before .before .loop .inv in
     omega (arith, i .small, i .there, few (i .small) (c .before .loop-test .taken))
 
-row-at-requires : tie.Need-row-at-requires Inv-loop μ-loop
-row-at-requires c κs = omega (arith, c .before .before .before .before .loop .inv .small, c .before .before .before .loop-test .taken)
-
-row-at-requires-2 : tie.Need-row-at-requires-2 Inv-loop μ-loop
-row-at-requires-2 c κs = let t = c .before .before .before .before in let i = t .before .loop .inv in omega (arith, i .small, i .there)
-
 array-read-matched : tie.Need-array-read-matched Inv-loop μ-loop
-array-read-matched c = let t = c .before .before .before in let i = t .before .before .before .loop .inv in omega (arith, i .small, i .there)
+array-read-matched c = omega (arith, c .before .before .before .before .loop .inv .small, c .before .before .before .before .loop .inv .there)
 
 pair-requires : tie.Need-pair-requires Inv-loop μ-loop
 pair-requires c κs =
-    let a = c .before .before .before .before in
-    let t = a .before .before .before in
-    let i = t .before .loop .inv in
-    (omega (arith, i .small, t .loop-test .taken), omega (arith, i .small, i .there))
+    let i = c .before .before .before .before .before .before .loop .inv in (omega (arith, i .small, c .before .before .before .before .before .loop-test .taken), omega (arith, i .small, i .there))
 
 returns : tie.Need-returns Inv-loop μ-loop
 returns c =
-    let from = c .before .before .before .before in
-    let one = from .before .before .before in
-    let t = one .before in
+    let i = c .before .before .before .before .before .before .before .loop .inv in
+    let here : c .before .before .before .before .before .before .before .loop .u < 96 = omega (arith, i .small, c .before .before .before .before .before .before .loop-test .taken) in
     λ z. record {
-      from = t .before .loop .u;
-      inside = t .loop-test .taken;
-      anchor = one .if1 .taken;
+      from = c .before .before .before .before .before .before .before .loop .u;
+      inside = c .before .before .before .before .before .before .loop-test .taken;
+      anchor = c .before .before .before .before .before .if1 .taken;
       good =
           flag-true _
-          (step-asked _ _ _ _ _ _ _ (from .row-at .ensures) (c .before .before .before .row-at2 .ensures) refl refl (leads-anchor (one .if1 .taken)) (from .before .before .octet .ensures) (from .before .if2 .taken) (c .before .before .matched .ensures))
+          (step-asked _ _ _ _ _ _ _ refl refl refl refl (leads-anchor (c .before .before .before .before .before .if1 .taken)) (c .before .before .before .before .octet .ensures) (c .before .before .before .if2 .taken)
+          (c .before .before .matched .ensures .0 here (omega (arith, i .small, i .there))))
           (c .before .if3 .taken);
-      first = t .before .loop .inv .none;
+      first = i .none;
       count = c .pair .ensures .0;
       slots = c .pair .ensures .1;
     }
@@ -86,6 +77,8 @@ loop-less c = omega (arith, c .before .loop-test .taken)
 loop-again : tie.Need-loop-again Inv-loop μ-loop
 loop-again c =
     let i = c .before .before .loop .inv in
+    let here : c .before .before .loop .u < 96 = omega (arith, i .small, c .before .loop-test .taken) in
+    let there : c .before .before .before .before .before .args .target < 96 = omega (arith, i .small, i .there) in
     record {
       small = i .small;
       there = i .there;
@@ -94,7 +87,7 @@ loop-again c =
           none-more _ _ _ _ _ _ _ (i .none)
           (λ one.
           ⊎-elim
-          (λ w. flag-false _ (step-asked _ _ _ _ _ _ _ (w .3 .ensures) (w .4 .ensures) refl refl (leads-anchor one) (w .1 .ensures) (w .2 .taken) (w .5 .ensures)) (w .6 .left))
+          (λ w. flag-false _ (step-asked _ _ _ _ _ _ _ refl refl refl refl (leads-anchor one) (w .1 .ensures) (w .2 .taken) (w .3 .ensures .0 here there)) (w .4 .left))
           (λ k.
           ⊎-elim
           (λ w. flag-false _ (step-unasked _ _ _ _ _ _ _ refl (leads-anchor one) (w .1 .ensures) (w .2 .left)) (λ (z : 0 ≡ 1). omega arith))
@@ -116,8 +109,6 @@ direct-chain-spec =
     mul-octet
     add-octet
     (λ c κs. search needs)
-    row-at-requires
-    row-at-requires-2
     array-read-matched
     (λ c κs. search needs)
     pair-requires

@@ -7,14 +7,14 @@ use native.Mathlib.Nat.{mul-le-mul}
 use native.Mathlib.Omega.{arith}
 use borrow.Author.Count.{below-more}
 use borrow.Author.Needs.{needs}
-use Rattle.chain.specs.Rows.{stepOf}
-use Rattle.chain.proofs.RowLaws.{flag-false, step-asked, step-unasked, step-unled}
+use Rattle.usable.specs.Rows.{heldIn, stepOf}
+use Rattle.usable.proofs.RowLaws.{flag-false, step-asked, step-unasked, step-unled}
 use Rattle.chain.proofs.anchors.led_to.Statement.{statement}
 use Rattle.chain.proofs.anchors.led_to.Tie as tie
 
 abbrev Inv-loop : tie.InvT-loop
 Inv-loop image table places rows target roles u₀ u =
-    (places ≤ 96) × (target < places) × (u ≤ places) × ((w : ℕ) → w < u → stepOf image places table rows roles w target ≡ false)
+    (places ≤ 96) × (target < places) × (u ≤ places) × ((w : ℕ) → w < u → stepOf (heldIn image) places table rows roles w target ≡ false)
 
 abbrev μ-loop : tie.MeasureT-loop
 μ-loop image table places rows target roles u₀ u = places - u
@@ -37,14 +37,8 @@ add-octet c =
     let i = t .before .loop .inv in
     omega (arith, i .0, i .1, few (i .0) (t .loop-test .taken))
 
-row-at-requires : tie.Need-row-at-requires Inv-loop μ-loop
-row-at-requires c κs = let t = c .before .before .before .before in omega (arith, t .before .loop .inv .0, t .loop-test .taken)
-
-row-at-requires-2 : tie.Need-row-at-requires-2 Inv-loop μ-loop
-row-at-requires-2 c κs = let t = c .before .before .before .before in let i = t .before .before .loop .inv in omega (arith, i .0, i .1)
-
 array-read-matched : tie.Need-array-read-matched Inv-loop μ-loop
-array-read-matched c = let t = c .before .before .before .before in let i = t .before .before .before .loop .inv in omega (arith, i .0, i .1)
+array-read-matched c = omega (arith, c .before .before .before .before .before .loop .inv .0, c .before .before .before .before .before .loop .inv .1)
 
 returns : tie.Need-returns Inv-loop μ-loop
 returns c = λ e. absurd (let z : _≡_ {A = ℕ} 0 1 = cc in omega arith)
@@ -59,13 +53,15 @@ loop-again : tie.Need-loop-again Inv-loop μ-loop
 loop-again c =
     let t = c .before .before in
     let i = t .before .loop .inv in
-    let leads = sym (c .before .leads .ensures) in (
+    let leads = sym (c .before .leads .ensures) in
+    let here : t .before .loop .u < 96 = omega (arith, i .0, t .loop-test .taken) in
+    let there : c .before .before .before .before .before .before .args .target < 96 = omega (arith, i .0, i .1) in (
       i .0,
       i .1,
       omega (arith, t .loop-test .taken),
       below-more _ _ (i .3)
           (⊎-elim
-          (λ w. flag-false _ (step-asked _ _ _ _ _ _ _ (w .3 .ensures) (w .4 .ensures) refl refl (leads ∙ w .0 .taken) (w .1 .ensures) (w .2 .taken) (w .5 .ensures)) (w .6 .left))
+          (λ w. flag-false _ (step-asked _ _ _ _ _ _ _ refl refl refl refl (leads ∙ w .0 .taken) (w .1 .ensures) (w .2 .taken) (w .3 .ensures .0 here there)) (w .4 .left))
           (λ k.
           ⊎-elim
           (λ w. flag-false _ (step-unasked _ _ _ _ _ _ _ refl (leads ∙ w .0 .taken) (w .1 .ensures) (w .2 .left)) (λ (z : 0 ≡ 1). omega arith))
@@ -88,8 +84,6 @@ led-to-spec =
     mul-octet
     add-octet
     (λ c κs. search needs)
-    row-at-requires
-    row-at-requires-2
     array-read-matched
     (λ c κs. search needs)
     returns

@@ -6,7 +6,7 @@ use mathlib.Core.Logic.{⊎-elim}
 use native.Mathlib.Omega.{arith}
 use lib.Dec.{leb}
 use lib.ListN.{length, drop, drop-of-length-le}
-use Rattle.chain.specs.Table.{bits}
+use Rattle.usable.specs.Table.{bits}
 use Rattle.chain.proofs.Bits.{bits-more, larger-is, larger-was}
 use Rattle.chain.proofs.asking.all_bits.Statement.{statement}
 use Rattle.chain.proofs.asking.all_bits.Tie as tie

@@ -3,7 +3,7 @@ use Prim.Native.Nat.{_*_, _≤_}
 use native.Mathlib.Nat.{mul-le-mul}
 use native.Mathlib.Omega.{arith}
 use borrow.Author.Tests.{eq-eqb, ne-eqb}
-use Rattle.chain.specs.Table.{tableGood}
+use Rattle.usable.specs.Table.{tableGood}
 use borrow.Author.Needs.{needs}
 use Rattle.chain.proofs.asking.table_good.Statement.{statement}
 use Rattle.chain.proofs.asking.table_good.Tie as tie

@@ -1,6 +1,6 @@
 -- Each test answers one of the definition's.
 use borrow.Author.Tests.{eq-eqb, ne-eqb}
-use Rattle.chain.specs.Rows.{leadsOf}
+use Rattle.usable.specs.Rows.{leadsOf}
 use Rattle.chain.proofs.matching.leads.Statement.{statement}
 use Rattle.chain.proofs.matching.leads.Tie as tie
 

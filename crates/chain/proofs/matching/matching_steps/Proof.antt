@@ -1,126 +1,150 @@
 -- The inner loop fills one cell more, the outer one a row more.
 use Prim.Native.Nat.{ℕ, _-_, _*_, _+_, _≤_, _<_}
 use mathlib.Core.Path.{_≡_, refl, sym, _∙_}
+use mathlib.Core.Bool.{true}
+use mathlib.Core.List.{List}
 use mathlib.Core.Logic.{⊎-elim}
 use native.Mathlib.Nat.{mul-le-mul}
 use native.Mathlib.Omega.{arith}
 use borrow.Author.Needs.{needs}
-use lib.ListN.{length, length-set, length-replicate}
-use Rattle.chain.specs.Rows.{flag, stepOf}
-use Rattle.chain.proofs.Slots.{empty-slots}
+use lib.ListN.{length, getD, take, drop, length-set, length-replicate}
+use Rattle.usable.specs.Rows.{heldIn, flag, leadsOf, stepOf}
+use Rattle.usable.proofs.Slots.{empty-slots}
+use Rattle.usable.proofs.RowLaws.{line-read, line-short, line-past, step-asked, step-unasked, step-unled}
 use Rattle.chain.proofs.Cells.{Cells, cell-set, cell-left, row-rest, row-left}
-use Rattle.chain.proofs.RowLaws.{line-read, line-short, line-past, step-asked, step-unasked, step-unled}
 use Rattle.chain.proofs.matching.matching_steps.Statement.{statement}
 use Rattle.chain.proofs.matching.matching_steps.Tie as tie
 
+-- the cells before row u and column v are those of the steps
+abbrev Filled : List ℕ → ℕ → List ℕ → List (List ℕ) → List ℕ → List ℕ → ℕ → ℕ → Type 0
+Filled image places table rows roles steps u v =
+    (length steps ≡ 9216) × Cells (λ w x. flag (stepOf (heldIn image) places table rows roles w x)) places steps u v
+
+-- the line of a place that leads on, read up to v
+record Line (places : ℕ) (table roles : List ℕ) (u : ℕ) (line : List ℕ) (v : ℕ) : Type 0 where
+  small : places ≤ 96
+  place : u < places
+  leads : leadsOf (getD roles u 0) ≡ true
+  is : line ≡ take places (drop (u * places) table)
+  read : v ≤ length line
+
 abbrev Inv-loop2 : tie.InvT-loop2
-Inv-loop2 image table places rows roles steps₀ u from line v₀ steps v = (v ≤ length line) × (length steps ≡ 9216) × Cells (λ w x. flag (stepOf image places table rows roles w x)) places steps u v
+Inv-loop2 image table places rows roles steps₀ u line v₀ steps v = Line places table roles u line v × Filled image places table rows roles steps u v
 
 abbrev μ-loop2 : tie.MeasureT-loop2
-μ-loop2 image table places rows roles steps₀ u from line v₀ steps v = length line - v
+μ-loop2 image table places rows roles steps₀ u line v₀ steps v = length line - v
 
 abbrev Inv-loop : tie.InvT-loop
-Inv-loop image table places rows roles steps₀ u₀ steps u = (u ≤ places) × (length steps ≡ 9216) × Cells (λ w x. flag (stepOf image places table rows roles w x)) places steps u 0
+Inv-loop image table places rows roles steps₀ u₀ steps u = (places ≤ 96) × (u ≤ places) × Filled image places table rows roles steps u 0
 
 abbrev μ-loop : tie.MeasureT-loop
 μ-loop image table places rows roles steps₀ u₀ steps u = places - u
 
+-- a column of the line is a place
+column : {places : ℕ} {table roles : List ℕ} {u : ℕ} {line : List ℕ} {v : ℕ} → Line places table roles u line v → v < length line → v < places
+column {places} {table} {roles} {u} l h = let k = line-short table places u (l .is) in omega (arith, k)
+
 loop-holds : tie.Need-loop-holds Inv-loop2 μ-loop2 Inv-loop μ-loop
-loop-holds c = (omega arith, length-replicate {A = ℕ} 9216 0, record { before = λ w x k h. absurd (omega arith); behind = λ w x k h. empty-slots 9216 (w * 96 + x) })
+loop-holds c = (
+  c .before .before .pre,
+  omega arith,
+  (
+    length-replicate {A = ℕ} 9216 0,
+    record { before = λ w x k h. absurd (omega arith); behind = λ w x k h. empty-slots 9216 (w * 96 + x) },
+  ),
+)
 
 array-read-leads : tie.Need-array-read-leads Inv-loop2 μ-loop2 Inv-loop μ-loop
-array-read-leads c = omega (arith, c .before .before .before .before .pre, c .loop-test .taken)
-
-row-at-requires : tie.Need-row-at-requires Inv-loop2 μ-loop2 Inv-loop μ-loop
-row-at-requires c κs =
-    let back4 = c .before .before .before .before in
-    omega (arith, back4 .before .before .pre, c .before .before .loop-test .taken)
+array-read-leads c = omega (arith, c .before .loop .inv .0, c .loop-test .taken)
 
 mul-part : tie.Need-mul-part Inv-loop2 μ-loop2 Inv-loop μ-loop
 mul-part c =
-    let back4 = c .before .before .before .before in
-    let m : c .before .before .before .before .loop .u * back4 .before .before .before .args .places ≤ 96 * 96 = mul-le-mul {n₂ = 96} {m₂ = 96} (omega (arith, back4 .before .before .before .pre, c .before .before .before .loop-test .taken)) (omega (arith, back4 .before .before .before .pre)) in omega (arith, m)
+    let small = c .before .before .before .loop .inv .0 in
+    let most : c .before .before .before .loop .u * c .before .before .before .before .before .before .args .places ≤ 96 * 96 = mul-le-mul {n₂ = 96} {m₂ = 96} (omega (arith, small, c .before .before .loop-test .taken)) small in
+    omega (arith, most)
 
 loop2-holds : tie.Need-loop2-holds Inv-loop2 μ-loop2 Inv-loop μ-loop
-loop2-holds c =
-    let back4 = c .before .before .before .before in
-    (omega arith, back4 .before .loop .inv .1, back4 .before .loop .inv .2)
+loop2-holds c = (
+  record {
+    small = c .before .before .before .before .loop .inv .0;
+    place = c .before .before .before .loop-test .taken;
+    leads = sym (c .before .before .leads .ensures) ∙ c .before .if1 .taken;
+    is = c .part .ensures;
+    read = omega arith;
+  },
+  c .before .before .before .before .loop .inv .2,
+)
 
 shared-slice-read-if2 : tie.Need-shared-slice-read-if2 Inv-loop2 μ-loop2 Inv-loop μ-loop
 shared-slice-read-if2 c = omega (arith, c .before .loop2-test .taken)
 
-row-at-requires-2 : tie.Need-row-at-requires-2 Inv-loop2 μ-loop2 Inv-loop μ-loop
-row-at-requires-2 c κs =
-    let back4 = c .before .before .before .before in
-    let back8 = back4 .before .before .before .before in
-    let back12 = back8 .before .before .before .before in
-    let k = line-short (back12 .args .table .now) (back12 .args .places) (back8 .before .loop .u) (c .before .before .before .before .part .ensures) in omega (arith, k, back12 .pre, c .before .before .loop2-test .taken)
-
 array-read-matched : tie.Need-array-read-matched Inv-loop2 μ-loop2 Inv-loop μ-loop
-array-read-matched c =
-    let back4 = c .before .before .before .before in
-    let back8 = back4 .before .before .before .before in
-    let back12 = back8 .before .before .before .before in
-    let k = line-short (back12 .before .args .table .now) (back12 .before .args .places) (back8 .before .before .loop .u) (back4 .before .part .ensures) in omega (arith, k, back12 .before .pre, c .before .before .before .loop2-test .taken)
+array-read-matched c = let l = c .before .before .before .loop2 .inv .0 in omega (arith, column l (c .before .before .loop2-test .taken), l .small)
 
 mul-steps : tie.Need-mul-steps Inv-loop2 μ-loop2 Inv-loop μ-loop
-mul-steps c =
-    let back4 = c .before .before .before .before in
-    let back8 = back4 .before .before .before .before in
-    let back12 = back8 .before .before .before .before in
-    let k = line-short (back12 .before .before .args .table .now) (back12 .before .before .args .places) (back8 .before .before .before .loop .u) (back4 .before .before .part .ensures) in omega (arith, k, back12 .before .before .pre, back8 .before .before .loop-test .taken, c .before .before .before .before .loop2-test .taken)
+mul-steps c = let l = c .before .before .before .before .loop2 .inv .0 in omega (arith, l .small, l .place)
 
 add-steps : tie.Need-add-steps Inv-loop2 μ-loop2 Inv-loop μ-loop
-add-steps c =
-    let back4 = c .before .before .before .before in
-    let back8 = back4 .before .before .before .before in
-    let back12 = back8 .before .before .before .before in
-    let k = line-short (back12 .before .before .args .table .now) (back12 .before .before .args .places) (back8 .before .before .before .loop .u) (back4 .before .before .part .ensures) in omega (arith, k, back12 .before .before .pre, back8 .before .before .loop-test .taken, c .before .before .before .before .loop2-test .taken)
+add-steps c = let l = c .before .before .before .before .loop2 .inv .0 in omega (arith, l .small, l .place, column l (c .before .before .before .loop2-test .taken))
 
 array-write-steps : tie.Need-array-write-steps Inv-loop2 μ-loop2 Inv-loop μ-loop
-array-write-steps c =
-    let back4 = c .before .before .before .before in
-    let back8 = back4 .before .before .before .before in
-    let back12 = back8 .before .before .before .before in
-    let k = line-short (back12 .before .before .args .table .now) (back12 .before .before .args .places) (back8 .before .before .before .loop .u) (back4 .before .before .part .ensures) in omega (arith, k, back12 .before .before .pre, back8 .before .before .loop-test .taken, c .before .before .before .before .loop2-test .taken)
+array-write-steps c = let l = c .before .before .before .before .loop2 .inv .0 in omega (arith, l .small, l .place, column l (c .before .before .before .loop2-test .taken))
 
 add-v : tie.Need-add-v Inv-loop2 μ-loop2 Inv-loop μ-loop
-add-v c =
-    let back4 = c .before .before .before .before in
-    let back8 = back4 .before .before .before .before in
-    let back12 = back8 .before .before .before .before in
-    let k = line-short (back12 .args .table .now) (back12 .args .places) (back8 .before .loop .u) (c .before .before .before .before .part .ensures) in omega (arith, k, back12 .pre, c .before .before .loop2-test .taken)
+add-v c = let l = c .before .before .before .loop2 .inv .0 in omega (arith, l .small, column l (c .before .before .loop2-test .taken))
 
 loop2-less : tie.Need-loop2-less Inv-loop2 μ-loop2 Inv-loop μ-loop
 loop2-less c = omega (arith, c .before .before .loop2-test .taken)
 
 loop2-again : tie.Need-loop2-again Inv-loop2 μ-loop2 Inv-loop μ-loop
 loop2-again c =
-    let back4 = c .before .before .before .before in
-    let back8 = back4 .before .before .before .before in
-    let back12 = back8 .before .before .before .before in
-    let inside : c .before .before .before .loop2 .v < back12 .args .places = (let k = line-short (back12 .args .table .now) (back12 .args .places) (back8 .before .loop .u) (c .before .before .before .before .part .ensures) in omega (arith, k, c .before .before .loop2-test .taken)) in (omega (arith, c .before .before .loop2-test .taken), ⊎-elim (λ w. rw (w .3, length-set) (c .before .before .before .loop2 .inv .1)) (λ w. rw (w .1) (c .before .before .before .loop2 .inv .1)) (c .if2 .came), ⊎-elim (λ w. rw (w .3) (cell-set (back12 .pre) (c .before .before .before .loop2 .inv .2) inside (omega (arith, c .before .before .before .loop2 .inv .1, back12 .pre, back8 .loop-test .taken, inside)) (step-asked _ _ _ _ _ _ _ (back4 .before .row-at .ensures) (w .1 .ensures) refl refl (sym (back4 .before .before .before .leads .ensures) ∙ back4 .before .before .if1 .taken) (line-read (back12 .args .table .now) (back12 .args .places) (back8 .before .loop .u) (c .before .before .before .loop2 .v) (c .before .before .before .before .part .ensures) inside) (w .0 .taken) (w .2 .ensures)))) (λ w. rw (w .1) (cell-left (back12 .pre) (c .before .before .before .loop2 .inv .2) inside (step-unasked _ _ _ _ _ _ _ refl (sym (back4 .before .before .before .leads .ensures) ∙ back4 .before .before .if1 .taken) (line-read (back12 .args .table .now) (back12 .args .places) (back8 .before .loop .u) (c .before .before .before .loop2 .v) (c .before .before .before .before .part .ensures) inside) (w .0 .left)))) (c .if2 .came))
+    let (l, (room, cells)) = c .before .before .before .loop2 .inv in
+    let v = c .before .before .before .loop2 .v in
+    let inside = column l (c .before .before .loop2-test .taken) in
+    let octet = line-read _ _ _ v (l .is) inside in
+    let here : c .before .before .before .before .before .before .before .before .loop .u < 96 = omega (arith, l .small, l .place) in
+    let there : v < 96 = omega (arith, l .small, inside) in (
+      record { small = l .small; place = l .place; leads = l .leads; is = l .is; read = omega (arith, c .before .before .loop2-test .taken) },
+      (
+        ⊎-elim (λ w. rw (w .2, length-set) room) (λ w. rw (w .1) room) (c .if2 .came),
+        ⊎-elim
+            (λ w.
+            rw (w .2)
+            (cell-set (l .small) cells inside (omega (arith, room, l .small, l .place, inside))
+            (step-asked _ _ _ _ _ _ v refl refl refl refl (l .leads) octet (w .0 .taken) (w .1 .ensures .0 here there))))
+            (λ w. rw (w .1) (cell-left (l .small) cells inside (step-unasked _ _ _ _ _ _ v refl (l .leads) octet (w .0 .left))))
+            (c .if2 .came),
+      ),
+    )
 
 add-u : tie.Need-add-u Inv-loop2 μ-loop2 Inv-loop μ-loop
-add-u c =
-    let back4 = c .before .before .before .before in
-    omega (arith, back4 .before .before .pre, c .before .before .loop-test .taken)
+add-u c = omega (arith, c .before .before .before .loop .inv .0, c .before .before .loop-test .taken)
 
 loop-less : tie.Need-loop-less Inv-loop2 μ-loop2 Inv-loop μ-loop
 loop-less c = omega (arith, c .before .before .loop-test .taken)
 
 loop-again : tie.Need-loop-again Inv-loop2 μ-loop2 Inv-loop μ-loop
 loop-again c =
-    let back4 = c .before .before .before .before in (
+    let (small, few, (room, cells)) = c .before .before .before .loop .inv in (
+      small,
       omega (arith, c .before .before .loop-test .taken),
-      ⊎-elim (λ w. rw (w .5) (w .3 .inv .1)) (λ w. rw (w .1) (c .before .before .before .loop .inv .1)) (c .if1 .came),
-      ⊎-elim (λ w. rw (w .5) (row-rest (back4 .before .before .pre) (let k =
-          let back4 = c .before .before .before .before in
-          line-short (back4 .before .before .args .table .now) (back4 .before .before .args .places) (c .before .before .before .loop .u) (w .2 .ensures) in omega (arith, k, w .3 .inv .0)) (w .3 .inv .2) (λ x h k. step-unasked _ _ _ _ _ _ x refl (sym (c .before .leads .ensures) ∙ w .0 .taken) refl (line-past (back4 .before .before .args .table .now) (back4 .before .before .args .places) (c .before .before .before .loop .u) x (w .2 .ensures) k (omega (arith, h, w .4 .left)))))) (λ w. rw (w .1) (row-left (back4 .before .before .pre) (c .before .before .before .loop .inv .2) (λ x k. step-unled _ _ _ _ _ _ x refl (sym (c .before .leads .ensures) ∙ w .0 .left)))) (c .if1 .came),
+      (
+        ⊎-elim (λ w. rw (w .4) (w .2 .inv .1 .0)) (λ w. rw (w .1) room) (c .if1 .came),
+        ⊎-elim
+            (λ w.
+            let l = w .2 .inv .0 in
+            let short = line-short (c .before .before .before .before .before .before .args .table .now) (c .before .before .before .before .before .before .args .places) (c .before .before .before .loop .u) (l .is) in
+            rw (w .4)
+            (row-rest small (omega (arith, short, l .read)) (w .2 .inv .1 .1)
+            (λ x h k. step-unasked _ _ _ _ _ _ x refl (l .leads) refl (line-past (c .before .before .before .before .before .before .args .table .now) (c .before .before .before .before .before .before .args .places) (c .before .before .before .loop .u) x (l .is) k (omega (arith, h, w .3 .left))))))
+            (λ w. rw (w .1) (row-left small cells (λ x k. step-unled _ _ _ _ _ _ x refl (sym (c .before .leads .ensures) ∙ w .0 .left))))
+            (c .if1 .came),
+      ),
     )
 
 returns : tie.Need-returns Inv-loop2 μ-loop2 Inv-loop μ-loop
-returns c = λ u v h k. c .before .loop .inv .2 .before u v k (omega (arith, c .before .before .before .before .pre, c .loop-test .left, c .before .loop .inv .0))
+returns c = λ u v h k.
+    let i = c .before .loop .inv in i .2 .1 .before u v k (omega (arith, i .0, c .loop-test .left, i .1))
 
 pub matching-steps-spec : {M : Type 1} → statement M
 matching-steps-spec =
@@ -133,12 +157,10 @@ matching-steps-spec =
     loop-holds
     array-read-leads
     (λ c κs. search needs)
-    row-at-requires
     mul-part
     (λ c κs. search needs)
     loop2-holds
     shared-slice-read-if2
-    row-at-requires-2
     array-read-matched
     (λ c κs. search needs)
     mul-steps

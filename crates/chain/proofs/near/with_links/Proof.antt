@@ -5,7 +5,7 @@ use native.Mathlib.Omega.{arith}
 use borrow.Author.Needs.{needs}
 use lib.ListN.{length, getD, length-set}
 use Rattle.chain.specs.Near.{markedOf}
-use Rattle.chain.proofs.Slots.{empty-slots, Upto, slot-set}
+use Rattle.usable.proofs.Slots.{empty-slots, Upto, slot-set}
 use Rattle.chain.proofs.near.with_links.Statement.{statement}
 use Rattle.chain.proofs.near.with_links.Tie as tie
 

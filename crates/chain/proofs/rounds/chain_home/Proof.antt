@@ -7,11 +7,8 @@ use borrow.Author.Needs.{needs}
 use borrow.Author.Tests.{not-true}
 use lib.ListN.{length, length-set}
 use Rattle.image.specs.Index.{entryCount}
-use Rattle.chain.proofs.DirectMeans.{direct-answer}
-use Rattle.chain.proofs.FirstRound.{first-round}
-use Rattle.chain.proofs.LastStep.{no-last-step}
-use Rattle.chain.proofs.NextRound.{next-round, closed-answer}
-use Rattle.chain.proofs.RoundsHold.{Round, round-answer, no-signer, settled, unsettled, unasked}
+use Rattle.chain.proofs.ImageRounds.{Round, first-round, next-round, no-signer, direct-answer, round-answer, closed-answer, no-last-step}
+use Rattle.chain.proofs.RoundsHold.{settled, unsettled, unasked}
 use Rattle.chain.proofs.rounds.chain_home.Statement.{statement}
 use Rattle.chain.proofs.rounds.chain_home.Tie as tie
 
@@ -31,6 +28,19 @@ Inv-loop image table places moment target first second rows₀ near₀ counting 
 abbrev μ-loop : tie.MeasureT-loop
 μ-loop image table places moment target first second rows₀ near₀ counting roles₀ two round₀ rows near roles round = 4 - round
 
+-- the points before the rounds, each from a later one
+abbrev start : tie.After-near-first Inv-loop μ-loop → tie.Start Inv-loop μ-loop
+start c = c .before .before .before
+
+abbrev marked : tie.After-rows2 Inv-loop μ-loop → tie.After-near-first Inv-loop μ-loop
+marked c = c .before .before .before
+
+abbrev opened : tie.After-roles-of Inv-loop μ-loop → tie.After-rows2 Inv-loop μ-loop
+opened c = c .before .before .before
+
+abbrev known : tie.Else2 Inv-loop μ-loop → tie.After-roles-of Inv-loop μ-loop
+known c = c .before .before .before .before
+
 array-read-first : tie.Need-array-read-first Inv-loop μ-loop
 array-read-first c = omega arith
 
@@ -47,59 +57,54 @@ array-write-opened : tie.Need-array-write-opened Inv-loop μ-loop
 array-write-opened c = omega (arith, c .before .before .pre .1, c .before .before .pre .2)
 
 near-first-requires : tie.Need-near-first-requires Inv-loop μ-loop
-near-first-requires c κs = c .before .before .pre .1
+near-first-requires c κs = (c .before .before .pre .0, c .before .before .pre .1)
 
 open-items-requires : tie.Need-open-items-requires Inv-loop μ-loop
-open-items-requires c κs = (c .before .before .before .before .pre .1, rw length-set refl)
-
-counting-lists-requires : tie.Need-counting-lists-requires Inv-loop μ-loop
-counting-lists-requires c κs =
-    let back4 = c .before .before .before .before in
-    back4 .before .before .pre .1
-
-roles-of-requires : tie.Need-roles-of-requires Inv-loop μ-loop
-roles-of-requires c κs =
-    let back4 = c .before .before .before .before in
-    let back8 = back4 .before .before .before .before in
-    back8 .pre .1
+open-items-requires c κs = let s = start (c .before) in (s .pre .0, s .pre .1, rw length-set refl)
 
 array-read-if1 : tie.Need-array-read-if1 Inv-loop μ-loop
-array-read-if1 c =
-    let back4 = c .before .before .before .before in
-    let back8 = back4 .before .before .before .before in
-    omega (arith, back8 .before .pre .1, back8 .before .pre .2)
+array-read-if1 c = let s = start (marked (opened c)) in omega (arith, s .pre .1, s .pre .2)
 
 returns : tie.Need-returns Inv-loop μ-loop
 returns c =
-    let back4 = c .before .before .before .before in
-    let back8 = back4 .before .before .before .before in
-    no-signer _ _ _ _ _ _ _ (back8 .before .before .before .pre .0) {roles = c .before .before .roles-of .result} (first-round _ _ _ _ _ (back8 .before .before .before .pre .0) (back8 .near-first .result) (back8 .near-first .ensures) (back8 .before .before .before .args .t6) (back8 .before .before .before .pre .1) (back8 .before .before .before .pre .2) (back8 .before .before .before .pre .3) (back8 .before .before .before .pre .4) (back8 .before .before .before .pre .5) (back4 .before .before .open-items .ensures .1) (c .before .before .before .before .counting-lists .ensures) (c .before .before .roles-of .ensures)) (back8 .before .before .before .pre .2) (c .before .if1 .taken) (c .no-chain .ensures)
+    let w = c .before .before in
+    let m = opened w in
+    let n = marked m in
+    let s = start n in
+    no-signer _ _ _ _ _ (s .pre .0) {roles = w .roles-of .result}
+    (first-round _ _ _ _ _ (s .pre .0) (n .near-first .ensures) (s .args .t6) (s .pre .1) (s .pre .2) (s .pre .3) (s .pre .4) (s .pre .5)
+    (m .before .open-items .ensures .1) (w .before .before .counting-lists .ensures .0 (s .pre .1)) (w .roles-of .ensures .0 (s .pre .1)))
+    (s .pre .2) (c .before .if1 .taken) (c .no-chain .ensures)
 
 direct-chain-requires : tie.Need-direct-chain-requires Inv-loop μ-loop
-direct-chain-requires c κs =
-    let back4 = c .before .before .before .before in
-    let back8 = back4 .before .before .before .before in
-    (back8 .before .before .before .pre .1, back8 .before .before .before .pre .2)
+direct-chain-requires c κs = let s = start (marked (opened (c .before .before))) in (s .pre .1, s .pre .2)
 
 returns-2 : tie.Need-returns-2 Inv-loop μ-loop
 returns-2 c =
-    let back4 = c .before .before .before .before in
-    let back8 = back4 .before .before .before .before in
-    let back12 = back8 .before .before .before .before in
-    direct-answer _ _ _ _ _ _ _ (back12 .before .pre .0) (first-round _ _ _ _ _ (back12 .before .pre .0) (back8 .before .before .near-first .result) (back8 .before .before .near-first .ensures) (back12 .before .args .t6) (back12 .before .pre .1) (back12 .before .pre .2) (back12 .before .pre .3) (back12 .before .pre .4) (back12 .before .pre .5) (back8 .open-items .ensures .1) (back4 .before .before .counting-lists .ensures) (c .before .before .before .before .roles-of .ensures)) (back12 .before .pre .2) (c .before .before .before .if1 .left) (c .before .direct-chain .ensures (c .if2 .taken))
+    let w = c .before .before .before .before in
+    let m = opened w in
+    let n = marked m in
+    let s = start n in
+    direct-answer _ _ _ _ _ (s .pre .0)
+    (first-round _ _ _ _ _ (s .pre .0) (n .near-first .ensures) (s .args .t6) (s .pre .1) (s .pre .2) (s .pre .3) (s .pre .4) (s .pre .5)
+    (m .before .open-items .ensures .1) (w .before .before .counting-lists .ensures .0 (s .pre .1)) (w .roles-of .ensures .0 (s .pre .1)))
+    (s .pre .2) (c .before .before .before .if1 .left) (c .before .direct-chain .ensures (c .if2 .taken))
 
 loop-holds : tie.Need-loop-holds Inv-loop μ-loop
 loop-holds c =
-    let back4 = c .before .before .before .before in
-    let back8 = back4 .before .before .before .before in
-    let back12 = back8 .before .before .before .before in
+    let w = known c in
+    let m = opened w in
+    let n = marked m in
+    let s = start n in
     record {
-      all = back12 .before .pre .0;
-      small = back12 .before .pre .1;
-      there = back12 .before .pre .2;
+      all = s .pre .0;
+      small = s .pre .1;
+      there = s .pre .2;
       early = omega arith;
-      slots = back8 .open-items .ensures .0;
-      holds = first-round _ _ _ _ _ (back12 .before .pre .0) (back8 .before .before .near-first .result) (back8 .before .before .near-first .ensures) (back12 .before .args .t6) (back12 .before .pre .1) (back12 .before .pre .2) (back12 .before .pre .3) (back12 .before .pre .4) (back12 .before .pre .5) (back8 .open-items .ensures .1) (back4 .before .before .counting-lists .ensures) (c .before .before .before .before .roles-of .ensures);
+      slots = m .before .open-items .ensures .0;
+      holds =
+          first-round _ _ _ _ _ (s .pre .0) (n .near-first .ensures) (s .args .t6) (s .pre .1) (s .pre .2) (s .pre .3) (s .pre .4) (s .pre .5)
+          (m .before .open-items .ensures .1) (w .before .before .counting-lists .ensures .0 (s .pre .1)) (w .roles-of .ensures .0 (s .pre .1));
     }
 
 add-round : tie.Need-add-round Inv-loop μ-loop
@@ -116,105 +121,68 @@ searched-requires c κs = c .before .before .before .before .loop .inv .small
 
 returns-3 : tie.Need-returns-3 Inv-loop μ-loop
 returns-3 c =
-    let back4 = c .before .before .before .before in
-    closed-answer _ _ _ _ _ _ _ (back4 .before .loop .inv .all) (back4 .before .loop .inv .holds) (c .before .before .before .before .near-next .ensures) (back4 .before .loop .inv .small) (c .searched .ensures) (c .before .before .before .unchanged .ensures (c .before .before .if3 .taken))
+    let i = c .before .before .before .before .before .loop .inv in
+    closed-answer _ _ _ _ _ (i .all) (i .holds) (c .before .before .before .before .near-next .ensures) (i .small) (c .searched .ensures) (c .before .before .before .unchanged .ensures (c .before .before .if3 .taken))
 
 open-items-requires-2 : tie.Need-open-items-requires-2 Inv-loop μ-loop
-open-items-requires-2 c κs = (c .before .before .before .before .loop .inv .small, c .before .before .before .before .loop .inv .slots)
-
-roles-of-requires-2 : tie.Need-roles-of-requires-2 Inv-loop μ-loop
-roles-of-requires-2 c κs =
-    let back4 = c .before .before .before .before in
-    back4 .before .before .loop .inv .small
+open-items-requires-2 c κs = let i = c .before .before .before .before .loop .inv in (i .all, i .small, i .slots)
 
 led-to-requires : tie.Need-led-to-requires Inv-loop μ-loop
-led-to-requires c κs =
-    let back4 = c .before .before .before .before in
-    let back8 = back4 .before .before .before .before in
-    (back8 .loop .inv .small, back8 .loop .inv .there)
+led-to-requires c κs = let i = c .before .before .before .before .before .before .before .before .loop .inv in (i .small, i .there)
 
 returns-4 : tie.Need-returns-4 Inv-loop μ-loop
 returns-4 c =
-    let back4 = c .before .before .before .before in
-    let back8 = back4 .before .before .before .before in
-    let inv = back8 .before .before .before .loop .inv in
-    no-last-step _ _ _ _ _ _ _ (inv .all) (next-round _ _ _ _ _ _ _ (inv .all) (inv .holds) (back8 .before .before .near-next .ensures) (inv .there) (back4 .before .before .open-items2 .ensures .1) (back4 .roles-of2 .ensures)) (c .before .before .led-to .ensures (not-true _ (c .before .if4 .taken))) (omega arith) (c .no-chain2 .ensures)
+    let i = c .before .before .before .before .before .before .before .before .before .before .before .loop .inv in
+    no-last-step _ _ _ _ _ (i .all)
+    (next-round _ _ _ _ _ (i .all) (i .holds) (c .before .before .before .before .before .before .before .before .before .before .near-next .ensures) (i .there) (c .before .before .before .before .before .before .open-items2 .ensures .1) (c .before .before .before .before .roles-of2 .ensures .0 (i .small)))
+    (c .before .before .led-to .ensures (not-true _ (c .before .if4 .taken))) (omega arith) (c .no-chain2 .ensures)
 
 worthwhile-requires : tie.Need-worthwhile-requires Inv-loop μ-loop
-worthwhile-requires c κs =
-    let back4 = c .before .before .before .before in
-    let back8 = back4 .before .before .before .before in
-    back8 .before .before .before .loop .inv .small
+worthwhile-requires c κs = c .before .before .before .before .before .before .before .before .before .before .before .loop .inv .small
 
 searched-requires-2 : tie.Need-searched-requires-2 Inv-loop μ-loop
-searched-requires-2 c κs =
-    let back4 = c .before .before .before .before in
-    let back8 = back4 .before .before .before .before in
-    let back12 = back8 .before .before .before .before in
-    back12 .before .before .loop .inv .small
+searched-requires-2 c κs = c .before .before .before .before .before .before .before .before .before .before .before .before .before .before .loop .inv .small
 
 enough-requires : tie.Need-enough-requires Inv-loop μ-loop
-enough-requires c κs =
-    let back4 = c .before .before .before .before in
-    let back8 = back4 .before .before .before .before in
-    let back12 = back8 .before .before .before .before in
-    omega (arith, back12 .before .before .before .loop .inv .early)
+enough-requires c κs = omega (arith, c .before .before .before .before .before .before .before .before .before .before .before .before .before .before .before .loop .inv .early)
 
 returns-5 : tie.Need-returns-5 Inv-loop μ-loop
 returns-5 c =
-    let back4 = c .before .before .before .before in
-    let back8 = back4 .before .before .before .before in
-    let back12 = back8 .before .before .before .before in
-    let back16 = back12 .before .before .before .before in
-    let inv = back16 .before .loop .inv in
-    round-answer _ _ _ _ _ _ _ (inv .all) (next-round _ _ _ _ _ _ _ (inv .all) (inv .holds) (back16 .near-next .ensures) (inv .there) (back12 .open-items2 .ensures .1) (back8 .before .before .roles-of2 .ensures)) (inv .small) (c .before .before .searched2 .ensures) (settled _ _ (sym (c .before .enough .ensures) ∙ c .if6 .taken))
+    let i = c .before .before .before .before .before .before .before .before .before .before .before .before .before .before .before .before .before .loop .inv in
+    round-answer _ _ _ _ _ (i .all)
+    (next-round _ _ _ _ _ (i .all) (i .holds) (c .before .before .before .before .before .before .before .before .before .before .before .before .before .before .before .before .near-next .ensures) (i .there) (c .before .before .before .before .before .before .before .before .before .before .before .before .open-items2 .ensures .1) (c .before .before .before .before .before .before .before .before .before .before .roles-of2 .ensures .0 (i .small)))
+    (i .small) (c .before .before .searched2 .ensures) (settled _ _ (sym (c .before .enough .ensures) ∙ c .if6 .taken))
 
 loop-less : tie.Need-loop-less Inv-loop μ-loop
-loop-less c =
-    let back4 = c .before .before .before .before in
-    let back8 = back4 .before .before .before .before in
-    let back12 = back8 .before .before .before .before in
-    let back16 = back12 .before .before .before .before in
-    omega (arith, back16 .before .loop .inv .early)
+loop-less c = omega (arith, c .before .before .before .before .before .before .before .before .before .before .before .before .before .before .before .before .before .loop .inv .early)
 
 loop-again : tie.Need-loop-again Inv-loop μ-loop
 loop-again c =
-    let back4 = c .before .before .before .before in
-    let back8 = back4 .before .before .before .before in
-    let back12 = back8 .before .before .before .before in
-    let back16 = back12 .before .before .before .before in
-    let inv = back16 .before .loop .inv in
+    let i = c .before .before .before .before .before .before .before .before .before .before .before .before .before .before .before .before .before .loop .inv in
     let z = unsettled _ _ (sym (c .before .enough .ensures) ∙ c .if6 .left) in
     record {
-      all = inv .all;
-      small = inv .small;
-      there = inv .there;
-      early = omega (arith, z, inv .early);
-      slots = back12 .open-items2 .ensures .0;
-      holds = next-round _ _ _ _ _ _ _ (inv .all) (inv .holds) (back16 .near-next .ensures) (inv .there) (back12 .open-items2 .ensures .1) (back8 .before .before .roles-of2 .ensures);
+      all = i .all;
+      small = i .small;
+      there = i .there;
+      early = omega (arith, z, i .early);
+      slots = c .before .before .before .before .before .before .before .before .before .before .before .before .open-items2 .ensures .0;
+      holds = next-round _ _ _ _ _ (i .all) (i .holds) (c .before .before .before .before .before .before .before .before .before .before .before .before .before .before .before .before .near-next .ensures) (i .there) (c .before .before .before .before .before .before .before .before .before .before .before .before .open-items2 .ensures .1) (c .before .before .before .before .before .before .before .before .before .before .roles-of2 .ensures .0 (i .small));
     }
 
 loop-less-2 : tie.Need-loop-less-2 Inv-loop μ-loop
-loop-less-2 c =
-    let back4 = c .before .before .before .before in
-    let back8 = back4 .before .before .before .before in
-    let back12 = back8 .before .before .before .before in
-    omega (arith, back12 .before .loop .inv .early)
+loop-less-2 c = omega (arith, c .before .before .before .before .before .before .before .before .before .before .before .before .before .loop .inv .early)
 
 loop-again-2 : tie.Need-loop-again-2 Inv-loop μ-loop
 loop-again-2 c =
-    let back4 = c .before .before .before .before in
-    let back8 = back4 .before .before .before .before in
-    let back12 = back8 .before .before .before .before in
-    let inv = back12 .before .loop .inv in
+    let i = c .before .before .before .before .before .before .before .before .before .before .before .before .before .loop .inv in
     let z = unasked (c .before .worthwhile .ensures) (c .if5 .left) in
     record {
-      all = inv .all;
-      small = inv .small;
-      there = inv .there;
-      early = omega (arith, z, inv .early);
-      slots = back8 .open-items2 .ensures .0;
-      holds = next-round _ _ _ _ _ _ _ (inv .all) (inv .holds) (back12 .near-next .ensures) (inv .there) (back8 .open-items2 .ensures .1) (back4 .before .before .roles-of2 .ensures);
+      all = i .all;
+      small = i .small;
+      there = i .there;
+      early = omega (arith, z, i .early);
+      slots = c .before .before .before .before .before .before .before .before .open-items2 .ensures .0;
+      holds = next-round _ _ _ _ _ (i .all) (i .holds) (c .before .before .before .before .before .before .before .before .before .before .before .before .near-next .ensures) (i .there) (c .before .before .before .before .before .before .before .before .open-items2 .ensures .1) (c .before .before .before .before .before .before .roles-of2 .ensures .0 (i .small));
     }
 
 pub chain-home-spec : {M : Type 1} → statement M
@@ -230,8 +198,8 @@ chain-home-spec =
     array-write-opened
     near-first-requires
     open-items-requires
-    counting-lists-requires
-    roles-of-requires
+    (λ c κs. search needs)
+    (λ c κs. search needs)
     array-read-if1
     (λ c κs. search needs)
     returns
@@ -244,7 +212,7 @@ chain-home-spec =
     searched-requires
     returns-3
     open-items-requires-2
-    roles-of-requires-2
+    (λ c κs. search needs)
     led-to-requires
     (λ c κs. search needs)
     returns-4

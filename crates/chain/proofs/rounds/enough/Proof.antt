@@ -1,7 +1,7 @@
 -- Each test answers one of the definition's.
 use native.Mathlib.Omega.{arith}
 use borrow.Author.Tests.{eq-eqb, ne-eqb}
-use Rattle.chain.specs.Rows.{enoughOf}
+use Rattle.chain.specs.Rounds.{enoughOf}
 use Rattle.chain.proofs.rounds.enough.Statement.{statement}
 use Rattle.chain.proofs.rounds.enough.Tie as tie
 

@@ -1,0 +1,10 @@
+pub mod Booleans
+pub mod CountingMeans
+pub mod RolesMean
+pub mod RowLaws
+pub mod RowReadings
+pub mod Scope
+pub mod Slots
+pub mod SpeakingMeans
+pub mod StandingMeans
+pub mod StepsMean
