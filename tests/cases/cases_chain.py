@@ -4,7 +4,8 @@ import pathlib
 import oracle_chain
 from certificate_build import KEY_USAGE, SIGNS_CERTIFICATES
 from chain_build import KEY, NAME, anchor, crl, link, named, signer, table
-from der_build import (COMMON_NAME, attribute, context, country, extension, generalized, integer, name, printable, utc)
+from der_build import (COMMON_NAME, attribute, common, context, country, extension, generalized, integer,
+                       name, printable, utc)
 from image_build import ANCHOR, CRL, LINK, SIGNER, Item, changed, image, items
 from record import CHAIN, Case
 from refused import Refused
@@ -158,7 +159,7 @@ def anchors():
         yield over('an anchor %s, the CRL vouched for by a usable one' % label, listed, [(0, 2), (1, 3)], NONE)
         yield over('an anchor %s alone vouches for the CRL' % label, listed, [(1, 2), (0, 3)], NONE)
     yield over('an anchor that the CRL lists', replaced(THREE, 2, crl(b'\1')), STEP, [0, 1])
-    yield over('an anchor that no CRL covers', replaced(THREE, 0, anchor(issuer=B)), STEP, [0, 1])
+    yield over('an anchor whose issuer has another name', replaced(THREE, 0, anchor(issuer=B)), STEP, [0, 1])
     yield over('an anchor with the signer\'s issuer for its issuer alone', replaced(THREE, 0, anchor(subject=B)), STEP,
                NONE)
     yield over('a link\'s certificate as an anchor', replaced(THREE, 0, Item(ANCHOR, 1, link().octets)), STEP, [0, 1])
@@ -167,12 +168,15 @@ def anchors():
 
 def covered():
     yield over('no CRL', shape('as'), [(0, 1)], NONE)
-    yield over('a CRL of another issuer', replaced(THREE, 2, crl(issuer=B)), STEP, NONE)
-    yield over('a CRL whose issuer is written in another string type', replaced(
-        THREE, 2, crl(issuer=name(country('UT'), attribute(COMMON_NAME, printable('A'))))), STEP, NONE)
-    yield over('a CRL whose issuer is written in lower case', replaced(THREE, 2, crl(issuer=named('a'))), STEP, NONE)
-    yield over('a CRL whose issuer begins like the signer\'s', replaced(THREE, 2, crl(issuer=name(country('UT')))),
-               STEP, NONE)
+    other_type = attribute(COMMON_NAME, printable('A'))
+    for label, issuer in (('of another name in the country', B), ('written in lower case', named('a')),
+                          ('written in another string type', name(country('UT'), other_type)),
+                          ('of the country alone', name(country('UT'))),
+                          ('with its country last', name(common('B'), country('UT'))),
+                          ('with its country in a SET of two', name(other_type + country('UT')))):
+        yield over('a CRL whose issuer is %s' % label, replaced(THREE, 2, crl(issuer=issuer)), STEP, [0, 1])
+        yield over('a CRL whose issuer is %s, which lists the signer' % label,
+                   replaced(THREE, 2, crl(b'\2', issuer=issuer)), STEP, NONE)
     yield over('a CRL with no verdict', THREE, [(0, 1)], NONE)
     yield over('a CRL vouched for by a link alone', FOUR, [(0, 1), (1, 2), (1, 3)], NONE)
     yield over('a CRL vouched for by a signer alone', THREE, [(0, 1), (1, 2)], NONE)
@@ -191,8 +195,9 @@ def covered():
     # the link has issuer A and subject B
     two = [anchor(), link(subject=B, own=b'\2'), signer(issuer=B, by=b'\2'), crl(), crl(issuer=B)]
     yield over('two names, a CRL for each', two, [(0, 1), (1, 2), (0, 3), (0, 4)], [0, 1, 2])
-    yield over('two names, the link not covered', two, [(0, 1), (1, 2), (0, 4)], NONE)
-    yield over('two names, the signer not covered', two, [(0, 1), (1, 2), (0, 3)], NONE)
+    yield over('two names, the second\'s CRL covers the link too', two, [(0, 1), (1, 2), (0, 4)], [0, 1, 2])
+    yield over('two names, the first\'s CRL covers the signer too', two, [(0, 1), (1, 2), (0, 3)], [0, 1, 2])
+    yield over('two names, no CRL counts', two, [(0, 1), (1, 2)], NONE)
 
 
 def listing():
@@ -209,7 +214,8 @@ def listing():
     for label, second, stated in (
             ('the second lists the signer', crl(b'\2'), NONE),
             ('the second lists another serial', crl(b'\3'), [0, 1]),
-            ('the second has another issuer and lists the signer\'s serial', crl(b'\2', issuer=B), [0, 1]),
+            ('the second has another name in the country and lists the signer\'s serial', crl(b'\2', issuer=B), NONE),
+            ('the second has another name in the country and lists another serial', crl(b'\3', issuer=B), [0, 1]),
             ('the second is over and lists the signer', crl(b'\2', next=utc('260301115959Z')), [0, 1]),
             ('the second is not yet valid and lists the signer', crl(b'\2', this=utc('260301120001Z')), [0, 1]),
             ('the second breaks a rule and lists the signer', crl(b'\2', version=integer(0)), [0, 1]),
@@ -349,6 +355,57 @@ def two_countries():
     yield over('two countries, one serial, not listed by the second', revoked, pairs, [1, 2, 4], 4)
 
 
+def renamed():
+    """The CSCA of a country got another name and key, and its list bears the new name."""
+    old, new = anchor(), anchor(subject=B, issuer=B, own=b'\2')
+    for label, serials, stated in (('not listed', (b'\7',), [0, 2]), ('listed', (b'\2',), NONE),
+                                   ('listed last of three', (b'\7', b'\6', b'\2'), NONE),
+                                   ('an empty list', (), [0, 2])):
+        listed = [old, new, signer(serial=b'\2'), crl(*serials, issuer=B)]
+        yield over('a renamed CSCA, an old signer, ' + label, listed, [(0, 2), (1, 3)], stated)
+    # a link from the old name to the new one, a signer of each
+    both = [old, link(subject=B, own=b'\2', serial=b'\3'), signer(serial=b'\2'),
+            signer(serial=b'\4', issuer=B, by=b'\2'), new]
+    pairs = [(0, 1), (0, 2), (1, 3), (4, 5)]
+    for label, serials, chains in (('nothing listed', (), ([0, 2], [0, 1, 3])),
+                                   ('the old signer listed', (b'\2',), (NONE, [0, 1, 3])),
+                                   ('the link listed', (b'\3',), ([0, 2], NONE)),
+                                   ('the new signer listed', (b'\4',), ([0, 2], NONE))):
+        for place, stated in zip((2, 3), chains):
+            yield over('a renamed CSCA and its link, %s, place %d' % (label, place),
+                       both + [crl(*serials, issuer=B)], pairs, stated, place)
+    yield over('a renamed CSCA, the list vouched for by the old anchor',
+               [old, signer(serial=b'\2'), crl(issuer=B)], STEP, [0, 1])
+    yield over('a renamed CSCA, the new anchor disabled',
+               [old, new._replace(flags=0), signer(serial=b'\2'), crl(issuer=B)], [(0, 2), (1, 3)], NONE)
+
+
+def other_countries():
+    """Lists of another state: an anchor, a signer with serial 2, the other state's anchor and list; then the own list
+    besides. Of the last three states one letter, or the order of both, differs."""
+    for letters in ('XO', 'UX', 'XT', 'TU'):
+        foreign = named('A', letters)
+        listed = [anchor(), signer(serial=b'\2'), anchor(subject=foreign, issuer=foreign)]
+        for label, serials in (('an equal serial', (b'\2',)), ('another serial', (b'\7',))):
+            theirs = crl(*serials, issuer=foreign)
+            yield over('a list of %s with %s, alone' % (letters, label), listed + [theirs], [(0, 1), (2, 3)], NONE)
+            yield over('a list of %s with %s, and the own' % (letters, label), listed + [theirs, crl()],
+                       [(0, 1), (2, 3), (0, 4)], [0, 1])
+            yield over('a list of %s with %s, and the own that lists the signer' % (letters, label),
+                       listed + [theirs, crl(b'\2')], [(0, 1), (2, 3), (0, 4)], NONE)
+
+
+def several_lists():
+    """Counting lists of one country under three names, of which one lists the signer."""
+    names = (NAME, B, named('C'))
+    every = STEP + [(0, 3), (0, 4)]
+    for which in range(3):
+        listed = THREE[:2] + [crl(b'\2' if place == which else b'\7', issuer=one) for place, one in enumerate(names)]
+        yield over('three lists of the country, number %d lists the signer' % which, listed, every, NONE)
+        yield over('three lists of the country, number %d lists the signer and does not count' % which, listed,
+                   [pair for pair in every if pair != (0, 2 + which)], [0, 1])
+
+
 def made():
     """The set of tests/data/made, each row of its table of chains."""
     def lines(file):
@@ -368,5 +425,5 @@ def made():
 
 def cases():
     for part in (paper, ties, odd_steps, long, anchors, covered, listing, matching, passing, seconds, moments, targets,
-                 tables, refusals, two_countries, made):
+                 tables, refusals, two_countries, renamed, other_countries, several_lists, made):
         yield from part()

@@ -37,11 +37,10 @@ class Crl:
 
     def __init__(self, octets, fields):
         self.start, self.end, self.letters = fields.this_update, fields.next_update, fields.letters
-        self.issuer = octets[fields.issuer.at:fields.issuer.at + fields.issuer.size]
         self.octets = octets
 
     def covers(self, certificate):
-        return self.issuer == certificate.issuer
+        return self.letters == certificate.letters
 
     def lists(self, certificate):
         return oracle_crl.listed(self.octets, certificate.serial)

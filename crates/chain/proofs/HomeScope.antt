@@ -19,7 +19,7 @@ use Rattle.usable.proofs.CountingMeans.{anchor-kind}
 use Rattle.usable.proofs.RowLaws.{some-there}
 use Rattle.usable.proofs.Scope.{Scope}
 use Rattle.chain.specs.Rounds.{speaksUp, hereOf, wantedOf}
-use Rattle.chain.proofs.Homes.{home, covers-home, country-home}
+use Rattle.chain.proofs.Homes.{home, country-same}
 
 -- what is not near is neither an anchor nor a CRL
 abbrev pub Based : List Item → List ℕ → Type 0
@@ -135,7 +135,7 @@ module _ (a b : ℕ) (items : List Item) (table : List ℕ) (moment : ℕ) (near
       rw (always-near items near based c h (inr four), here-other a b (length items) table items c other)
 
   pub home-scope : Scope items (verdictIn (length items) table) moment (isOpen a b items table near) (inside a b items table near)
-  unfolding counts
+  unfolding counts covers
   home-scope =
       record {
         asked = asked;
@@ -144,12 +144,12 @@ module _ (a b : ℕ) (items : List Item) (table : List ℕ) (moment : ℕ) (near
         vouching = λ u c hu hc within four usable country verdict.
             let one = anchor-kind items moment u usable in
             let other : eqb (itemAt items u .kind) 4 ≡ false = ne-eqb (itemAt items u .kind) 4 (λ z. let k = eqb-true (itemAt items u .kind) 1 one in omega arith) in
-            let is = country-home a b items u c other four country (sym (list-inside c hc four) ∙ within) in
+            let is = sym (country-same a b items u c other four country) ∙ sym (list-inside c hc four) ∙ within in
             both-true (isNear near u) _ (always-near items near based u hu (inl one)) (here-anchor a b (length items) table items u c hc verdict is);
         covering = λ c p hc hp counts there least most covers.
             let four = first (eqb (itemAt items c .kind) 4) _ counts in
             let one : eqb (itemAt items p .kind) 1 ≡ false = ne-eqb (itemAt items p .kind) 1 (λ z. omega arith) in
             let other : eqb (itemAt items p .kind) 4 ≡ false = ne-eqb (itemAt items p .kind) 4 (λ z. omega arith) in
-            list-inside c hc four ∙ covers-home a b items c p four other covers
+            list-inside c hc four ∙ country-same a b items p c other four covers
             ∙ rw (first (isNear near p) _ there, here-other a b (length items) table items p one);
       }

@@ -1,11 +1,10 @@
--- Items of one country: what passes has the letters of its country, so a usable anchor vouches only for CRLs of its own, a CRL covers
--- only certificates of its own, and a good step stays in one.
+-- Items of one country: what passes has the letters of its country, and a good step stays in one.
 use Prim.Native.Nat.{ℕ, _<_}
 use mathlib.Core.Path.{_≡_, refl, sym, ap₂, _∙_}
 use mathlib.Core.Bool.{Bool, true, false, cond, _&&_, _||_}
 use mathlib.Core.List.{List}
 use native.Mathlib.Omega.{arith}
-use borrow.Author.Tests.{eqb-true, eq-eqb, ne-eqb}
+use borrow.Author.Tests.{eqb-true, ne-eqb}
 use lib.Dec.{eqb}
 use Rattle.der.specs.Forms.{paper}
 use Rattle.names.proofs.SameNames.{same-letters}
@@ -18,10 +17,10 @@ use Rattle.crl.specs.declared.Judged as list-answer
 use Rattle.crl.specs.declared.Judged.the-variants as list-judged
 use Rattle.crl.specs.Answer as lists
 use Rattle.octets.proofs.Likeness.{alike-is}
-use Rattle.parts.proofs.Issuers.{certificate-country, crl-country, certificate-names, crl-name}
+use Rattle.parts.proofs.Issuers.{certificate-country, crl-country, certificate-names}
 use Rattle.image.specs.Items.{Item}
 use Rattle.usable.specs.Items.{itemAt, onCertificate, certificateAt, onList, listAt, partOf}
-use Rattle.usable.specs.Usable.{sameCountry, covers}
+use Rattle.usable.specs.Usable.{sameCountry}
 use Rattle.usable.specs.Steps.{hasKind, fits, goodStep}
 use Rattle.usable.specs.Country.{countryOf, isOf, homeOf}
 use Rattle.usable.proofs.Booleans.{false-true, first, second}
@@ -83,46 +82,18 @@ module _ (a b : ℕ) (items : List Item) where
   unfolding homeOf countryOf isOf
   list-home p f j four = rw (four, crl-country (itemAt items p .bytes) f j)
 
--- the letters are the country's
-pub letters-are : (x y a b : ℕ) → cond (eqb x a) (eqb y b) false ≡ true → (x ≡ a) × (y ≡ b)
-letters-are x y a b e = go (eqb x a) refl e
-  where
-    go : (t : Bool) → eqb x a ≡ t → cond t (eqb y b) false ≡ true → (x ≡ a) × (y ≡ b)
-    go true k f = (eqb-true x a k, eqb-true y b f)
-    go false k f = false-true f
-
--- a CRL that covers a certificate has its letters
-covers-letters :
-    (items : List Item) (c p : ℕ) → covers items c p ≡ true
-    → (g : crls.Fields) × (f : certificates.Fields) × CrlAt items c g × CertificateAt items p f × (g .first ≡ f .first) × (g .second ≡ f .second)
-unfolding covers partOf
-covers-letters items c p e =
-    let x = list-there items c _ e in
-    let y = certificate-there items p _ (x .2) in
-    let l = same-letters (crl-name (itemAt items c .bytes) (x .0) (x .1)) (certificate-names (itemAt items p .bytes) (itemAt items p .kind) (y .0) (y .1) .0) (alike-is _ _ (y .2)) in
-    (x .0, y .0, x .1, y .1, l .0, l .1)
-
-pub covers-home :
-    (a b : ℕ) (items : List Item) (c p : ℕ) → eqb (itemAt items c .kind) 4 ≡ true → eqb (itemAt items p .kind) 4 ≡ false
-    → covers items c p ≡ true → home a b items c ≡ home a b items p
-covers-home a b items c p four other e =
-    let (g, f, jg, jf, x, y) = covers-letters items c p e in
-    list-home a b items c g jg four
-    ∙ ap₂ (λ (m n : ℕ). cond (eqb m a) (eqb n b) false) x y
-    ∙ sym (certificate-home a b items p f jf other)
-
--- so has an anchor of a CRL's country
-pub country-home :
-    (a b : ℕ) (items : List Item) (u c : ℕ) → eqb (itemAt items u .kind) 4 ≡ false → eqb (itemAt items c .kind) 4 ≡ true
-    → sameCountry items u c ≡ true → home a b items c ≡ true → home a b items u ≡ true
+-- a certificate and a CRL of one country are of it both
+pub country-same :
+    (a b : ℕ) (items : List Item) (p c : ℕ) → eqb (itemAt items p .kind) 4 ≡ false → eqb (itemAt items c .kind) 4 ≡ true
+    → sameCountry items p c ≡ true → home a b items c ≡ home a b items p
 unfolding sameCountry
-country-home a b items u c other four e h =
-    let x = certificate-there items u _ e in
+country-same a b items p c other four e =
+    let x = certificate-there items p _ e in
     let y = list-there items c _ (x .2) in
-    let is = letters-are (y .0 .first) (y .0 .second) a b (sym (list-home a b items c (y .0) (y .1) four) ∙ h) in
     let one = eqb-true (x .0 .first) (y .0 .first) (first (eqb (x .0 .first) (y .0 .first)) _ (y .2)) in
     let two = eqb-true (x .0 .second) (y .0 .second) (second (eqb (x .0 .first) (y .0 .first)) _ (y .2)) in
-    certificate-home a b items u (x .0) (x .1) other ∙ rw (one ∙ is .0, two ∙ is .1, eq-eqb a a refl) (eq-eqb b b refl)
+    list-home a b items c (y .0) (y .1) four ∙ ap₂ (λ (m n : ℕ). cond (eqb m a) (eqb n b) false) (sym one) (sym two)
+    ∙ sym (certificate-home a b items p (x .0) (x .1) other)
 
 -- a certificate's issuer that is another's subject has its letters
 fits-letters :

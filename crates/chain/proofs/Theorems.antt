@@ -89,7 +89,7 @@ module _ (items : List Item) (verdict : ℕ → ℕ → Bool) (moment : ℕ) whe
       let b = both (eqb (itemAt items u .flags) 1) (valid items moment u) (a .1) in
       (eqb-true _ _ (a .0), eqb-true _ _ (b .0))
 
-  -- A usable link or signer is covered by a CRL that counts.
+  -- A usable link or signer is covered by a CRL of its country that counts.
   pub covered :
       (v : ℕ) → usable items verdict moment v ≡ true
       → (c : ℕ) × (c < length items) × (counts items verdict moment c ≡ true) × (covers items c v ≡ true)
@@ -99,7 +99,7 @@ module _ (items : List Item) (verdict : ℕ → ℕ → Bool) (moment : ℕ) whe
       let d = both (counts items verdict moment (c .0)) (covers items (c .0) v) (c .2) in
       (c .0, c .1, d .0, d .1)
 
-  -- No CRL that counts and covers it lists its serial.
+  -- No CRL of its country that counts lists its serial.
   pub unlisted :
       (v c : ℕ) → usable items verdict moment v ≡ true → c < length items → counts items verdict moment c ≡ true
       → covers items c v ≡ true → lists items c v ≡ false

@@ -75,7 +75,7 @@ unfolding usableAnchor
 anchor-kind items moment u e = first (eqb (itemAt items u .kind) 1) _ e
 
 -- the letters of two rows are those of a certificate and a CRL
-letters :
+pub letters :
     (items : List Item) (at : ℕ → ℕ) (rows : List (List ℕ)) (u c : ℕ) → Certificate items at rows u → Crl items at rows c
     → sameLetters (rowAt rows u) (rowAt rows c) ≡ sameCountry items u c
 unfolding sameLetters sameCountry

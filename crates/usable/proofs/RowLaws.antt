@@ -17,7 +17,7 @@ use Rattle.crl.specs.Listed.{listedOf}
 use Rattle.octets.specs.Alike.{alike}
 use Rattle.usable.specs.declared.opened.Row.{Row}
 use Rattle.usable.specs.Items.{someBelow}
-use Rattle.usable.specs.Rows.{blank, flag, rowFrom, rowAt, sameLetters, vouchedBy, countedOf, pieceOf, coversOf, listsOf, spokenOf, spokenBelow, signedOf, roleBy, roleOf, roleIn, isNear, ledOf, fitsOf, matchedOf, leadsOf, stepOf}
+use Rattle.usable.specs.Rows.{blank, flag, rowFrom, rowAt, sameLetters, vouchedBy, countedOf, pieceOf, listsOf, spokenOf, spokenBelow, signedOf, roleBy, roleOf, roleIn, isNear, ledOf, fitsOf, matchedOf, leadsOf, stepOf}
 use Rattle.usable.specs.Table.{verdictIn}
 
 -- the rows of a table of nothing but 0
@@ -102,12 +102,6 @@ module _ (row : Row) (spoken : ℕ) where
 
 -- what is compared and looked up are the parts of the two rows' items
 module _ (held : Row → List ℕ) (list row : Row) where
-  pub covers-parts :
-      {a b : List ℕ} {r : Bool} → r ≡ alike a b → a ≡ pieceOf held list (list .«issuer_at») (list .«issuer_len»)
-      → b ≡ pieceOf held row (row .«issuer_at») (row .«issuer_len») → r ≡ coversOf held list row
-  unfolding coversOf
-  covers-parts e f g = cc
-
   pub lists-parts :
       {x y : List ℕ} {r : Bool} → r ≡ listedOf paper x (list .from) (list .end) y → x ≡ held list
       → y ≡ pieceOf held row (row .«serial_at») (row .«serial_len») → r ≡ listsOf held list row
@@ -119,15 +113,15 @@ module _ (held : Row → List ℕ) (list row : Row) (before : ℕ) where
   unfolding spokenOf
   spoken-listed e = rw e
 
-  pub spoken-apart : eqb before 2 ≡ false → coversOf held list row ≡ false → spokenOf held list row before ≡ before
+  pub spoken-apart : eqb before 2 ≡ false → sameLetters row list ≡ false → spokenOf held list row before ≡ before
   unfolding spokenOf
   spoken-apart e f = rw (e, f)
 
-  pub spoken-lists : eqb before 2 ≡ false → coversOf held list row ≡ true → listsOf held list row ≡ true → spokenOf held list row before ≡ 2
+  pub spoken-lists : eqb before 2 ≡ false → sameLetters row list ≡ true → listsOf held list row ≡ true → spokenOf held list row before ≡ 2
   unfolding spokenOf
   spoken-lists e f g = rw (e, f, g)
 
-  pub spoken-covers : eqb before 2 ≡ false → coversOf held list row ≡ true → listsOf held list row ≡ false → spokenOf held list row before ≡ 1
+  pub spoken-covers : eqb before 2 ≡ false → sameLetters row list ≡ true → listsOf held list row ≡ false → spokenOf held list row before ≡ 1
   unfolding spokenOf
   spoken-covers e f g = rw (e, f, g)
 

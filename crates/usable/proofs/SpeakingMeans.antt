@@ -13,11 +13,11 @@ use Rattle.usable.specs.declared.opened.Row.{Row}
 use Rattle.usable.specs.Items.{itemAt, someBelow, somePlace, partOf}
 use Rattle.usable.specs.Usable.{counts, covers, lists, speaksOf}
 use Rattle.usable.specs.Table.{verdictIn}
-use Rattle.usable.specs.Rows.{certificateTold, listTold, rowAt, countedOf, pieceOf, coversOf, listsOf, spokenOf, spokenBelow}
+use Rattle.usable.specs.Rows.{certificateTold, listTold, rowAt, countedOf, pieceOf, sameLetters, listsOf, spokenOf, spokenBelow}
 use Rattle.usable.proofs.Booleans.{first, and-when}
 use Rattle.usable.proofs.Scope.{Placed, Told, Scope}
 use Rattle.usable.proofs.StandingMeans.{list-row}
-use Rattle.usable.proofs.CountingMeans.{some-same, Counts, Certificate, Crl, certificate-told, list-told, row-reading, counted}
+use Rattle.usable.proofs.CountingMeans.{some-same, Counts, Certificate, Crl, letters, certificate-told, list-told, row-reading, counted}
 
 -- what is said where some CRL covers and lists, and where some covers
 abbrev said : Bool → Bool → ℕ
@@ -50,7 +50,7 @@ is-one false false = refl
 module _ (held : Row → List ℕ) (rows : List (List ℕ)) (counting : List ℕ) (row : Row) where
   -- a counting CRL that covers the row, and one that lists it besides
   unfoldable speaking : ℕ → Bool
-  speaking c = eqb (getD counting c 0) 1 && coversOf held (rowAt rows c) row
+  speaking c = eqb (getD counting c 0) 1 && sameLetters row (rowAt rows c)
 
   unfoldable listing : ℕ → Bool
   listing c = speaking c && listsOf held (rowAt rows c) row
@@ -60,7 +60,7 @@ module _ (held : Row → List ℕ) (rows : List (List ℕ)) (counting : List ℕ
   spoken-some zero = refl
   spoken-some (suc c) =
       rw (spoken-some c)
-      (turn (eqb (getD counting c 0) 1) (coversOf held (rowAt rows c) row) (listsOf held (rowAt rows c) row) (someBelow c listing)
+      (turn (eqb (getD counting c 0) 1) (sameLetters row (rowAt rows c)) (listsOf held (rowAt rows c) row) (someBelow c listing)
       (someBelow c speaking))
 
   spoken-one : (n : ℕ) → eqb (spokenBelow held rows counting row n) 1 ≡ (someBelow n speaking && not (someBelow n listing))
@@ -95,11 +95,9 @@ exchanged false false false l f = refl
 
 module _ (items : List Item) (at : ℕ → ℕ) (table : List ℕ) (moment : ℕ) {there within : ℕ → Bool} (scope : Scope items (verdictIn (length items) table) moment there within) (rows : List (List ℕ)) (told : Told moment items at there rows) (held : Row → List ℕ) (placed : Placed held items at) where
   covers-row :
-      (c p : ℕ) → c < length items → p < length items → Crl items at rows c → Certificate items at rows p
-      → coversOf held (rowAt rows c) (rowAt rows p) ≡ covers items c p
-  unfolding coversOf covers pieceOf partOf
-  covers-row c p hc hp (g, jg, rg) (f, jf, rf) =
-      rw (list-told items c g jg, certificate-told items p f jf, rg, rf, placed c hc (listTold (itemAt items c) (at c) g) refl refl, placed p hp (certificateTold (itemAt items p) (at p) f) refl refl)
+      (c p : ℕ) → Crl items at rows c → Certificate items at rows p → sameLetters (rowAt rows p) (rowAt rows c) ≡ covers items c p
+  unfolding covers
+  covers-row c p list own = letters items at rows p c own list
 
   lists-row :
       (c p : ℕ) → c < length items → p < length items → Crl items at rows c → Certificate items at rows p
@@ -129,8 +127,8 @@ module _ (items : List Item) (at : ℕ → ℕ) (table : List ℕ) (moment : ℕ
         → speaking held rows counting (rowAt rows p) c ≡ (within p && speaksOf items (verdictIn (length items) table) moment p c)
     unfolding speaking speaksOf
     speaks p c hp hc near least most own =
-        and-when (eqb (getD counting c 0) 1) (coversOf held (rowAt rows c) (rowAt rows p)) (covers items c p)
-        (λ k. covers-row c p hc hp (counting-list c hc k) own)
+        and-when (eqb (getD counting c 0) 1) (sameLetters (rowAt rows p) (rowAt rows c)) (covers items c p)
+        (λ k. covers-row c p (counting-list c hc k) own)
         ∙ ap (λ (x : Bool). x && covers items c p) (is c hc)
         ∙ exchanged (within c) (within p) (counts items (verdictIn (length items) table) moment c) (covers items c p)
         (λ k l. scope .covering c p hc hp k near least most l)
@@ -147,7 +145,7 @@ module _ (items : List Item) (at : ℕ → ℕ) (table : List ℕ) (moment : ℕ
         ∙ and-assoc (within p) (speaksOf items (verdictIn (length items) table) moment p c) (lists items c p)
       where
         speaking-counts : (c : ℕ) → speaking held rows counting (rowAt rows p) c ≡ true → eqb (getD counting c 0) 1 ≡ true
-        speaking-counts c k = first (eqb (getD counting c 0) 1) (coversOf held (rowAt rows c) (rowAt rows p)) k
+        speaking-counts c k = first (eqb (getD counting c 0) 1) (sameLetters (rowAt rows p) (rowAt rows c)) k
 
     -- what the CRLs say is 1 where the certificate is within, one that counts covers it, and none of those lists its serial
     pub spoken-means :

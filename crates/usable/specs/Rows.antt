@@ -117,16 +117,12 @@ heldIn s row = take (row .size) (drop (row .at) s)
 unfoldable pub pieceOf : (Row → List ℕ) → Row → ℕ → ℕ → List ℕ
 pieceOf held row at size = take size (drop at (held row))
 
-unfoldable pub coversOf : (Row → List ℕ) → Row → Row → Bool
-coversOf held list row =
-    alike (pieceOf held list (list .«issuer_at») (list .«issuer_len»)) (pieceOf held row (row .«issuer_at») (row .«issuer_len»))
-
 unfoldable pub listsOf : (Row → List ℕ) → Row → Row → Bool
 listsOf held list row = listedOf paper (held list) (list .from) (list .end) (pieceOf held row (row .«serial_at») (row .«serial_len»))
 
 -- what one more counting CRL says: 0 none covers the certificate, 1 one covers it, 2 one that covers it lists its serial
 unfoldable pub spokenOf : (Row → List ℕ) → Row → Row → ℕ → ℕ
-spokenOf held list row before = cond (eqb before 2) 2 (cond (coversOf held list row) (cond (listsOf held list row) 2 1) before)
+spokenOf held list row before = cond (eqb before 2) 2 (cond (sameLetters row list) (cond (listsOf held list row) 2 1) before)
 
 -- what so many CRLs say
 unfoldable pub spokenBelow : (Row → List ℕ) → List (List ℕ) → List ℕ → Row → ℕ → ℕ

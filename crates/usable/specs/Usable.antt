@@ -4,7 +4,6 @@ use mathlib.Core.Bool.{Bool, _&&_, not}
 use mathlib.Core.List.{List}
 use lib.Dec.{eqb}
 use Rattle.der.specs.Forms.{paper}
-use Rattle.octets.specs.Alike.{alike}
 use Rattle.crl.specs.Listed.{listedOf}
 use Rattle.image.specs.Items.{Item}
 use Rattle.usable.specs.Items.{itemAt, certificateAt, listAt, somePlace, within, partOf}
@@ -31,12 +30,9 @@ counts items verdict moment crl =
     && (listAt items crl (λ g. within (g .«this_update») (g .«next_update») moment)
     && somePlace items λ a. usableAnchor items moment a && (sameCountry items a crl && verdict a crl))
 
--- a CRL covers a certificate when the issuer names are equal octet by octet
+-- a CRL covers a certificate when their issuer countries are equal
 unfoldable pub covers : List Item → ℕ → ℕ → Bool
-covers items crl place =
-    listAt items crl λ g.
-    certificateAt items place λ f.
-    alike (partOf items crl (g .«issuer_at») (g .«issuer_len»)) (partOf items place (f .«issuer_at») (f .«issuer_len»))
+covers items crl place = sameCountry items place crl
 
 -- a CRL lists a certificate's serial
 unfoldable pub lists : List Item → ℕ → ℕ → Bool

@@ -47,7 +47,7 @@ fn vouched(table: &[u8], places: usize, rows: &[[usize; 17]; 96], list: usize) -
 }
 
 // Whether two rows have the same letters.
-fn same_letters(a: Row, b: Row) -> bool
+pub(crate) fn same_letters(a: Row, b: Row) -> bool
     ensures { λ r. ⌜ r ≡ sameLetters a b ⌝ }
 {
     if a.first != b.first {

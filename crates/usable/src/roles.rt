@@ -1,9 +1,9 @@
 // What each place may be in a chain.
+use crate::counting::same_letters;
 use crate::opened::Row;
 use crate::opened::row_at;
 use crl::listed;
 use octets::part;
-use octets::same;
 ghost use mathlib.Core.Path.{_≡_};
 ghost use Prim.Native.Nat.{ℕ, _≤_, _<_};
 ghost use lib.ListN.{getD, replicate};
@@ -131,8 +131,7 @@ fn spoken_by(octets: &[u8], list: Row, row: Row, before: u8) -> u8
     if before == 2 {
         return 2;
     }
-    let issuer = piece(octets, list, list.issuer_at, list.issuer_len);
-    if !same(issuer, piece(octets, row, row.issuer_at, row.issuer_len)) {
+    if !same_letters(row, list) {
         return before;
     }
     if listed(

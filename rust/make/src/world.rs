@@ -93,9 +93,10 @@ impl World {
     /// A world of random size and order.
     pub fn varied(random: &mut Random) -> World {
         let plan = Plan::varied(random);
-        match random.below(3) {
+        match random.below(4) {
             0 => World::alike(random, plan, true),
             1 => World::line(random, plan, true),
+            2 => World::renamed(random, plan, true),
             _ => World::mixed(random, plan, true),
         }
     }
@@ -103,7 +104,7 @@ impl World {
     /// All items of one name and one key: the table alone decides.
     pub fn alike(random: &mut Random, plan: Plan, shuffled: bool) -> World {
         let one = [authority(0, 0, 0)];
-        Maker { random, plan, authorities: &one }.world(shuffled, |_, _| (0, 0))
+        Maker::new(random, plan, &one).world(shuffled, |_, _| (0, 0))
     }
 
     /// An anchor, then links in a line, each with its own key; the signers and
@@ -111,7 +112,7 @@ impl World {
     pub fn line(random: &mut Random, plan: Plan, shuffled: bool) -> World {
         let authorities: Vec<_> = (0..=plan.links).map(|key| authority(0, 0, key)).collect();
         let last = plan.links;
-        Maker { random, plan, authorities: &authorities }.world(shuffled, |kind, number| match kind {
+        Maker::new(random, plan, &authorities).world(shuffled, |kind, number| match kind {
             LINK => (number, number + 1),
             SIGNER => (last, last),
             _ => (0, 0),
@@ -120,7 +121,7 @@ impl World {
 
     /// Several countries, names and keys, mixed as it comes.
     pub fn mixed(random: &mut Random, plan: Plan, shuffled: bool) -> World {
-        let (countries, names, keys) = (random.between(1, 2), random.between(1, 2), random.between(1, 3));
+        let (countries, names, keys) = (random.between(1, 2), random.between(1, 3), random.between(1, 3));
         let mut authorities = Vec::new();
         for country in 0..countries {
             for name in 0..names {
@@ -132,9 +133,25 @@ impl World {
         random.shuffle(&mut authorities);
         let all = authorities.len();
         let mut choice = random.clone();
-        Maker { random, plan, authorities: &authorities }.world(shuffled, |kind, number| match kind {
+        Maker::new(random, plan, &authorities).world(shuffled, |kind, number| match kind {
             // Anchors and CRLs of as many authorities as may be.
             ANCHOR | CRL => (number % all, number % all),
+            _ => (choice.below(all), choice.below(all)),
+        })
+    }
+
+    /// States whose CSCA was renamed, with letters that differ in one: certificates
+    /// of all names, CRLs under the last name alone.
+    pub fn renamed(random: &mut Random, plan: Plan, shuffled: bool) -> World {
+        let (countries, names) = (random.between(1, 2), random.between(2, 3));
+        let authorities: Vec<_> =
+            (0..countries).flat_map(|country| (0..names).map(move |name| authority(country, name, 0))).collect();
+        let all = authorities.len();
+        let mut choice = random.clone();
+        Maker::new(random, plan, &authorities).world(shuffled, |kind, number| match kind {
+            // The last names have anchors first.
+            ANCHOR => (all - 1 - number % all, all - 1 - number % all),
+            CRL => (all - 1 - number % countries * names, all - 1 - number % countries * names),
             _ => (choice.below(all), choice.below(all)),
         })
     }
@@ -152,8 +169,8 @@ impl World {
 fn authority(country: usize, name: usize, key: usize) -> Authority {
     let letters = [b'U', b'T' + country as u8];
     Authority {
-        name: name::name(letters, ["CSCA", "CSCA-2"][name % 2]),
-        key: vec![(country * 64 + name * 32) as u8, key as u8, 3, 4, 5, 6, 7, 8],
+        name: name::name(letters, ["CSCA", "CSCA-2", "National CSCA"][name % 3]),
+        key: vec![(country * 128 + name * 32) as u8, key as u8, 3, 4, 5, 6, 7, 8],
     }
 }
 
@@ -161,9 +178,15 @@ struct Maker<'a> {
     random: &'a mut Random,
     plan: Plan,
     authorities: &'a [Authority],
+    /// The serials of the certificates made.
+    serials: Vec<Vec<u8>>,
 }
 
-impl Maker<'_> {
+impl<'a> Maker<'a> {
+    fn new(random: &'a mut Random, plan: Plan, authorities: &'a [Authority]) -> Maker<'a> {
+        Maker { random, plan, authorities, serials: Vec::new() }
+    }
+
     /// Makes all items; `choose` gives for a kind and number the authority that
     /// signs and the one that the item is.
     fn world(&mut self, shuffled: bool, mut choose: impl FnMut(u8, usize) -> (usize, usize)) -> World {
@@ -217,6 +240,14 @@ impl Maker<'_> {
         serial
     }
 
+    /// A serial that a CRL lists, now and then one of an item.
+    fn listed(&mut self) -> Vec<u8> {
+        if !self.serials.is_empty() && self.random.percent(10) {
+            return self.random.pick(&self.serials).clone();
+        }
+        self.serial()
+    }
+
     fn certificate(
         &mut self,
         kind: u8,
@@ -225,11 +256,13 @@ impl Maker<'_> {
         times: (u64, u64),
         wrong: bool,
     ) -> Vec<u8> {
+        let serial = self.serial();
+        self.serials.push(serial.clone());
         let mut made = Certificate::new(&certificate::Parameters {
             role: kind as u64,
             issuer: signer.name.clone(),
             subject: own.name.clone(),
-            serial: self.serial(),
+            serial,
             start: times.0.min(times.1),
             end: times.1,
             subject_key_id: (kind != SIGNER).then(|| own.key.clone()),
@@ -250,7 +283,7 @@ impl Maker<'_> {
             issuer: signer.name.clone(),
             this_update: first.min(last),
             next_update: last,
-            serials: (0..entries).map(|_| self.serial()).collect(),
+            serials: (0..entries).map(|_| self.listed()).collect(),
             authority_key_id: signer.key.clone(),
         });
         if wrong && self.random.percent(40) {

@@ -77,7 +77,7 @@ enum Known {
     Nothing,
     /// It can play no part.
     Out,
-    /// A CRL whose issuer was found, no more.
+    /// A CRL whose country was found, no more.
     Peeked,
     /// It passes and the moment is within its times.
     Passes,
@@ -231,10 +231,10 @@ impl<'a> Question<'a> {
 
     /// Whether a counting CRL covers a certificate and none that does lists it.
     fn covered_unlisted(&mut self, place: usize) -> bool {
-        let Facts { issuer, serial_or_list: serial, .. } = self.facts[place];
+        let Facts { country, serial_or_list: serial, .. } = self.facts[place];
         let mut covered = false;
         for crl in each(self.crls) {
-            if !self.issuer_is(crl, issuer) || !self.counts(crl) {
+            if !self.country_is(crl, country) || !self.counts(crl) {
                 continue;
             }
             if crl::lists(self.facts[crl].serial_or_list, serial) {
@@ -245,16 +245,16 @@ impl<'a> Question<'a> {
         covered
     }
 
-    /// Whether a CRL, if it passes, has this issuer.
-    fn issuer_is(&mut self, crl: usize, issuer: &[u8]) -> bool {
+    /// Whether a CRL, if it passes, is of this country.
+    fn country_is(&mut self, crl: usize, country: [u8; 2]) -> bool {
         if self.known[crl] == Known::Nothing {
             self.known[crl] = Known::Out;
-            if let Some(found) = crl::issuer_place(self.open.item(crl)) {
+            if let Some(found) = crl::country_place(self.open.item(crl)) {
                 self.known[crl] = Known::Peeked;
-                self.facts[crl].issuer = found;
+                self.facts[crl].country = found;
             }
         }
-        self.known[crl] != Known::Out && self.facts[crl].issuer == issuer
+        self.known[crl] != Known::Out && self.facts[crl].country == country
     }
 
     /// Whether a CRL counts.

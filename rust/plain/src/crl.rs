@@ -4,7 +4,7 @@ use crate::calendar::{day_real, difference, Days};
 use crate::certificate::one_time;
 use crate::der::{offset, split, SEQUENCE};
 use crate::extensions::{bit, entry_extensions, extensions, Extensions, AUTHORITY_KEY_ID, CRL_NUMBER};
-use crate::name::{name, Name};
+use crate::name::{country_in, name, Name};
 use crate::reader::{read_item, Reader};
 use crate::refusal::Refusal;
 
@@ -164,15 +164,14 @@ fn judge<'a>(shape: &Shape<'a>) -> Result<Fields<'a>, u64> {
     })
 }
 
-/// The whole element that stands where a CRL has its issuer, by the headers
-/// alone. A CRL that passes has its issuer here; of any other this says nothing.
-pub(crate) fn issuer_place(item: &[u8]) -> Option<&[u8]> {
+/// The letters where a CRL has its issuer's country, by the headers alone. A CRL
+/// that passes has them here; of any other this says nothing.
+pub(crate) fn country_place(item: &[u8]) -> Option<[u8; 2]> {
     let outermost = split(item)?;
     let tbs = split(outermost.contents)?;
     let version = split(tbs.contents)?;
     let algorithm = split(version.after)?;
-    let issuer = split(algorithm.after)?;
-    Some(&algorithm.after[..algorithm.after.len() - issuer.after.len()])
+    country_in(split(algorithm.after)?.contents)
 }
 
 /// Whether the list of entries of a passing CRL, given by its contents, has an

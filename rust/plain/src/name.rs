@@ -1,6 +1,6 @@
 //! Names and their country.
 
-use crate::der::{PRINTABLE_STRING, SEQUENCE, SET};
+use crate::der::{split, PRINTABLE_STRING, SEQUENCE, SET};
 use crate::reader::Reader;
 
 /// countryName, 2.5.4.6.
@@ -54,4 +54,22 @@ fn letters(id: u8, contents: &[u8]) -> Option<[u8; 2]> {
         }
         _ => None,
     }
+}
+
+/// The two octets of the first countryName in the contents of a name, by the
+/// headers alone. A name that keeps the rules has its letters here.
+pub(crate) fn country_in(contents: &[u8]) -> Option<[u8; 2]> {
+    let mut names = contents;
+    while let Some(set) = split(names) {
+        let mut attributes = set.contents;
+        while let Some(attribute) = split(attributes) {
+            let oid = split(attribute.contents)?;
+            if oid.contents == COUNTRY_NAME {
+                return split(oid.after)?.contents.try_into().ok();
+            }
+            attributes = attribute.after;
+        }
+        names = set.after;
+    }
+    None
 }

@@ -164,11 +164,12 @@ fn every_counting_crl_counts() {
     old.next_update = 20240201000000;
     store.image.items[second] = Crl::new(&old).encode();
     assert_eq!(store.places(3), [0, 3]);
-    // Another issuer name covers nothing; another country's anchor does not make it count.
+    // A list of the country under another name revokes too.
     let mut other = crl_says(&[13]);
     other.issuer = name::name(*b"UT", "CSCA-2");
     store.image.items[second] = Crl::new(&other).encode();
-    assert_eq!(store.places(3), [0, 3]);
+    assert_eq!(store.places(3), []);
+    // Another country's anchor does not make a list count.
     let mut only = example(&[]);
     only.verdicts = vec![(0, 3), (5, 4)];
     let mut foreign = says(1);
@@ -184,6 +185,37 @@ fn every_counting_crl_counts() {
     assert_eq!(only.places(3), [0, 3]);
     only.image.flags[place] = 0;
     assert_eq!(only.places(3), []);
+}
+
+#[test]
+fn a_crl_covers_by_country() {
+    // The CSCA was renamed: its list bears the new name, the DS the old one.
+    let renamed = |serials: &[u8], letters: [u8; 2], anchor: [u8; 2]| {
+        let mut store = Store::new();
+        store.put(ANCHOR, &says(9));
+        store.put(SIGNER, &says(13));
+        let mut list = crl_says(serials);
+        list.issuer = name::name(letters, "CSCA-2");
+        let list = store.put_crl(&list);
+        let mut other = says(1);
+        other.issuer = name::name(anchor, "CSCA-2");
+        other.subject = other.issuer.clone();
+        other.own_key = 2;
+        let other = store.put(ANCHOR, &other);
+        store.verdicts = vec![(0, 1), (other, list)];
+        store
+    };
+    assert_eq!(renamed(&[14], *b"UT", *b"UT").places(1), [0, 1]);
+    assert_eq!(renamed(&[13], *b"UT", *b"UT").places(1), []);
+    // A list of another state covers nothing, even where one letter is the same.
+    for letters in [*b"UX", *b"XT", *b"TU"] {
+        let mut store = renamed(&[13], letters, letters);
+        assert_eq!(store.places(1), []);
+        // Beside one of the country it revokes nothing.
+        let own = store.put_crl(&crl_says(&[14]));
+        store.verdicts.push((0, own));
+        assert_eq!(store.places(1), [0, 1]);
+    }
 }
 
 #[test]
@@ -217,7 +249,7 @@ fn steps() {
         change(&mut signer);
         let mut store = good.clone();
         store.image.items[3] = item(SIGNER, &signer);
-        // A CRL of the changed name covers it.
+        // The country's CRL covers it, and so does one of the changed name.
         let mut covering = crl_says(&[]);
         covering.issuer = signer.issuer;
         let place = store.put_crl(&covering);

@@ -165,19 +165,18 @@ fn slow(octets: &[u8], table: &[u8], moment: u64, target: usize) -> Chain {
         }
         _ => false,
     };
-    let counting: Vec<(&[u8], Vec<&[u8]>)> = (0..n)
+    let counting: Vec<([u8; 2], Vec<&[u8]>)> = (0..n)
         .filter(|&place| counts(place))
         .filter_map(|place| match &items[place] {
-            Item::Crl { octets, says } => Some((part(octets, says.issuer_at, says.issuer_len), serials(octets))),
+            Item::Crl { octets, says } => Some((says.country, serials(octets))),
             _ => None,
         })
         .collect();
     let usable = |place: usize| match &items[place] {
         Item::Certificate { kind: 1, .. } => anchor(place).is_some(),
         Item::Certificate { octets, says, .. } if within(says) => {
-            let issuer = part(octets, says.issuer_at, says.issuer_len);
             let serial = part(octets, says.serial_at, says.serial_len);
-            let covering: Vec<_> = counting.iter().filter(|crl| crl.0 == issuer).collect();
+            let covering: Vec<_> = counting.iter().filter(|crl| crl.0 == says.country).collect();
             !covering.is_empty() && covering.iter().all(|crl| !crl.1.contains(&serial))
         }
         _ => false,

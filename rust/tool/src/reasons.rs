@@ -81,14 +81,15 @@ impl<'a> World<'a> {
         }
     }
 
-    /// No counting CRL covers it, or one that does lists it.
+    /// No counting CRL of its country covers it, or one that does lists it.
     fn revocation(&self, place: &Place<'a>, uncounted: &[Vec<Reason>]) -> Vec<Reason> {
         let Some(told) = place.certificate() else { return Vec::new() };
-        let of_issuer: Vec<usize> = (0..self.places.len()).filter(|crl| self.names_issuer(*crl, told.issuer)).collect();
+        let of_country: Vec<usize> = (0..self.places.len()).filter(|crl| self.crl_of(*crl, told.country)).collect();
         let counts = |crl: &usize| uncounted.get(*crl).is_some_and(Vec::is_empty);
-        let counting: Vec<usize> = of_issuer.iter().copied().filter(counts).collect();
+        let counting: Vec<usize> = of_country.iter().copied().filter(counts).collect();
         if counting.is_empty() {
-            return vec![reason("uncovered", format!("no CRL covers it: {}", why_uncovered(&of_issuer, uncounted)))];
+            let why = why_uncovered(&of_country, uncounted);
+            return vec![reason("uncovered", format!("no CRL of {} covers it: {why}", letters(told.country)))];
         }
         let listing = counting.into_iter().filter(|crl| self.lists(*crl, told.serial));
         listing
@@ -96,8 +97,8 @@ impl<'a> World<'a> {
             .collect()
     }
 
-    fn names_issuer(&self, place: usize, issuer: &[u8]) -> bool {
-        self.places.get(place).and_then(Place::crl).is_some_and(|crl| crl.issuer == issuer)
+    fn crl_of(&self, place: usize, country: [u8; 2]) -> bool {
+        self.places.get(place).and_then(Place::crl).is_some_and(|crl| crl.country == country)
     }
 
     /// Why a CRL does not count.
@@ -164,16 +165,16 @@ impl<'a> World<'a> {
     }
 }
 
-fn why_uncovered(of_issuer: &[usize], uncounted: &[Vec<Reason>]) -> String {
-    if of_issuer.is_empty() {
-        return "none that passes its profile has its issuer's name".to_string();
+fn why_uncovered(of_country: &[usize], uncounted: &[Vec<Reason>]) -> String {
+    if of_country.is_empty() {
+        return "none that passes its profile has its issuer's country".to_string();
     }
     let one = |crl: &usize| {
         let faults = uncounted.get(*crl).map(Vec::as_slice).unwrap_or_default();
         let texts: Vec<&str> = faults.iter().map(|fault| fault.text.as_str()).collect();
         format!("the one at place {crl} does not count ({})", texts.join("; "))
     };
-    of_issuer.iter().map(one).collect::<Vec<_>>().join(", ")
+    of_country.iter().map(one).collect::<Vec<_>>().join(", ")
 }
 
 /// The serials of a CRL that passed: the entries are the sixth field of its signed part, where they are there.
