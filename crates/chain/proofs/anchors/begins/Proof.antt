@@ -23,6 +23,16 @@ abbrev μ-loop : tie.MeasureT-loop
 few : {u places : ℕ} → places ≤ 96 → u < places → u * places ≤ 96 * 96
 few small h = mul-le-mul {n₂ = 96} {m₂ = 96} (omega arith) small
 
+-- the points of a turn, each from a later one
+abbrev asked : tie.Then4 Inv-loop2 μ-loop2 Inv-loop μ-loop → tie.Then2 Inv-loop2 μ-loop2 Inv-loop μ-loop
+asked c = c .before .before .before .before
+
+abbrev inner : tie.Then2 Inv-loop2 μ-loop2 Inv-loop μ-loop → tie.At-loop2 Inv-loop2 μ-loop2 Inv-loop μ-loop
+inner c = c .before .before
+
+abbrev outer : tie.At-loop2 Inv-loop2 μ-loop2 Inv-loop μ-loop → tie.In-loop Inv-loop2 μ-loop2 Inv-loop μ-loop
+outer c = c .before .before
+
 loop-holds : tie.Need-loop-holds Inv-loop2 μ-loop2 Inv-loop μ-loop
 loop-holds c = (c .before .before .pre, omega arith)
 
@@ -39,17 +49,25 @@ mul-octet : tie.Need-mul-octet Inv-loop2 μ-loop2 Inv-loop μ-loop
 mul-octet c = omega (arith, few (c .before .before .loop2 .inv .0) (c .before .before .loop2 .inv .1))
 
 add-octet : tie.Need-add-octet Inv-loop2 μ-loop2 Inv-loop μ-loop
-add-octet c = omega (arith, c .before .before .loop2 .inv .0, few (c .before .before .loop2 .inv .0) (c .before .before .loop2 .inv .1), c .before .loop2-test .taken)
+add-octet c =
+    let i = c .before .before .loop2 .inv in
+    omega (arith, i .0, few (i .0) (i .1), c .before .loop2-test .taken)
 
 returns : tie.Need-returns Inv-loop2 μ-loop2 Inv-loop μ-loop
 returns c =
-    let i = c .before .before .before .before .before .before .loop2 .inv in
-    let v = c .before .before .before .before .before .before .loop2 .v in
-    let here : c .before .before .before .before .before .before .before .before .before .loop .u < 96 = omega (arith, i .0, i .1) in
-    let there : v < 96 = omega (arith, i .0, c .before .before .before .before .before .loop2-test .taken) in
-    let role = sym (c .before .before .before .before .if2 .taken) in
-    let step = step-asked _ _ _ _ _ (c .before .before .before .before .before .before .before .before .before .loop .u) v refl refl role refl (leads-anchor (c .before .before .before .before .before .before .before .if1 .taken)) (c .before .before .before .octet .ensures) (c .before .before .if3 .taken) (c .before .matched .ensures .0 here there) in
-    λ e. (c .before .before .before .before .before .before .before .before .before .loop .u, v, flag-true _ step (c .if4 .taken))
+    let a = asked c in
+    let n = inner a in
+    let o = outer n in
+    let i = n .loop2 .inv in
+    let u = o .before .loop .u in
+    let v = n .loop2 .v in
+    let here : u < 96 = omega (arith, i .0, i .1) in
+    let there : v < 96 = omega (arith, i .0, a .before .loop2-test .taken) in
+    let role = sym (a .if2 .taken) in
+    let step =
+    step-asked _ _ _ _ _ u v refl refl role refl (leads-anchor (n .before .if1 .taken)) (c .before .before .before .octet .ensures)
+    (c .before .before .if3 .taken) (c .before .matched .ensures .0 here there) in
+    λ e. (u, v, flag-true _ step (c .if4 .taken))
 
 add-v : tie.Need-add-v Inv-loop2 μ-loop2 Inv-loop μ-loop
 add-v c = omega (arith, c .before .before .loop2 .inv .0, c .before .loop2-test .taken)

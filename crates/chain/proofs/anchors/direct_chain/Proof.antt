@@ -29,6 +29,16 @@ abbrev μ-loop : tie.MeasureT-loop
 few : {u places : ℕ} → places ≤ 96 → u < places → u * places ≤ 96 * 96
 few small h = mul-le-mul {n₂ = 96} {m₂ = 96} (omega arith) small
 
+-- the points of a turn and the start, each from a later one
+abbrev asked : tie.Then3 Inv-loop μ-loop → tie.Then2 Inv-loop μ-loop
+asked c = c .before .before
+
+abbrev anchored : tie.Then2 Inv-loop μ-loop → tie.Then1 Inv-loop μ-loop
+anchored c = c .before .before
+
+abbrev start : tie.At-loop Inv-loop μ-loop → tie.Start Inv-loop μ-loop
+start c = c .before .before .before
+
 loop-holds : tie.Need-loop-holds Inv-loop μ-loop
 loop-holds c = let p = c .before .before .pre in record { small = p .0; there = p .1; inside = omega arith; none = λ w h. absurd (omega arith) }
 
@@ -44,23 +54,31 @@ add-octet c =
     omega (arith, i .small, i .there, few (i .small) (c .before .loop-test .taken))
 
 array-read-matched : tie.Need-array-read-matched Inv-loop μ-loop
-array-read-matched c = omega (arith, c .before .before .before .before .loop .inv .small, c .before .before .before .before .loop .inv .there)
+array-read-matched c =
+    let i = anchored c .before .before .loop .inv in
+    omega (arith, i .small, i .there)
 
 pair-requires : tie.Need-pair-requires Inv-loop μ-loop
 pair-requires c κs =
-    let i = c .before .before .before .before .before .before .loop .inv in (omega (arith, i .small, c .before .before .before .before .before .loop-test .taken), omega (arith, i .small, i .there))
+    let t = anchored (asked c) .before in
+    let i = t .before .loop .inv in
+    (omega (arith, i .small, t .loop-test .taken), omega (arith, i .small, i .there))
 
 returns : tie.Need-returns Inv-loop μ-loop
 returns c =
-    let i = c .before .before .before .before .before .before .before .loop .inv in
-    let here : c .before .before .before .before .before .before .before .loop .u < 96 = omega (arith, i .small, c .before .before .before .before .before .before .loop-test .taken) in
+    let q = asked (c .before) in
+    let a = anchored q in
+    let t = a .before in
+    let i = t .before .loop .inv in
+    let u = t .before .loop .u in
+    let here : u < 96 = omega (arith, i .small, t .loop-test .taken) in
     λ z. record {
-      from = c .before .before .before .before .before .before .before .loop .u;
-      inside = c .before .before .before .before .before .before .loop-test .taken;
-      anchor = c .before .before .before .before .before .if1 .taken;
+      from = u;
+      inside = t .loop-test .taken;
+      anchor = a .if1 .taken;
       good =
           flag-true _
-          (step-asked _ _ _ _ _ _ _ refl refl refl refl (leads-anchor (c .before .before .before .before .before .if1 .taken)) (c .before .before .before .before .octet .ensures) (c .before .before .before .if2 .taken)
+          (step-asked _ _ _ _ _ _ _ refl refl refl refl (leads-anchor (a .if1 .taken)) (q .before .octet .ensures) (q .if2 .taken)
           (c .before .before .matched .ensures .0 here (omega (arith, i .small, i .there))))
           (c .before .if3 .taken);
       first = i .none;
@@ -78,7 +96,7 @@ loop-again : tie.Need-loop-again Inv-loop μ-loop
 loop-again c =
     let i = c .before .before .loop .inv in
     let here : c .before .before .loop .u < 96 = omega (arith, i .small, c .before .loop-test .taken) in
-    let there : c .before .before .before .before .before .args .target < 96 = omega (arith, i .small, i .there) in
+    let there : start (c .before .before) .args .target < 96 = omega (arith, i .small, i .there) in
     record {
       small = i .small;
       there = i .there;
@@ -87,7 +105,9 @@ loop-again c =
           none-more _ _ _ _ _ _ _ (i .none)
           (λ one.
           ⊎-elim
-          (λ w. flag-false _ (step-asked _ _ _ _ _ _ _ refl refl refl refl (leads-anchor one) (w .1 .ensures) (w .2 .taken) (w .3 .ensures .0 here there)) (w .4 .left))
+          (λ w.
+          flag-false _ (step-asked _ _ _ _ _ _ _ refl refl refl refl (leads-anchor one) (w .1 .ensures) (w .2 .taken) (w .3 .ensures .0 here there))
+          (w .4 .left))
           (λ k.
           ⊎-elim
           (λ w. flag-false _ (step-unasked _ _ _ _ _ _ _ refl (leads-anchor one) (w .1 .ensures) (w .2 .left)) (λ (z : 0 ≡ 1). omega arith))

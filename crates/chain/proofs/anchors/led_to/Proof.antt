@@ -22,6 +22,16 @@ abbrev μ-loop : tie.MeasureT-loop
 few : {u places : ℕ} → places ≤ 96 → u < places → u * places ≤ 96 * 96
 few small h = mul-le-mul {n₂ = 96} {m₂ = 96} (omega arith) small
 
+-- the points of a turn and the start, each from a later one
+abbrev leading : tie.Then2 Inv-loop μ-loop → tie.Then1 Inv-loop μ-loop
+leading c = c .before .before
+
+abbrev turn : tie.Then1 Inv-loop μ-loop → tie.In-loop Inv-loop μ-loop
+turn c = c .before .before
+
+abbrev start : tie.At-loop Inv-loop μ-loop → tie.Start Inv-loop μ-loop
+start c = c .before .before .before
+
 loop-holds : tie.Need-loop-holds Inv-loop μ-loop
 loop-holds c = let p = c .before .before .pre in (p .0, p .1, omega arith, λ w h. absurd (omega arith))
 
@@ -38,7 +48,9 @@ add-octet c =
     omega (arith, i .0, i .1, few (i .0) (t .loop-test .taken))
 
 array-read-matched : tie.Need-array-read-matched Inv-loop μ-loop
-array-read-matched c = omega (arith, c .before .before .before .before .before .loop .inv .0, c .before .before .before .before .before .loop .inv .1)
+array-read-matched c =
+    let i = turn (leading c) .before .loop .inv in
+    omega (arith, i .0, i .1)
 
 returns : tie.Need-returns Inv-loop μ-loop
 returns c = λ e. absurd (let z : _≡_ {A = ℕ} 0 1 = cc in omega arith)
@@ -55,13 +67,15 @@ loop-again c =
     let i = t .before .loop .inv in
     let leads = sym (c .before .leads .ensures) in
     let here : t .before .loop .u < 96 = omega (arith, i .0, t .loop-test .taken) in
-    let there : c .before .before .before .before .before .before .args .target < 96 = omega (arith, i .0, i .1) in (
+    let there : start (t .before) .args .target < 96 = omega (arith, i .0, i .1) in (
       i .0,
       i .1,
       omega (arith, t .loop-test .taken),
       below-more _ _ (i .3)
           (⊎-elim
-          (λ w. flag-false _ (step-asked _ _ _ _ _ _ _ refl refl refl refl (leads ∙ w .0 .taken) (w .1 .ensures) (w .2 .taken) (w .3 .ensures .0 here there)) (w .4 .left))
+          (λ w.
+          flag-false _ (step-asked _ _ _ _ _ _ _ refl refl refl refl (leads ∙ w .0 .taken) (w .1 .ensures) (w .2 .taken) (w .3 .ensures .0 here there))
+          (w .4 .left))
           (λ k.
           ⊎-elim
           (λ w. flag-false _ (step-unasked _ _ _ _ _ _ _ refl (leads ∙ w .0 .taken) (w .1 .ensures) (w .2 .left)) (λ (z : 0 ≡ 1). omega arith))

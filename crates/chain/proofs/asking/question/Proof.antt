@@ -7,47 +7,93 @@ use borrow.Author.Needs.{needs}
 use Rattle.chain.proofs.asking.question.Statement.{statement}
 use Rattle.chain.proofs.asking.question.Tie as tie
 
+-- the points that the question passes, each from a later one
+abbrev start : tie.After-open → tie.Start
+start c = c .before .before .before
+
+abbrev opened : tie.After-entries → tie.After-open
+opened c = c .before .before
+
+abbrev listed : tie.After-table-good → tie.After-entries
+listed c = c .before .before
+
+abbrev sound : tie.Else2 → tie.Else1
+sound c = c .before .before
+
+abbrev timed : tie.After-entry-in → tie.Else2
+timed c = c .before .before
+
 returns : tie.Need-returns
 unfolding askedOf onImage
 returns c = rw (sym (c .before .before .before .«open» .ensures) ∙ c .before .refusal .given .1)
 
 table-good-requires : tie.Need-table-good-requires
 table-good-requires c κs =
-    let back4 = c .before .before .before .before in
-    opened-image (back4 .before .before .args .image .now) _ _ (sym (c .before .before .before .«open» .ensures) ∙ c .before .entries .given .1) .1
+    let e = c .before in
+    let o = opened e in
+    opened-image (start o .args .image .now) _ _ (sym (o .«open» .ensures) ∙ e .entries .given .1) .1
 
 returns-2 : tie.Need-returns-2
 unfolding askedOf onImage
 returns-2 c =
-    let back4 = c .before .before .before .before in
-    rw (sym (back4 .before .«open» .ensures) ∙ c .before .before .before .entries .given .1, sym (c .before .table-good .ensures) ∙ not-true _ (c .if1 .taken))
+    let e = listed (c .before) in
+    rw (sym (opened e .«open» .ensures) ∙ e .entries .given .1, sym (c .before .table-good .ensures) ∙ not-true _ (c .if1 .taken))
 
 returns-3 : tie.Need-returns-3
 unfolding askedOf onImage
 returns-3 c =
-    let back4 = c .before .before .before .before in
-    rw (sym (back4 .before .before .before .«open» .ensures) ∙ back4 .before .entries .given .1, sym (c .before .before .before .table-good .ensures) ∙ not-false _ (c .before .before .if1 .left), sym (c .before .real-moment .ensures) ∙ not-true _ (c .if2 .taken))
+    let s = c .before .before in
+    let e = listed (s .before) in
+    rw (
+      sym (opened e .«open» .ensures) ∙ e .entries .given .1,
+      sym (s .before .table-good .ensures) ∙ not-false _ (s .if1 .left),
+      sym (c .before .real-moment .ensures) ∙ not-true _ (c .if2 .taken),
+    )
 
 returns-4 : tie.Need-returns-4
 unfolding askedOf onImage
 returns-4 c =
-    let back4 = c .before .before .before .before in
-    let back8 = back4 .before .before .before .before in
-    rw (sym (back8 .«open» .ensures) ∙ back4 .before .before .entries .given .1, sym (c .before .before .before .before .table-good .ensures) ∙ not-false _ (c .before .before .before .if1 .left), sym (c .before .before .real-moment .ensures) ∙ not-false _ (c .before .if2 .left), le-ltb _ _ (c .if3 .taken))
+    let t = c .before in
+    let s = sound t in
+    let e = listed (s .before) in
+    rw (
+      sym (opened e .«open» .ensures) ∙ e .entries .given .1,
+      sym (s .before .table-good .ensures) ∙ not-false _ (s .if1 .left),
+      sym (t .before .real-moment .ensures) ∙ not-false _ (t .if2 .left),
+      le-ltb _ _ (c .if3 .taken),
+    )
 
 returns-5 : tie.Need-returns-5
 unfolding askedOf onImage
 returns-5 c =
-    let back4 = c .before .before .before .before in
-    let back8 = back4 .before .before .before .before in
-    rw (sym (back8 .before .before .before .«open» .ensures) ∙ back8 .before .entries .given .1, sym (back4 .before .before .before .table-good .ensures) ∙ not-false _ (back4 .before .before .if1 .left), sym (back4 .before .real-moment .ensures) ∙ not-false _ (c .before .before .before .before .if2 .left), lt-ltb _ _ (c .before .before .before .if3 .left), ← c .before .before .entry-in .ensures, ne-eqb _ _ (c .if4 .taken))
+    let n = c .before .before in
+    let t = timed n in
+    let s = sound t in
+    let e = listed (s .before) in
+    rw (
+      sym (opened e .«open» .ensures) ∙ e .entries .given .1,
+      sym (s .before .table-good .ensures) ∙ not-false _ (s .if1 .left),
+      sym (t .before .real-moment .ensures) ∙ not-false _ (t .if2 .left),
+      lt-ltb _ _ (n .before .if3 .left),
+      ← n .entry-in .ensures,
+      ne-eqb _ _ (c .if4 .taken),
+    )
 
 returns-6 : tie.Need-returns-6
 unfolding askedOf onImage
 returns-6 c =
-    let back4 = c .before .before .before .before in
-    let back8 = back4 .before .before .before .before in
-    rw (sym (back8 .before .before .before .«open» .ensures) ∙ back8 .before .entries .given .1, sym (back4 .before .before .before .table-good .ensures) ∙ not-false _ (back4 .before .before .if1 .left), sym (back4 .before .real-moment .ensures) ∙ not-false _ (c .before .before .before .before .if2 .left), lt-ltb _ _ (c .before .before .before .if3 .left), ← c .before .before .entry-in .ensures, eq-eqb _ _ (c .if4 .left))
+    let n = c .before .before in
+    let t = timed n in
+    let s = sound t in
+    let e = listed (s .before) in
+    rw (
+      sym (opened e .«open» .ensures) ∙ e .entries .given .1,
+      sym (s .before .table-good .ensures) ∙ not-false _ (s .if1 .left),
+      sym (t .before .real-moment .ensures) ∙ not-false _ (t .if2 .left),
+      lt-ltb _ _ (n .before .if3 .left),
+      ← n .entry-in .ensures,
+      eq-eqb _ _ (c .if4 .left),
+    )
 
 pub question-spec : {M : Type 1} → statement M
 question-spec =

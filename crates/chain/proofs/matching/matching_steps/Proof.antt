@@ -44,6 +44,16 @@ abbrev μ-loop : tie.MeasureT-loop
 column : {places : ℕ} {table roles : List ℕ} {u : ℕ} {line : List ℕ} {v : ℕ} → Line places table roles u line v → v < length line → v < places
 column {places} {table} {roles} {u} l h = let k = line-short table places u (l .is) in omega (arith, k)
 
+-- the points of a turn and the start, each from a later one
+abbrev leading : tie.At-loop2 Inv-loop2 μ-loop2 Inv-loop μ-loop → tie.After-leads Inv-loop2 μ-loop2 Inv-loop μ-loop
+leading c = c .before .before .before
+
+abbrev turn : tie.After-leads Inv-loop2 μ-loop2 Inv-loop μ-loop → tie.At-loop Inv-loop2 μ-loop2 Inv-loop μ-loop
+turn c = c .before .before
+
+abbrev start : tie.At-loop Inv-loop2 μ-loop2 Inv-loop μ-loop → tie.Start Inv-loop2 μ-loop2 Inv-loop μ-loop
+start c = c .before .before .before
+
 loop-holds : tie.Need-loop-holds Inv-loop2 μ-loop2 Inv-loop μ-loop
 loop-holds c = (
   c .before .before .pre,
@@ -59,8 +69,10 @@ array-read-leads c = omega (arith, c .before .loop .inv .0, c .loop-test .taken)
 
 mul-part : tie.Need-mul-part Inv-loop2 μ-loop2 Inv-loop μ-loop
 mul-part c =
-    let small = c .before .before .before .loop .inv .0 in
-    let most : c .before .before .before .loop .u * c .before .before .before .before .before .before .args .places ≤ 96 * 96 = mul-le-mul {n₂ = 96} {m₂ = 96} (omega (arith, small, c .before .before .loop-test .taken)) small in
+    let t = turn (c .before) in
+    let small = t .loop .inv .0 in
+    let inside = c .before .before .loop-test .taken in
+    let most : t .loop .u * start t .args .places ≤ 96 * 96 = mul-le-mul {n₂ = 96} {m₂ = 96} (omega (arith, small, inside)) small in
     omega (arith, most)
 
 loop2-holds : tie.Need-loop2-holds Inv-loop2 μ-loop2 Inv-loop μ-loop
@@ -85,10 +97,14 @@ mul-steps : tie.Need-mul-steps Inv-loop2 μ-loop2 Inv-loop μ-loop
 mul-steps c = let l = c .before .before .before .before .loop2 .inv .0 in omega (arith, l .small, l .place)
 
 add-steps : tie.Need-add-steps Inv-loop2 μ-loop2 Inv-loop μ-loop
-add-steps c = let l = c .before .before .before .before .loop2 .inv .0 in omega (arith, l .small, l .place, column l (c .before .before .before .loop2-test .taken))
+add-steps c =
+    let l = c .before .before .before .before .loop2 .inv .0 in
+    omega (arith, l .small, l .place, column l (c .before .before .before .loop2-test .taken))
 
 array-write-steps : tie.Need-array-write-steps Inv-loop2 μ-loop2 Inv-loop μ-loop
-array-write-steps c = let l = c .before .before .before .before .loop2 .inv .0 in omega (arith, l .small, l .place, column l (c .before .before .before .loop2-test .taken))
+array-write-steps c =
+    let l = c .before .before .before .before .loop2 .inv .0 in
+    omega (arith, l .small, l .place, column l (c .before .before .before .loop2-test .taken))
 
 add-v : tie.Need-add-v Inv-loop2 μ-loop2 Inv-loop μ-loop
 add-v c = let l = c .before .before .before .loop2 .inv .0 in omega (arith, l .small, column l (c .before .before .loop2-test .taken))
@@ -102,7 +118,7 @@ loop2-again c =
     let v = c .before .before .before .loop2 .v in
     let inside = column l (c .before .before .loop2-test .taken) in
     let octet = line-read _ _ _ v (l .is) inside in
-    let here : c .before .before .before .before .before .before .before .before .loop .u < 96 = omega (arith, l .small, l .place) in
+    let here : turn (leading (c .before .before .before)) .loop .u < 96 = omega (arith, l .small, l .place) in
     let there : v < 96 = omega (arith, l .small, inside) in (
       record { small = l .small; place = l .place; leads = l .leads; is = l .is; read = omega (arith, c .before .before .loop2-test .taken) },
       (
@@ -125,7 +141,11 @@ loop-less c = omega (arith, c .before .before .loop-test .taken)
 
 loop-again : tie.Need-loop-again Inv-loop2 μ-loop2 Inv-loop μ-loop
 loop-again c =
-    let (small, few, (room, cells)) = c .before .before .before .loop .inv in (
+    let t = turn (c .before) in
+    let (small, few, (room, cells)) = t .loop .inv in
+    let table = start t .args .table .now in
+    let places = start t .args .places in
+    let u = t .loop .u in (
       small,
       omega (arith, c .before .before .loop-test .taken),
       (
@@ -133,10 +153,10 @@ loop-again c =
         ⊎-elim
             (λ w.
             let l = w .2 .inv .0 in
-            let short = line-short (c .before .before .before .before .before .before .args .table .now) (c .before .before .before .before .before .before .args .places) (c .before .before .before .loop .u) (l .is) in
+            let short = line-short table places u (l .is) in
             rw (w .4)
             (row-rest small (omega (arith, short, l .read)) (w .2 .inv .1 .1)
-            (λ x h k. step-unasked _ _ _ _ _ _ x refl (l .leads) refl (line-past (c .before .before .before .before .before .before .args .table .now) (c .before .before .before .before .before .before .args .places) (c .before .before .before .loop .u) x (l .is) k (omega (arith, h, w .3 .left))))))
+            (λ x h k. step-unasked _ _ _ _ _ _ x refl (l .leads) refl (line-past table places u x (l .is) k (omega (arith, h, w .3 .left))))))
             (λ w. rw (w .1) (row-left small cells (λ x k. step-unled _ _ _ _ _ _ x refl (sym (c .before .leads .ensures) ∙ w .0 .left))))
             (c .if1 .came),
       ),

@@ -21,8 +21,20 @@ Inv-loop image table places moment first second rows₀ before near place₀ row
 abbrev μ-loop : tie.MeasureT-loop
 μ-loop image table places moment first second rows₀ before near place₀ rows place = places - place
 
+-- the points of a turn and the start, each from a later one
+abbrev found : tie.After-open-item Inv-loop μ-loop → tie.After-part Inv-loop μ-loop
+found c = c .before .before .before
+
+abbrev turn : tie.After-part Inv-loop μ-loop → tie.In-loop Inv-loop μ-loop
+turn c = c .before .before .before .before
+
+abbrev start : tie.At-loop Inv-loop μ-loop → tie.Start Inv-loop μ-loop
+start c = c .before .before .before
+
 loop-holds : tie.Need-loop-holds Inv-loop μ-loop
-loop-holds c = (c .before .before .pre .0, c .before .before .pre .1, omega arith, c .before .before .pre .2, record { before = λ k h. absurd (omega arith); behind = λ k h. refl })
+loop-holds c =
+    let p = c .before .before .pre in
+    (p .0, p .1, omega arith, p .2, record { before = λ k h. absurd (omega arith); behind = λ k h. refl })
 
 array-read-fresh : tie.Need-array-read-fresh Inv-loop μ-loop
 array-read-fresh c = omega (arith, c .before .loop .inv .1, c .loop-test .taken)
@@ -31,13 +43,16 @@ array-read-fresh-2 : tie.Need-array-read-fresh-2 Inv-loop μ-loop
 array-read-fresh-2 c = omega (arith, c .before .loop .inv .1, c .loop-test .taken)
 
 wanted-requires : tie.Need-wanted-requires Inv-loop μ-loop
-wanted-requires c κs = (c .before .before .before .before .before .loop .inv .1, c .before .before .before .before .loop-test .taken)
+wanted-requires c κs = let t = turn c in (t .before .loop .inv .1, t .loop-test .taken)
 
 mul-row : tie.Need-mul-row Inv-loop μ-loop
-mul-row c = omega (arith, c .before .before .before .before .before .before .before .before .loop .inv .1, c .before .before .before .before .before .before .before .loop-test .taken)
+mul-row c = let t = turn (found c) in omega (arith, t .before .loop .inv .1, t .loop-test .taken)
 
 element-set-from-row : tie.Need-element-set-from-row Inv-loop μ-loop
-element-set-from-row c = omega (arith, c .before .before .before .before .before .before .before .before .loop .inv .1, c .before .before .before .before .before .before .before .before .loop .inv .3, c .before .before .before .before .before .before .before .loop-test .taken)
+element-set-from-row c =
+    let t = turn (found c) in
+    let i = t .before .loop .inv in
+    omega (arith, i .1, i .3, t .loop-test .taken)
 
 add-place : tie.Need-add-place Inv-loop μ-loop
 add-place c = omega (arith, c .before .before .before .loop .inv .1, c .before .before .loop-test .taken)
@@ -47,9 +62,10 @@ loop-less c = omega (arith, c .before .before .loop-test .taken)
 
 loop-again : tie.Need-loop-again Inv-loop μ-loop
 loop-again c =
-    let i = c .before .before .before .loop .inv in
+    let t = c .before .before .before in
+    let i = t .loop .inv in
     let inside = c .before .before .loop-test .taken in
-    let there : c .before .before .before .loop .place < entryCount (c .before .before .before .before .before .before .args .image .now) = omega (arith, i .0, inside) in
+    let there : t .loop .place < entryCount (start t .args .image .now) = omega (arith, i .0, inside) in
     let told = sym (c .before .fresh .ensures) in (
       i .0,
       i .1,

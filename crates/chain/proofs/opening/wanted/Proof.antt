@@ -8,19 +8,29 @@ use Rattle.chain.proofs.HomeScope.{wanted-signed, wanted-third, wanted-
 use Rattle.chain.proofs.opening.wanted.Statement.{statement}
 use Rattle.chain.proofs.opening.wanted.Tie as tie
 
+-- the points before the signer is asked for, each from a later one
+abbrev unsigned : tie.Then3 → tie.Else1
+unsigned c = c .before .before
+
+abbrev start : tie.Else1 → tie.Start
+start c = c .before .before .before
+
 returns : tie.Need-returns
 returns c items kind bytes = sym (wanted-signed _ _ _ _ items _ _ kind (eq-eqb _ _ (c .if1 .taken)))
 
 returns-2 : tie.Need-returns-2
-returns-2 c items kind bytes = sym (wanted-third _ _ _ _ items _ _ kind (ne-eqb _ _ (c .before .if1 .left)) (eq-eqb _ _ (c .if2 .taken)))
+returns-2 c items kind bytes =
+    sym (wanted-third _ _ _ _ items _ _ kind (ne-eqb _ _ (c .before .if1 .left)) (eq-eqb _ _ (c .if2 .taken)))
 
 speaks-up-requires : tie.Need-speaks-up-requires
-speaks-up-requires c κs = c .before .before .before .before .before .pre
+speaks-up-requires c κs = start (unsigned c) .pre
 
 returns-3 : tie.Need-returns-3
 returns-3 c items kind bytes =
+    let t = c .before .before in
+    let u = unsigned t in
     sym
-    (wanted-silent _ _ _ _ items _ _ kind (ne-eqb _ _ (c .before .before .before .before .if1 .left)) (ne-eqb _ _ (c .before .before .before .if2 .left)) (eq-eqb _ _ (c .before .before .if3 .taken))
+    (wanted-silent _ _ _ _ items _ _ kind (ne-eqb _ _ (u .if1 .left)) (ne-eqb _ _ (t .before .if2 .left)) (eq-eqb _ _ (t .if3 .taken))
     (sym (c .before .speaks-up .ensures) ∙ not-true _ (c .if4 .taken)))
 
 returns-4 : tie.Need-returns-4

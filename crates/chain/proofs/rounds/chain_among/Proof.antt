@@ -8,15 +8,30 @@ use Rattle.chain.proofs.PlacesMean.{row-read}
 use Rattle.chain.proofs.rounds.chain_among.Statement.{statement}
 use Rattle.chain.proofs.rounds.chain_among.Tie as tie
 
+-- the points before the target's row is open, each from a later one
+abbrev found : tie.After-open-item → tie.After-entry-in
+found c = c .before .before
+
+abbrev start : tie.After-entry-in → tie.Start
+start c = c .before .before .before
+
 returns : tie.Need-returns
 returns c =
-    let there : c .before .before .before .before .before .before .before .args .target < entryCount (c .before .before .before .before .before .before .before .args .image .now) = omega (arith, c .before .before .before .before .before .before .before .pre .0, c .before .before .before .before .before .before .before .pre .2) in
-    no-row _ _ _ _ _ (c .before .before .before .before .before .before .before .pre .0) (c .before .before .open-item .result) (row-read _ _ there (c .before .before .before .before .entry-in .ensures) (c .before .before .before .part .ensures) _ (c .before .before .open-item .ensures)) (c .before .if1 .taken) (c .no-chain .ensures)
+    let o = c .before .before in
+    let f = found o in
+    let s = start f in
+    let there : s .args .target < entryCount (s .args .image .now) = omega (arith, s .pre .0, s .pre .2) in
+    no-row _ _ _ _ _ (s .pre .0) (o .open-item .result)
+    (row-read _ _ there (f .entry-in .ensures) (o .before .part .ensures) _ (o .open-item .ensures)) (c .before .if1 .taken) (c .no-chain .ensures)
 
 chain-home-requires : tie.Need-chain-home-requires
 chain-home-requires c κs =
-    let there : c .before .before .before .before .before .before .args .target < entryCount (c .before .before .before .before .before .before .args .image .now) = omega (arith, c .before .before .before .before .before .before .pre .0, c .before .before .before .before .before .before .pre .2) in
-    (c .before .before .before .before .before .before .pre .0, c .before .before .before .before .before .before .pre .1, c .before .before .before .before .before .before .pre .2, c .before .before .before .before .before .before .pre .3, row-read _ _ there (c .before .before .before .entry-in .ensures) (c .before .before .part .ensures) _ (c .before .open-item .ensures), c .if1 .left)
+    let o = c .before in
+    let f = found o in
+    let s = start f in
+    let there : s .args .target < entryCount (s .args .image .now) = omega (arith, s .pre .0, s .pre .2) in
+    let row = row-read _ _ there (f .entry-in .ensures) (o .before .part .ensures) _ (o .open-item .ensures) in
+    (s .pre .0, s .pre .1, s .pre .2, s .pre .3, row, c .if1 .left)
 
 pub chain-among-spec : {M : Type 1} → statement M
 chain-among-spec =

@@ -41,6 +41,25 @@ opened c = c .before .before .before
 abbrev known : tie.Else2 Inv-loop μ-loop → tie.After-roles-of Inv-loop μ-loop
 known c = c .before .before .before .before
 
+-- the points of a round, each from a later one
+abbrev turn : tie.After-unchanged Inv-loop μ-loop → tie.At-loop Inv-loop μ-loop
+turn c = c .before .before
+
+abbrev wider : tie.After-open-items2 Inv-loop μ-loop → tie.After-unchanged Inv-loop μ-loop
+wider c = c .before .before .before
+
+abbrev told : tie.After-led-to Inv-loop μ-loop → tie.After-open-items2 Inv-loop μ-loop
+told c = c .before .before .before .before
+
+abbrev led : tie.After-worthwhile Inv-loop μ-loop → tie.After-led-to Inv-loop μ-loop
+led c = c .before .before .before
+
+abbrev sought : tie.After-enough Inv-loop μ-loop → tie.After-worthwhile Inv-loop μ-loop
+sought c = c .before .before .before .before
+
+abbrev round-of : tie.After-led-to Inv-loop μ-loop → tie.At-loop Inv-loop μ-loop
+round-of c = turn (wider (told c))
+
 array-read-first : tie.Need-array-read-first Inv-loop μ-loop
 array-read-first c = omega arith
 
@@ -121,68 +140,88 @@ searched-requires c κs = c .before .before .before .before .loop .inv .small
 
 returns-3 : tie.Need-returns-3 Inv-loop μ-loop
 returns-3 c =
-    let i = c .before .before .before .before .before .loop .inv in
-    closed-answer _ _ _ _ _ (i .all) (i .holds) (c .before .before .before .before .near-next .ensures) (i .small) (c .searched .ensures) (c .before .before .before .unchanged .ensures (c .before .before .if3 .taken))
+    let u = c .before .before .before in
+    let i = turn u .loop .inv in
+    closed-answer _ _ _ _ _ (i .all) (i .holds) (u .before .near-next .ensures) (i .small) (c .searched .ensures)
+    (u .unchanged .ensures (c .before .before .if3 .taken))
 
 open-items-requires-2 : tie.Need-open-items-requires-2 Inv-loop μ-loop
 open-items-requires-2 c κs = let i = c .before .before .before .before .loop .inv in (i .all, i .small, i .slots)
 
 led-to-requires : tie.Need-led-to-requires Inv-loop μ-loop
-led-to-requires c κs = let i = c .before .before .before .before .before .before .before .before .loop .inv in (i .small, i .there)
+led-to-requires c κs = let i = turn (wider (c .before .before .before)) .loop .inv in (i .small, i .there)
 
 returns-4 : tie.Need-returns-4 Inv-loop μ-loop
 returns-4 c =
-    let i = c .before .before .before .before .before .before .before .before .before .before .before .loop .inv in
+    let l = c .before .before in
+    let o = told l in
+    let u = wider o in
+    let i = turn u .loop .inv in
     no-last-step _ _ _ _ _ (i .all)
-    (next-round _ _ _ _ _ (i .all) (i .holds) (c .before .before .before .before .before .before .before .before .before .before .near-next .ensures) (i .there) (c .before .before .before .before .before .before .open-items2 .ensures .1) (c .before .before .before .before .roles-of2 .ensures .0 (i .small)))
-    (c .before .before .led-to .ensures (not-true _ (c .before .if4 .taken))) (omega arith) (c .no-chain2 .ensures)
+    (next-round _ _ _ _ _ (i .all) (i .holds) (u .before .near-next .ensures) (i .there) (o .open-items2 .ensures .1)
+    (l .before .before .roles-of2 .ensures .0 (i .small)))
+    (l .led-to .ensures (not-true _ (c .before .if4 .taken))) (omega arith) (c .no-chain2 .ensures)
 
 worthwhile-requires : tie.Need-worthwhile-requires Inv-loop μ-loop
-worthwhile-requires c κs = c .before .before .before .before .before .before .before .before .before .before .before .loop .inv .small
+worthwhile-requires c κs = round-of (c .before .before) .loop .inv .small
 
 searched-requires-2 : tie.Need-searched-requires-2 Inv-loop μ-loop
-searched-requires-2 c κs = c .before .before .before .before .before .before .before .before .before .before .before .before .before .before .loop .inv .small
+searched-requires-2 c κs = round-of (led (c .before .before)) .loop .inv .small
 
 enough-requires : tie.Need-enough-requires Inv-loop μ-loop
-enough-requires c κs = omega (arith, c .before .before .before .before .before .before .before .before .before .before .before .before .before .before .before .loop .inv .early)
+enough-requires c κs = omega (arith, round-of (led (c .before .before .before)) .loop .inv .early)
 
 returns-5 : tie.Need-returns-5 Inv-loop μ-loop
 returns-5 c =
-    let i = c .before .before .before .before .before .before .before .before .before .before .before .before .before .before .before .before .before .loop .inv in
+    let l = led (sought (c .before)) in
+    let o = told l in
+    let u = wider o in
+    let i = turn u .loop .inv in
     round-answer _ _ _ _ _ (i .all)
-    (next-round _ _ _ _ _ (i .all) (i .holds) (c .before .before .before .before .before .before .before .before .before .before .before .before .before .before .before .before .near-next .ensures) (i .there) (c .before .before .before .before .before .before .before .before .before .before .before .before .open-items2 .ensures .1) (c .before .before .before .before .before .before .before .before .before .before .roles-of2 .ensures .0 (i .small)))
+    (next-round _ _ _ _ _ (i .all) (i .holds) (u .before .near-next .ensures) (i .there) (o .open-items2 .ensures .1)
+    (l .before .before .roles-of2 .ensures .0 (i .small)))
     (i .small) (c .before .before .searched2 .ensures) (settled _ _ (sym (c .before .enough .ensures) ∙ c .if6 .taken))
 
 loop-less : tie.Need-loop-less Inv-loop μ-loop
-loop-less c = omega (arith, c .before .before .before .before .before .before .before .before .before .before .before .before .before .before .before .before .before .loop .inv .early)
+loop-less c = omega (arith, round-of (led (sought (c .before))) .loop .inv .early)
 
 loop-again : tie.Need-loop-again Inv-loop μ-loop
 loop-again c =
-    let i = c .before .before .before .before .before .before .before .before .before .before .before .before .before .before .before .before .before .loop .inv in
+    let l = led (sought (c .before)) in
+    let o = told l in
+    let u = wider o in
+    let i = turn u .loop .inv in
     let z = unsettled _ _ (sym (c .before .enough .ensures) ∙ c .if6 .left) in
     record {
       all = i .all;
       small = i .small;
       there = i .there;
       early = omega (arith, z, i .early);
-      slots = c .before .before .before .before .before .before .before .before .before .before .before .before .open-items2 .ensures .0;
-      holds = next-round _ _ _ _ _ (i .all) (i .holds) (c .before .before .before .before .before .before .before .before .before .before .before .before .before .before .before .before .near-next .ensures) (i .there) (c .before .before .before .before .before .before .before .before .before .before .before .before .open-items2 .ensures .1) (c .before .before .before .before .before .before .before .before .before .before .roles-of2 .ensures .0 (i .small));
+      slots = o .open-items2 .ensures .0;
+      holds =
+          next-round _ _ _ _ _ (i .all) (i .holds) (u .before .near-next .ensures) (i .there) (o .open-items2 .ensures .1)
+          (l .before .before .roles-of2 .ensures .0 (i .small));
     }
 
 loop-less-2 : tie.Need-loop-less-2 Inv-loop μ-loop
-loop-less-2 c = omega (arith, c .before .before .before .before .before .before .before .before .before .before .before .before .before .loop .inv .early)
+loop-less-2 c = omega (arith, round-of (led (c .before)) .loop .inv .early)
 
 loop-again-2 : tie.Need-loop-again-2 Inv-loop μ-loop
 loop-again-2 c =
-    let i = c .before .before .before .before .before .before .before .before .before .before .before .before .before .loop .inv in
+    let l = led (c .before) in
+    let o = told l in
+    let u = wider o in
+    let i = turn u .loop .inv in
     let z = unasked (c .before .worthwhile .ensures) (c .if5 .left) in
     record {
       all = i .all;
       small = i .small;
       there = i .there;
       early = omega (arith, z, i .early);
-      slots = c .before .before .before .before .before .before .before .before .open-items2 .ensures .0;
-      holds = next-round _ _ _ _ _ (i .all) (i .holds) (c .before .before .before .before .before .before .before .before .before .before .before .before .near-next .ensures) (i .there) (c .before .before .before .before .before .before .before .before .open-items2 .ensures .1) (c .before .before .before .before .before .before .roles-of2 .ensures .0 (i .small));
+      slots = o .open-items2 .ensures .0;
+      holds =
+          next-round _ _ _ _ _ (i .all) (i .holds) (u .before .near-next .ensures) (i .there) (o .open-items2 .ensures .1)
+          (l .before .before .roles-of2 .ensures .0 (i .small));
     }
 
 pub chain-home-spec : {M : Type 1} → statement M

@@ -24,6 +24,16 @@ near : (anchor places list : ℕ) → places ≤ 96 → list < places → anchor
 near anchor places list small inside h =
     let most : anchor * places ≤ 96 * 96 = mul-le-mul {n₂ = 96} {m₂ = 96} (omega arith) small in omega (arith, most)
 
+-- the points of a turn, each from a later one: the octet is set, the anchor stands, the turn begins
+abbrev marked : tie.Then3 Inv-loop μ-loop → tie.Then2 Inv-loop μ-loop
+marked c = c .before .before .before .before
+
+abbrev stands : tie.Then2 Inv-loop μ-loop → tie.Then1 Inv-loop μ-loop
+stands c = c .before .before
+
+abbrev turn : tie.Then1 Inv-loop μ-loop → tie.In-loop Inv-loop μ-loop
+turn c = c .before .before
+
 loop-holds : tie.Need-loop-holds Inv-loop μ-loop
 loop-holds c = (c .before .pre .0, c .before .pre .1, omega arith, λ i h. absurd (omega arith))
 
@@ -31,21 +41,30 @@ standing-at-requires : tie.Need-standing-at-requires Inv-loop μ-loop
 standing-at-requires c κs = omega (arith, c .before .loop .inv .0, c .loop-test .taken)
 
 mul-octet : tie.Need-mul-octet Inv-loop μ-loop
-mul-octet c = omega (arith, near (c .before .before .before .loop .anchor) _ _ (c .before .before .before .loop .inv .0) (c .before .before .before .loop .inv .1) (c .before .before .loop-test .taken))
+mul-octet c =
+    let t = turn c in
+    omega (arith, near (t .before .loop .anchor) _ _ (t .before .loop .inv .0) (t .before .loop .inv .1) (t .loop-test .taken))
 
 add-octet : tie.Need-add-octet Inv-loop μ-loop
-add-octet c = omega (arith, near (c .before .before .before .loop .anchor) _ _ (c .before .before .before .loop .inv .0) (c .before .before .before .loop .inv .1) (c .before .before .loop-test .taken))
+add-octet c =
+    let t = turn c in
+    omega (arith, near (t .before .loop .anchor) _ _ (t .before .loop .inv .0) (t .before .loop .inv .1) (t .loop-test .taken))
 
 row-at-requires : tie.Need-row-at-requires Inv-loop μ-loop
-row-at-requires c κs = omega (arith, c .before .before .before .before .before .loop .inv .0, c .before .before .before .before .loop-test .taken)
+row-at-requires c κs = let t = turn (stands c) in omega (arith, t .before .loop .inv .0, t .loop-test .taken)
 
 row-at-requires-2 : tie.Need-row-at-requires-2 Inv-loop μ-loop
-row-at-requires-2 c κs = omega (arith, c .before .before .before .before .before .before .loop .inv .0, c .before .before .before .before .before .before .loop .inv .1)
+row-at-requires-2 c κs = let t = turn (stands (c .before)) in omega (arith, t .before .loop .inv .0, t .before .loop .inv .1)
 
 returns : tie.Need-returns Inv-loop μ-loop
 returns c =
-    vouched-there _ _ _ _ (c .before .before .before .before .before .before .before .before .before .loop .anchor) (c .before .before .before .before .before .before .before .before .loop-test .taken) (c .before .before .before .before .before .before .before .standing-at .ensures) (c .before .before .before .before .before .before .if1 .taken) (c .before .before .before .before .before .octet .ensures) (c .before .before .before .before .if2 .taken)
-    (ap₂ sameLetters (sym (c .before .before .before .row-at .ensures)) (sym (c .before .before .row-at2 .ensures)) ∙ sym (c .before .same-letters .ensures) ∙ c .if3 .taken)
+    let o = marked c in
+    let s = stands o in
+    let t = turn s in
+    vouched-there _ _ _ _ (t .before .loop .anchor) (t .loop-test .taken) (s .before .standing-at .ensures) (s .if1 .taken)
+    (o .before .octet .ensures) (o .if2 .taken)
+    (ap₂ sameLetters (sym (c .before .before .before .row-at .ensures)) (sym (c .before .before .row-at2 .ensures))
+    ∙ sym (c .before .same-letters .ensures) ∙ c .if3 .taken)
 
 add-anchor : tie.Need-add-anchor Inv-loop μ-loop
 add-anchor c = omega (arith, c .before .before .before .loop .inv .0, c .before .before .loop-test .taken)
