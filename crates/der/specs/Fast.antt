@@ -2,7 +2,7 @@
 -- cites this.
 use Prim.Native.Nat.{ℕ, _+_, _-_, _*_, _/_, _≤_}
 use mathlib.Core.Bool.{true, false}
-use mathlib.Core.List.{List}
+use mathlib.Core.List.{List, []}
 use mathlib.Core.Path.{_≡_}
 use lib.ListN.{length, getD, take, drop}
 use Rattle.der.specs.declared.walking.Read.the-variants.{Past}
@@ -18,11 +18,11 @@ stretch s i e = take (e - i) (drop i s)
 
 -- the element at the front of s is read, and takes `used` octets
 abbrev pub Reads : Forms → List ℕ → ℕ → ℕ → ℕ → ℕ → Type 0
-Reads forms s depth count used m = (base fuel : ℕ) → 2 * length s + 1 ≤ fuel → Past used m ≡ elementAt fuel forms s base depth count
+Reads forms s depth count used m = (base fuel : ℕ) → 2 * length s + 1 ≤ fuel → Past used m ≡ elementAt fuel forms [] s base depth count
 
 -- the elements that fill s are read
 abbrev pub Fills : Forms → List ℕ → ℕ → ℕ → ℕ → Type 0
-Fills forms s depth count m = (base fuel : ℕ) → 2 * length s + 2 ≤ fuel → Passed m ≡ listAt fuel forms s base depth count
+Fills forms s depth count m = (base fuel : ℕ) → 2 * length s + 2 ≤ fuel → Passed m ≡ listAt fuel forms false [] s base depth count
 
 -- the header of a SEQUENCE or SET that ends at e
 pub record Last (s : List ℕ) (i e : ℕ) : Type 0 where

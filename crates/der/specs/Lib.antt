@@ -2,6 +2,7 @@ pub mod Forms
 pub mod Given
 pub mod Heading
 pub mod Contents
+pub mod Order
 pub mod Walk
 pub mod Integer
 pub mod Member
