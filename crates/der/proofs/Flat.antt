@@ -1,11 +1,9 @@
 -- Elements with a length in the short form: leaves, lists of them, and the element that such a list fills.
-use Prim.Native.Nat.{ℕ, _+_, _-_, _*_, _/_, _≤_, _<_}
+use Prim.Native.Nat.{ℕ, _+_, _-_, _*_, _≤_, _<_}
 use mathlib.Core.Path.{_≡_, refl, sym, subst, _∙_}
-use mathlib.Core.Bool.{true, false}
-use mathlib.Core.List.{List}
-use mathlib.Core.Logic.{_⊎_, inl, inr}
+use mathlib.Core.Bool.{Bool, true, false}
+use mathlib.Core.List.{List, []}
 use native.Mathlib.Omega.{arith}
-use native.Mathlib.Nat.{eq-or-lt-of-le}
 use borrow.Author.Tests.{eq-eqb}
 use lib.ListN.{length, getD, take, drop}
 use lib.Seq.{getD-take, getD-drop}
@@ -14,12 +12,13 @@ use Rattle.der.specs.declared.walking.Walked.the-variants.{Passed}
 use Rattle.der.specs.Forms.{Forms}
 use Rattle.der.specs.Heading.{identifierGood, headingOf, constructed}
 use Rattle.der.specs.Contents.{booleanGood, integerGood, bitStringGood, oidGood, contentsGood}
-use Rattle.der.specs.Fast.{stretch, Reads, Fills, Unjudged, Leaf}
+use Rattle.der.specs.Order.{isSet}
+use Rattle.der.specs.Fast.{stretch, Reads, Fills, Last, Unjudged, Leaf}
 use Rattle.der.specs.Walk.{filled}
 use Rattle.der.proofs.Laws.{short-header}
 use Rattle.der.proofs.Bounds.{element-within}
 use Rattle.der.proofs.Enough.{ListIs, leaf-is, node-is}
-use Rattle.der.proofs.Parts.{part-length, part-drop, part-inner, passes-none, passes-more}
+use Rattle.der.proofs.Parts.{part-length, part-drop, part-inner, passes-none, passes-more, passes-one}
 
 module _ {tag : ℕ} {c : List ℕ} where
   pub leaf-boolean : tag ≡ 1 → booleanGood c ≡ true → Leaf tag c
@@ -70,38 +69,53 @@ module _ (forms : Forms) (s : List ℕ) (i e : ℕ) (two : i + 2 ≤ e) (inside 
           let used : after - i ≡ 2 + getD s (i + 1) 0 = omega arith in
           rw used (leaf-is forms (stretch s i e) base depth count heads shallow few (rw front primitive) (subst (λ (l : List ℕ). contentsGood (getD s i 0) l ≡ true) same good))
 
-      pub node-reads : {m : ℕ} → constructed (getD s i 0) ≡ true → Fills forms (stretch s (i + 2) after) (depth + 1) (count + 1) m → Reads forms (stretch s i e) depth count (2 + getD s (i + 1) 0) m
+      pub node-reads : {set : Bool} {m : ℕ} → isSet (getD s i 0) ≡ set → constructed (getD s i 0) ≡ true
+          → Fills forms set (stretch s (i + 2) after) (depth + 1) (count + 1) m → Reads forms (stretch s i e) depth count (2 + getD s (i + 1) 0) m
       unfolding filled
-      node-reads {m} node f base = node-is forms (stretch s i e) base depth count heads shallow few (rw front node) (subst (λ (l : List ℕ). ListIs forms l (base + 2) (depth + 1) (count + 1) (Passed m)) same (f (base + 2)))
+      node-reads {set} {m} kind node f base =
+          node-is forms (stretch s i e) base depth count heads shallow few kind (rw front node)
+          (subst (λ (l : List ℕ). ListIs forms set l (base + 2) (depth + 1) (count + 1) (Passed m)) same (f (base + 2)))
 
   -- one element more
-  pub reads-on : (depth count r m n : ℕ) → Reads forms (stretch s i e) depth count (r - i) m → Fills forms (stretch s r e) depth m n → Fills forms (stretch s i e) depth count n
+  pub reads-on : (depth count r m n : ℕ) → Reads forms (stretch s i e) depth count (r - i) m → Fills forms false (stretch s r e) depth m n
+      → Fills forms false (stretch s i e) depth count n
   reads-on depth count r m n f g =
-      let w : (2 ≤ r - i) × (r - i ≤ length (stretch s i e)) × (m ≤ forms .elements) = element-within forms (2 * length (stretch s i e) + 1) (stretch s i e) 0 depth count (r - i) m (sym (f 0 (2 * length (stretch s i e) + 1) (omega arith))) in
+      let enough = 2 * length (stretch s i e) + 1 in
+      let w : (2 ≤ r - i) × (r - i ≤ length (stretch s i e)) × (m ≤ forms .elements) =
+      element-within forms enough [] (stretch s i e) 0 depth count (r - i) m (sym (f 0 enough (omega arith))) in
       let on : i + (r - i) ≡ r = omega (arith, w) in
       passes-more forms (stretch s i e) depth count f (omega (arith, long)) (w .0) (w .1) (rw (part-drop s i (r - i) e, on) g)
 
-pub fills-none : (forms : Forms) (s : List ℕ) (e depth count : ℕ) → e ≤ length s → Fills forms (stretch s e e) depth count count
-fills-none forms s e depth count inside = passes-none forms (stretch s e e) depth count (omega (arith, part-length s e e inside))
+  -- the one element that there is
+  pub reads-one : (depth count : ℕ) {used m : ℕ} → used ≡ e - i → Reads forms (stretch s i e) depth count used m → (set : Bool) → Fills forms set (stretch s i e) depth count m
+  reads-one depth count all f set = passes-one forms (stretch s i e) depth count f (omega (arith, long)) set (omega (arith, long))
 
--- a SEQUENCE or a SET
-list-tag : (tag : ℕ) → tag / 2 ≡ 24 → (identifierGood tag ≡ true) × (constructed tag ≡ true)
-unfolding identifierGood constructed
-list-tag tag h = let many : 48 ≤ tag = omega arith in go (eq-or-lt-of-le many)
-  where
-    go : (48 ≡ tag) ⊎ (48 < tag) → (identifierGood tag ≡ true) × (constructed tag ≡ true)
-    go (inl e) = let z : tag ≡ 48 = omega arith in rw z (refl, refl)
-    go (inr e) = let z : tag ≡ 49 = omega arith in rw z (refl, refl)
+pub fills-none : (forms : Forms) (s : List ℕ) (e depth count : ℕ) → e ≤ length s → Fills forms false (stretch s e e) depth count count
+fills-none forms s e depth count inside = passes-none forms false (stretch s e e) depth count (omega (arith, part-length s e e inside))
 
-module _ (forms : Forms) (s : List ℕ) (i e : ℕ) (two : i + 2 ≤ e) (inside : e ≤ length s) (tag : getD s i 0 / 2 ≡ 24) (depth count m : ℕ) (shallow : depth ≤ forms .depth) (few : count < forms .elements) where
+-- the identifier of a SEQUENCE, or of a SET
+pub record Listed (set : Bool) (tag : ℕ) : Type 0 where
+  known : identifierGood tag ≡ true
+  node : constructed tag ≡ true
+  kind : isSet tag ≡ set
+
+pub sequence : (tag : ℕ) → tag ≡ 48 → Listed false tag
+unfolding identifierGood constructed isSet
+sequence tag e = rw e (record { known = refl; node = refl; kind = refl })
+
+pub set-of : (tag : ℕ) → tag ≡ 49 → Listed true tag
+unfolding identifierGood constructed isSet
+set-of tag e = rw e (record { known = refl; node = refl; kind = refl })
+
+module _ (forms : Forms) (s : List ℕ) (i e : ℕ) (two : i + 2 ≤ e) (inside : e ≤ length s) (depth count m : ℕ) (shallow : depth ≤ forms .depth) (few : count < forms .elements) where
   -- by its members
-  pub list-reads : {after : ℕ} → after ≡ i + 2 + getD s (i + 1) 0 → after ≤ e → getD s (i + 1) 0 < 128 → Fills forms (stretch s (i + 2) after) (depth + 1) (count + 1) m → Reads forms (stretch s i e) depth count (2 + getD s (i + 1) 0) m
-  list-reads ends fits short =
-      let known = list-tag (getD s i 0) tag in
-      node-reads forms s i e two inside ends fits short (known .0) depth count shallow few (known .1)
+  pub list-reads : {set : Bool} {after : ℕ} → Listed set (getD s i 0) → after ≡ i + 2 + getD s (i + 1) 0 → after ≤ e → getD s (i + 1) 0 < 128
+      → Fills forms set (stretch s (i + 2) after) (depth + 1) (count + 1) m → Reads forms (stretch s i e) depth count (2 + getD s (i + 1) 0) m
+  list-reads l ends fits short = node-reads forms s i e two inside ends fits short (l .known) depth count shallow few (l .kind) (l .node)
 
-  -- one that ends a list
-  pub last-fills : i + 2 + getD s (i + 1) 0 ≡ e → getD s (i + 1) 0 < 128 → Fills forms (stretch s (i + 2) e) (depth + 1) (count + 1) m → Fills forms (stretch s i e) depth count m
-  last-fills ends short f =
-      let used : 2 + getD s (i + 1) 0 ≡ e - i = omega arith in
-      reads-on forms s i e two inside depth count e m m (subst (λ n. Reads forms (stretch s i e) depth count n m) used (list-reads (sym ends) (omega arith) short f)) (fills-none forms s e depth m inside)
+  -- a SEQUENCE that fills a list, or ends one
+  pub last-fills : Last s i e → getD s (i + 1) 0 < 128 → Fills forms false (stretch s (i + 2) e) (depth + 1) (count + 1) m
+      → (set : Bool) → Fills forms set (stretch s i e) depth count m
+  last-fills l short f =
+      let ends : i + 2 + getD s (i + 1) 0 ≡ e = l .ends in
+      reads-one forms s i e two inside depth count (omega arith) (list-reads (sequence _ (l .tag)) (sym ends) (omega arith) short f)

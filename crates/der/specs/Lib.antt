@@ -7,3 +7,4 @@ pub mod Walk
 pub mod Integer
 pub mod Member
 pub mod Fast
+pub mod Falling

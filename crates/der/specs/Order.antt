@@ -3,13 +3,13 @@ use Prim.Native.Nat.{ℕ}
 use mathlib.Core.Bool.{Bool, true, false, cond}
 use mathlib.Core.List.{List, [], _∷_}
 use lib.Dec.{ltb, eqb}
+use lib.ListN.{getD, drop}
 
 -- One encoding is smaller than another: octet by octet from the first, the shorter padded with zero octets. Nothing is smaller
 -- than no octets.
 unfoldable pub smaller : List ℕ → List ℕ → Bool
 smaller a [] = false
-smaller [] (y ∷ b) = cond (ltb 0 y) true (smaller [] b)
-smaller (x ∷ a) (y ∷ b) = cond (ltb x y) true (cond (eqb x y) (smaller a b) false)
+smaller a (y ∷ b) = cond (ltb (getD a 0 0) y) true (cond (eqb (getD a 0 0) y) (smaller (drop 1 a) b) false)
 
 -- universal 17
 unfoldable pub isSet : ℕ → Bool

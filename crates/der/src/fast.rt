@@ -26,7 +26,7 @@ pub(crate) fn fast_path(s: &[u8], at: usize, left: usize, most: usize, count: us
         if left < 2 {
             return 0;
         }
-        if most < count + 64 {
+        if most < count + 65 {
             return 0;
         }
         return flat(s, at, end, left, count);
@@ -89,13 +89,14 @@ fn judged(tag: u8, c: &[u8]) -> bool
     false
 }
 
-// The count of elements when the one at `i` has been read, if it is a SEQUENCE or SET whose members are leaves, but that the last
-// one may again be such an element; else 0.
+// The count of elements when the one at `i` has been read, if it is a SEQUENCE or SET of leaves, but that the last one may be a SEQUENCE
+// of them again; else 0. A SET has one member: of more the order is asked.
 fn flat(s: &[u8], i: usize, end: usize, left: usize, count: usize) -> usize
     requires { ⌜ (i + 2 ≤ end) × (end ≤ length (now s)) × (length (now s) < 2 ^ 32) × (2 ≤ left) × (count < 2 ^ 32) ⌝ }
-    ensures { λ r. ⌜ (0 < r → (forms : Forms) → count + 64 ≤ forms .elements → left ≤ forms .depth → Reads forms (stretch (now (s .entry)) i end) (forms .depth + 1 - left) count (2 + getD (now (s .entry)) (i + 1) 0) r) ⌝ }
+    ensures { λ r. ⌜ (0 < r → (forms : Forms) → count + 65 ≤ forms .elements → left ≤ forms .depth → Reads forms (stretch (now (s .entry)) i end) (forms .depth + 1 - left) count (2 + getD (now (s .entry)) (i + 1) 0) r) ⌝ }
 {
-    if s[i] / 2 != 24 {
+    let tag = s[i];
+    if tag / 2 != 24 {
         return 0;
     }
     let size = s[i + 1] as usize;
@@ -107,14 +108,38 @@ fn flat(s: &[u8], i: usize, end: usize, left: usize, count: usize) -> usize
     if end < after {
         return 0;
     }
+    if tag == 49 {
+        return sole(s, from, after, left - 1, count + 1);
+    }
     leaves(s, from, after, left - 1, count + 1)
 }
 
-// The count of elements when those from `from` to `end` have been read, if each is a leaf, but the last; else 0. A SEQUENCE or SET that
+// The count of elements when the member that fills a SET from `from` to `end` has been read, if it is a leaf, or a SEQUENCE as `leaves`
+// reads it; else 0.
+fn sole(s: &[u8], from: usize, end: usize, left: usize, count: usize) -> usize
+    requires { ⌜ (from ≤ end) × (end ≤ from + 127) × (end ≤ length (now s)) × (length (now s) < 2 ^ 32) × (1 ≤ left) × (count ≤ 2 ^ 32) ⌝ }
+    ensures { λ r. ⌜ (0 < r → (forms : Forms) → count + 64 ≤ forms .elements → left ≤ forms .depth → Fills forms true (stretch (now (s .entry)) from end) (forms .depth + 1 - left) count r) ⌝ }
+{
+    if end < from + 2 {
+        return 0;
+    }
+    if last(s, from, end) {
+        if left < 2 {
+            return 0;
+        }
+        return leaves(s, from + 2, end, left - 1, count + 1);
+    }
+    if leaf(s, from, end) == end {
+        return count + 1;
+    }
+    0
+}
+
+// The count of elements when those from `from` to `end` have been read, if each is a leaf, but the last; else 0. A SEQUENCE that
 // ends where the list ends is read as the rest of the list, one deeper.
 fn leaves(s: &[u8], from: usize, end: usize, left: usize, count: usize) -> usize
-    requires { ⌜ (from ≤ end) × (end ≤ from + 127) × (end ≤ length (now s)) × (length (now s) < 2 ^ 32) × (1 ≤ left) × (count ≤ 2 ^ 32) ⌝ }
-    ensures { λ r. ⌜ (0 < r → (forms : Forms) → count + 63 ≤ forms .elements → left ≤ forms .depth → Fills forms (stretch (now (s .entry)) from end) (forms .depth + 1 - left) count r) ⌝ }
+    requires { ⌜ (from ≤ end) × (end ≤ from + 127) × (end ≤ length (now s)) × (length (now s) < 2 ^ 32) × (1 ≤ left) × (count ≤ 2 ^ 33) ⌝ }
+    ensures { λ r. ⌜ (0 < r → (forms : Forms) → count + 63 ≤ forms .elements → left ≤ forms .depth → Fills forms false (stretch (now (s .entry)) from end) (forms .depth + 1 - left) count r) ⌝ }
 {
     let mut i = from;
     let mut read = count;
@@ -145,12 +170,12 @@ fn leaves(s: &[u8], from: usize, end: usize, left: usize, count: usize) -> usize
     0
 }
 
-// Whether the element at `i` is a SEQUENCE or SET that ends at `end`.
+// Whether the element at `i` is a SEQUENCE that ends at `end`.
 fn last(s: &[u8], i: usize, end: usize) -> bool
     requires { ⌜ (i + 2 ≤ end) × (end ≤ i + 127) × (end ≤ length (now s)) × (length (now s) < 2 ^ 32) ⌝ }
     ensures { λ r. ⌜ (r ≡ true → Last (now (s .entry)) i end) ⌝ }
 {
-    if s[i] / 2 != 24 {
+    if s[i] != 48 {
         return false;
     }
     i + 2 + s[i + 1] as usize == end

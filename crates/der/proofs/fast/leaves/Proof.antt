@@ -1,5 +1,6 @@
 -- Each turn reads one leaf more, or goes into the last element; a leaf that ends too far ends the loop.
 use Prim.Native.Nat.{ℕ, _+_, _-_, _*_, _≤_, _<_}
+use mathlib.Core.Bool.{false}
 use mathlib.Core.List.{List}
 use mathlib.Core.Path.{_≡_, subst}
 use native.Mathlib.Omega.{arith}
@@ -15,7 +16,7 @@ use Rattle.der.proofs.fast.leaves.Tie as tie
 abbrev Left : List ℕ → ℕ → ℕ → ℕ → ℕ → ℕ → ℕ → ℕ → Type 0
 Left s from end left count i read deep =
     (forms : Forms) → count + 63 ≤ forms .elements → left ≤ forms .depth
-    → (m : ℕ) → Fills forms (stretch s i end) (forms .depth + 1 - deep) read m → Fills forms (stretch s from end) (forms .depth + 1 - left) count m
+    → (m : ℕ) → Fills forms false (stretch s i end) (forms .depth + 1 - deep) read m → Fills forms false (stretch s from end) (forms .depth + 1 - left) count m
 
 abbrev Inv-loop : tie.InvT-loop
 Inv-loop s from end left count i₀ read₀ deep₀ i read deep =
@@ -31,7 +32,9 @@ module _ (s : List ℕ) (from end left count i read deep : ℕ) (inside : end �
   into : 2 ≤ deep → end ≤ i + 127 → Last s i end → Left s from end left count (i + 2) (read + 1) (deep - 1)
   into some short l forms room levels m p =
       let deeper : forms .depth + 1 - (deep - 1) ≡ forms .depth + 1 - deep + 1 = omega arith in
-      rest forms room levels m (last-fills forms s i end two inside (l .tag) (forms .depth + 1 - deep) read m (omega arith) (omega arith) (l .ends) (omega (arith, l .ends)) (subst (λ n. Fills forms (stretch s (i + 2) end) n (read + 1) m) deeper p))
+      rest forms room levels m
+      (last-fills forms s i end two inside (forms .depth + 1 - deep) read m (omega arith) (omega arith) l (omega (arith, l .ends))
+      (subst (λ n. Fills forms false (stretch s (i + 2) end) n (read + 1) m) deeper p) false)
 
 last-requires : tie.Need-last-requires Inv-loop μ-loop
 last-requires c κs = omega arith
