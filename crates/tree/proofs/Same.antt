@@ -36,13 +36,13 @@ module _ (forms : Forms) (limit : forms .lengthOctets ≤ 3) where
     tree-one (leaf x c) (leaf y k) r q (sound-leaf _ gx _ _ bc _) (sound-leaf _ gy _ _ bk _) e =
         let (tags, contents, rests) = tagged-one x y c k r q gx gy bc bk e in
         (ap₂ leaf tags contents, rests)
-    tree-one (leaf x c) (node y ks) r q (sound-leaf _ gx px _ bc _) (sound-node _ gy py bk _) e =
+    tree-one (leaf x c) (node y ks) r q (sound-leaf _ gx px _ bc _) (sound-node _ gy py bk _ _) e =
         let (tags, contents, rests) = tagged-one x y c (encodedAll ks) r q gx gy bc bk e in
         absurd (true≢false (sym py ∙ ap (λ (t : ℕ). constructed (leading t)) (sym tags) ∙ px))
-    tree-one (node x cs) (leaf y k) r q (sound-node _ gx px bc _) (sound-leaf _ gy py _ bk _) e =
+    tree-one (node x cs) (leaf y k) r q (sound-node _ gx px bc _ _) (sound-leaf _ gy py _ bk _) e =
         let (tags, contents, rests) = tagged-one x y (encodedAll cs) k r q gx gy bc bk e in
         absurd (true≢false (sym px ∙ ap (λ (t : ℕ). constructed (leading t)) tags ∙ py))
-    tree-one (node x cs) (node y ks) r q (sound-node _ gx _ bc sc) (sound-node _ gy _ bk sk) e =
+    tree-one (node x cs) (node y ks) r q (sound-node _ gx _ bc _ sc) (sound-node _ gy _ bk _ sk) e =
         let (tags, contents, rests) = tagged-one x y (encodedAll cs) (encodedAll ks) r q gx gy bc bk e in
         (ap₂ node tags (trees-one cs ks sc sk contents), rests)
 
