@@ -1,6 +1,7 @@
 //! DER: one element's header and contents, and the walk over a tree.
 
 use crate::refusal::Refusal;
+use std::cmp::Ordering;
 
 /// The longest item that is read.
 pub(crate) const ITEM_LIMIT: usize = 16_384;
@@ -166,12 +167,26 @@ pub(crate) fn bit_string_good(contents: &[u8]) -> bool {
     }
 }
 
+/// Whether one encoding is smaller than another, octet by octet, the shorter
+/// padded with zero octets.
+pub(crate) fn smaller(a: &[u8], b: &[u8]) -> bool {
+    let common = a.len().min(b.len());
+    match a[..common].cmp(&b[..common]) {
+        Ordering::Less => true,
+        Ordering::Equal => b[common..].iter().any(|octet| *octet != 0),
+        Ordering::Greater => false,
+    }
+}
+
 /// Walks the first element of `rest`, which is at `depth`, and all below it,
 /// adding to `count`. Gives what stands after it, or the first fault, with
 /// offsets in `item`, of which `rest` is a part.
 pub(crate) fn tree<'a>(item: &'a [u8], rest: &'a [u8], depth: usize, count: &mut usize) -> Result<&'a [u8], Refusal> {
     // What stands after each open element.
     let mut open: [&[u8]; DEPTH_LIMIT + 1] = [&[]; DEPTH_LIMIT + 1];
+    // The open SETs, a bit for the depth of their members, and the member of
+    // each that was read last: in a SET none is smaller than the one before it.
+    let (mut sets, mut last): (u32, [&[u8]; DEPTH_LIMIT + 2]) = (0, [&[]; DEPTH_LIMIT + 2]);
     let (mut rest, top, mut depth, mut read) = (rest, depth, depth, *count);
     loop {
         let Some(Element { id, contents, after }) = split(rest) else {
@@ -183,11 +198,23 @@ pub(crate) fn tree<'a>(item: &'a [u8], rest: &'a [u8], depth: usize, count: &mut
         if depth > DEPTH_LIMIT || read >= COUNT_LIMIT {
             return Err(Refusal::limit(offset(item, rest)));
         }
+        if sets & 1 << depth != 0 {
+            let member = &rest[..rest.len() - after.len()];
+            if smaller(member, last[depth]) {
+                return Err(Refusal::der(offset(item, rest)));
+            }
+            last[depth] = member;
+        }
         read += 1;
         if id & CONSTRUCTED != 0 && !contents.is_empty() {
             open[depth] = after;
             depth += 1;
             rest = contents;
+            sets &= !(1 << depth);
+            if id == SET {
+                sets |= 1 << depth;
+                last[depth] = &[];
+            }
             continue;
         }
         if !contents_good(id, contents) {

@@ -1,12 +1,13 @@
 //! Names and their country.
 
-use crate::der::{PRINTABLE_STRING, SEQUENCE, SET};
+use crate::der::{smaller, PRINTABLE_STRING, SEQUENCE, SET};
 use crate::reader::Reader;
 
 /// countryName, 2.5.4.6.
 const COUNTRY_NAME: [u8; 3] = [0x55, 0x04, 0x06];
 
-/// A name: a SEQUENCE of non-empty SETs of SEQUENCE {OID, one element}.
+/// A name: a SEQUENCE of non-empty SETs of SEQUENCE {OID, one element}, which
+/// ascend.
 #[derive(Clone, Copy)]
 pub(crate) struct Name<'a> {
     /// The whole element.
@@ -24,7 +25,9 @@ pub(crate) fn name<'a>(reader: &mut Reader<'a>) -> Option<Name<'a>> {
     let outer = reader.enter(SEQUENCE)?;
     while !reader.at_end() {
         let in_name = reader.enter(SET)?;
+        let mut last: Option<&[u8]> = None;
         loop {
+            let from = reader.rest();
             // At least one: a SET that is empty has nothing to enter.
             let in_set = reader.enter(SEQUENCE)?;
             let oid = reader.oid()?;
@@ -34,9 +37,13 @@ pub(crate) fn name<'a>(reader: &mut Reader<'a>) -> Option<Name<'a>> {
                 countries += 1;
                 country = letters(value.id, value.contents);
             }
+            if last.is_some_and(|last| smaller(reader.since(from), last)) {
+                return None;
+            }
             if reader.at_end() {
                 break;
             }
+            last = Some(reader.since(from));
         }
         reader.leave(in_name)?;
     }
