@@ -3,14 +3,17 @@
 use mathlib.Core.Path.{_≡_, refl, sym, _∙_, ap, ap₂, subst}
 use mathlib.Core.Bool.{true, false}
 use mathlib.Core.List.{List, []}
-use Prim.Native.Nat.{ℕ, _≤_}
+use Prim.Native.Nat.{ℕ, _+_, _≤_}
+use native.Mathlib.Omega.{arith}
+use lib.ListN.{length, length-append}
 use Rattle.der.specs.Forms.{Forms}
 use Rattle.der.specs.Order.{smaller, isSet, handed}
 use Rattle.der.proofs.Ascending.{risen-through, risen-both}
-use Rattle.tree.specs.Tree.{Tree, Trees, node, none, more, encoded, ordered, Sound, sound-node, SoundAll, sound-none, sound-more}
+use Rattle.tree.specs.Tree.{Tree, Trees, node, none, more, tagged, encoded, encodedAll, ordered, Sound, sound-node, SoundAll, sound-none, sound-more}
 use Rattle.tree.specs.Reordered.{Inserted, here, there, Permuted, nothing, placed, Reordered, members, inside, ReorderedIn, first, later}
 use Rattle.tree.proofs.Rising.{rises, rises-first, rises-rest, ordered-rises}
-use Rattle.tree.proofs.Same.{tree-one}
+use Rattle.tree.proofs.Headings.{skipped, length-tagged}
+use Rattle.tree.proofs.Same.{tree-one, Formed, formed-node, FormedAll, formed-more}
 
 -- each of the trees is not smaller than one
 data Above (low : List ℕ) : Trees → Type 0 where
@@ -39,6 +42,35 @@ above-inserted (there i) e (above-more f g) = above-more f (above-inserted i e g
 above-permuted : {low : List ℕ} {a b : Trees} → Permuted a b → Above low a → Above low b
 above-permuted nothing f = f
 above-permuted (placed p i) (above-more e f) = above-inserted i e (above-permuted p f)
+
+-- the octets of members in another order are as many
+long-inserted : {tree : Tree} (a b : Trees) → Inserted tree a b → length (encoded tree) + length (encodedAll a) ≡ length (encodedAll b)
+unfolding encodedAll
+long-inserted {tree} a b here = sym (length-append (encoded tree) (encodedAll a))
+long-inserted {tree} a b (there {other = other} {a = xs} {b = ys} i) =
+    omega (arith, long-inserted xs ys i, length-append (encoded other) (encodedAll xs), length-append (encoded other) (encodedAll ys))
+
+long-permuted : (a b : Trees) → Permuted a b → length (encodedAll a) ≡ length (encodedAll b)
+unfolding encodedAll
+long-permuted a b nothing = refl
+long-permuted a b (placed {tree = tree} {a = xs} {b = ys} p i) =
+    omega (arith, long-permuted xs ys p, long-inserted ys b i, length-append (encoded tree) (encodedAll xs))
+
+long-node : (tag : ℕ) (c k : List ℕ) → length c ≡ length k → length (tagged tag c) ≡ length (tagged tag k)
+long-node tag c k e = length-tagged tag c ∙ ap (λ n. skipped tag n + n) e ∙ sym (length-tagged tag k)
+
+mutual
+  unfolding encoded encodedAll
+
+  long-reordered : (a b : Tree) → Reordered a b → length (encoded a) ≡ length (encoded b)
+  long-reordered a b (members {a = xs} {b = ys} p) = long-node 49 (encodedAll xs) (encodedAll ys) (long-permuted xs ys p)
+  long-reordered a b (inside {tag = tag} {a = xs} {b = ys} r) = long-node tag (encodedAll xs) (encodedAll ys) (long-in xs ys r)
+
+  long-in : (a b : Trees) → ReorderedIn a b → length (encodedAll a) ≡ length (encodedAll b)
+  long-in a b (first {a = x} {b = y} {trees = trees} r) =
+      omega (arith, long-reordered x y r, length-append (encoded x) (encodedAll trees), length-append (encoded y) (encodedAll trees))
+  long-in a b (later {tree = tree} {a = xs} {b = ys} r) =
+      omega (arith, long-in xs ys r, length-append (encoded tree) (encodedAll xs), length-append (encoded tree) (encodedAll ys))
 
 module _ (forms : Forms) (limit : forms .lengthOctets ≤ 3) where
   sound-inserted : {tree : Tree} {a b : Trees} → Inserted tree a b → SoundAll forms b → Sound forms tree × SoundAll forms a
@@ -85,3 +117,23 @@ module _ (forms : Forms) (limit : forms .lengthOctets ≤ 3) where
     reordered-in : (a b : Trees) → ReorderedIn a b → SoundAll forms a → SoundAll forms b → a ≡ b
     reordered-in a b (first {a = x} {b = y} {trees = trees} r) (sound-more sx _) (sound-more sy _) = ap (λ (t : Tree). more t trees) (reordered-one x y r sx sy)
     reordered-in a b (later {tree = tree} {a = xs} {b = ys} r) (sound-more _ sx) (sound-more _ sy) = ap (more tree) (reordered-in xs ys r sx sy)
+
+  -- members in another order are as long as before, so what was formed is
+  formed-inserted : {tree : Tree} {a b : Trees} → Inserted tree a b → Formed forms tree → FormedAll forms a → FormedAll forms b
+  formed-inserted here x f = formed-more x f
+  formed-inserted (there i) x (formed-more g f) = formed-more g (formed-inserted i x f)
+
+  formed-permuted : {a b : Trees} → Permuted a b → FormedAll forms a → FormedAll forms b
+  formed-permuted nothing f = f
+  formed-permuted (placed p i) (formed-more x f) = formed-inserted i x (formed-permuted p f)
+
+  mutual
+    pub formed-reordered : (a b : Tree) → Reordered a b → Formed forms a → Formed forms b
+    formed-reordered a b (members {a = xs} {b = ys} p) (formed-node good built below f) =
+        formed-node good built (rw (long-permuted xs ys p) at below) (formed-permuted p f)
+    formed-reordered a b (inside {a = xs} {b = ys} r) (formed-node good built below f) =
+        formed-node good built (rw (long-in xs ys r) at below) (formed-in xs ys r f)
+
+    formed-in : (a b : Trees) → ReorderedIn a b → FormedAll forms a → FormedAll forms b
+    formed-in a b (first {a = x} {b = y} r) (formed-more f g) = formed-more (formed-reordered x y r f) g
+    formed-in a b (later {a = xs} {b = ys} r) (formed-more f g) = formed-more f (formed-in xs ys r g)

@@ -24,8 +24,8 @@ use Rattle.tree.proofs.Answers.{walk-by}
 use Rattle.tree.proofs.Bounds.{Bound, ReadBound, element-bound}
 use Rattle.tree.proofs.Fuel.{element-fuel, list-fuel}
 use Rattle.tree.proofs.Passes.{passed-encodes, encodes-passed}
-use Rattle.tree.proofs.Same.{tree-one}
-use Rattle.tree.proofs.Reorder.{reordered-one}
+use Rattle.tree.proofs.Same.{tree-one, formed, formed-one}
+use Rattle.tree.proofs.Reorder.{reordered-one, formed-reordered}
 use Rattle.tree.proofs.Parts.{encoded-parts, length-parts, heading-tree}
 use Rattle.tree.proofs.Members.{part-at, member-at}
 use Rattle.tree.proofs.Integers.{NumberEncodes, integer-encodes, encodes-integer, one-item}
@@ -46,15 +46,20 @@ pub reordered-octets :
     (forms : Forms) → forms .lengthOctets ≤ 3 → (a b : Tree) → Sound forms a → Sound forms b → Reordered a b → encoded a ≡ encoded b
 reordered-octets forms limit a b sa sb r = ap encoded (reordered-one forms limit a b r sa sb)
 
--- Two items that the walk passes, whose trees differ only in the order of a SET's members, are the same octets.
+-- Of an item that passes, and one whose tree is the same but for the order of a SET's members, both pass only where they are the same
+-- octets.
 pub reordered-items :
-    (forms : Forms) (limit : forms .lengthOctets ≤ 3) (a b : List ℕ) (n m : ℕ) (oa : Octets a) (ob : Octets b)
-    (pa : walkOf forms a ≡ Passed n) (pb : walkOf forms b ≡ Passed m)
-    → Reordered (walk-passes forms limit a n oa .0 pa .tree) (walk-passes forms limit b m ob .0 pb .tree) → a ≡ b
-reordered-items forms limit a b n m oa ob pa pb r =
-    let ea = walk-passes forms limit a n oa .0 pa in
-    let eb = walk-passes forms limit b m ob .0 pb in
-    sym (ea .bytes) ∙ reordered-octets forms limit (ea .tree) (eb .tree) (ea .sound) (eb .sound) r ∙ eb .bytes
+    (forms : Forms) (limit : forms .lengthOctets ≤ 3) (item : List ℕ) (n m : ℕ) (o : Octets item) (passes : walkOf forms item ≡ Passed n) (other : Tree)
+    → Reordered (walk-passes forms limit item n o .0 passes .tree) other → Octets (encoded other) → walkOf forms (encoded other) ≡ Passed m
+    → encoded other ≡ item
+reordered-items forms limit item n m o passes other r octets e =
+    let a = walk-passes forms limit item n o .0 passes in
+    let b = walk-passes forms limit (encoded other) m octets .0 e in
+    let same : b .tree ≡ other = formed-one forms limit (b .tree) other [] []
+    (formed (b .tree) (b .sound)) (formed-reordered forms limit (a .tree) other r (formed (a .tree) (a .sound)))
+    (ap (λ (s : List ℕ). s ++ []) (b .bytes)) .0 in
+    let sound : Sound forms other = subst (Sound forms) same (b .sound) in
+    sym (reordered-octets forms limit (a .tree) other (a .sound) sound r) ∙ a .bytes
 
 -- No answer tells more elements than the limit.
 pub counted-limit : (forms : Forms) (item : List ℕ) → counted (walkOf forms item) ≤ forms .elements
