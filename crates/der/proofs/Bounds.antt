@@ -69,6 +69,9 @@ heading-within forms s tag skip size e = go (subst (HeadWithin s) e (heading-kee
     go : HeadWithin s (Header tag skip size) → (2 ≤ skip) × (skip + size ≤ length s)
     go (header-in h g) = (h, g)
 
+fault-not : {refusal : Refusal} {used m : ℕ} {A : Type 0} → Fault refusal ≡ Past used m → A
+fault-not e = let w : _≡_ {A = ℕ} 0 1 = cc in absurd (omega arith)
+
 data ReadWithin (forms : Forms) (s : List ℕ) : Read → Type 0 where
   past-in : {used m : ℕ} → 2 ≤ used → used ≤ length s → m ≤ forms .elements → ReadWithin forms s (Past used m)
   fault-in : {refusal : Refusal} → ReadWithin forms s (Fault refusal)
@@ -135,6 +138,32 @@ element-within forms fuel prior s base depth count used m e = go (subst (ReadWit
   where
     go : ReadWithin forms s (Past used m) → (2 ≤ used) × (used ≤ length s) × (m ≤ forms .elements)
     go (past-in f g h) = (f, g, h)
+
+-- an element that is read takes what its header tells
+pub element-takes :
+    (forms : Forms) (fuel : ℕ) (prior s : List ℕ) (base depth count tag skip size : ℕ) → headingOf forms s ≡ Header tag skip size
+    → (used m : ℕ) → elementAt fuel forms prior s base depth count ≡ Past used m → used ≡ skip + size
+unfolding elementAt opened filled
+element-takes forms zero prior s base depth count tag skip size e used m g = fault-not g
+element-takes forms (suc fuel) prior s base depth count tag skip size e used m g = told g
+  where
+    P : Read → Type 0
+    P r = r ≡ Past used m → used ≡ skip + size
+
+    same : {n : ℕ} → P (Past (skip + size) n)
+    same h = cc
+
+    members : (w : Walked) → P (filled (skip + size) w)
+    members (Passed n) = same
+    members (Refused refusal) = fault-not
+
+    told : P (elementAt (suc fuel) forms prior s base depth count)
+    told = rw e
+        (cond-by P (ltb (forms .depth) depth) (λ _. fault-not) λ _.
+        cond-by P (leb (forms .elements) count) (λ _. fault-not) λ _.
+        cond-by P (smaller (take (skip + size) s) prior) (λ _. fault-not) λ _.
+        cond-by P (constructed (getD s 0 0)) (λ _. members (listAt fuel forms (isSet tag) [] (take size (drop skip s)) (base + skip) (depth + 1) (count + 1))) λ _.
+        cond-by P (contentsGood tag (take size (drop skip s))) (λ _. same) λ _. fault-not)
 
 pub list-within :
     (forms : Forms) (fuel : ℕ) (set : Bool) (prior s : List ℕ) (base depth count m : ℕ) → count ≤ forms .elements

@@ -29,6 +29,11 @@ pub record Last (s : List ℕ) (i e : ℕ) : Type 0 where
   pub tag : getD s i 0 ≡ 48
   pub ends : i + 2 + getD s (i + 1) 0 ≡ e
 
+-- an element at i, with a header of two octets, that ends at e
+pub record Alone (s : List ℕ) (i e : ℕ) : Type 0 where
+  pub two : i + 2 ≤ e
+  pub ends : i + 2 + getD s (i + 1) 0 ≡ e
+
 -- an identifier of a primitive whose contents are not judged
 pub record Unjudged (tag : ℕ) : Type 0 where
   pub known : identifierGood tag ≡ true

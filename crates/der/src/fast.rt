@@ -10,7 +10,7 @@ ghost use Prim.Native.Nat.{ℕ, _+_, _-_, _^_, _≤_, _<_};
 ghost use lib.ListN.{length, getD};
 ghost use Rattle.der.specs.Forms.{Forms};
 ghost use Rattle.der.specs.Heading.{constructed};
-ghost use Rattle.der.specs.Fast.{stretch, Reads, Fills, Last, Unjudged, Leaf};
+ghost use Rattle.der.specs.Fast.{stretch, Reads, Fills, Last, Alone, Unjudged, Leaf};
 
 // The count of elements when the one at `at` has been read, if nothing is wrong with it and it is a primitive with a header of two
 // octets, or holds nothing but such; else 0.
@@ -26,7 +26,7 @@ pub(crate) fn fast_path(s: &[u8], at: usize, left: usize, most: usize, count: us
         if left < 2 {
             return 0;
         }
-        if most < count + 65 {
+        if most < count + 64 {
             return 0;
         }
         return flat(s, at, end, left, count);
@@ -93,10 +93,9 @@ fn judged(tag: u8, c: &[u8]) -> bool
 // of them again; else 0. A SET has one member: of more the order is asked.
 fn flat(s: &[u8], i: usize, end: usize, left: usize, count: usize) -> usize
     requires { ⌜ (i + 2 ≤ end) × (end ≤ length (now s)) × (length (now s) < 2 ^ 32) × (2 ≤ left) × (count < 2 ^ 32) ⌝ }
-    ensures { λ r. ⌜ (0 < r → (forms : Forms) → count + 65 ≤ forms .elements → left ≤ forms .depth → Reads forms (stretch (now (s .entry)) i end) (forms .depth + 1 - left) count (2 + getD (now (s .entry)) (i + 1) 0) r) ⌝ }
+    ensures { λ r. ⌜ (0 < r → (forms : Forms) → count + 64 ≤ forms .elements → left ≤ forms .depth → Reads forms (stretch (now (s .entry)) i end) (forms .depth + 1 - left) count (2 + getD (now (s .entry)) (i + 1) 0) r) ⌝ }
 {
-    let tag = s[i];
-    if tag / 2 != 24 {
+    if s[i] / 2 != 24 {
         return 0;
     }
     let size = s[i + 1] as usize;
@@ -108,37 +107,30 @@ fn flat(s: &[u8], i: usize, end: usize, left: usize, count: usize) -> usize
     if end < after {
         return 0;
     }
-    if tag == 49 {
-        return sole(s, from, after, left - 1, count + 1);
+    if several(s, i, after) {
+        return 0;
     }
     leaves(s, from, after, left - 1, count + 1)
 }
 
-// The count of elements when the member that fills a SET from `from` to `end` has been read, if it is a leaf, or a SEQUENCE as `leaves`
-// reads it; else 0.
-fn sole(s: &[u8], from: usize, end: usize, left: usize, count: usize) -> usize
-    requires { ⌜ (from ≤ end) × (end ≤ from + 127) × (end ≤ length (now s)) × (length (now s) < 2 ^ 32) × (1 ≤ left) × (count ≤ 2 ^ 32) ⌝ }
-    ensures { λ r. ⌜ (0 < r → (forms : Forms) → count + 64 ≤ forms .elements → left ≤ forms .depth → Fills forms true (stretch (now (s .entry)) from end) (forms .depth + 1 - left) count r) ⌝ }
+// Whether the element at `i` that ends at `after` is a SET, and its first member does not fill it.
+fn several(s: &[u8], i: usize, after: usize) -> bool
+    requires { ⌜ (i + 2 ≤ after) × (after ≤ length (now s)) × (length (now s) < 2 ^ 32) ⌝ }
+    ensures { λ r. ⌜ (r ≡ false → getD (now (s .entry)) i 0 ≡ 49 → Alone (now (s .entry)) (i + 2) after) ⌝ }
 {
-    if end < from + 2 {
-        return 0;
+    if s[i] != 49 {
+        return false;
     }
-    if last(s, from, end) {
-        if left < 2 {
-            return 0;
-        }
-        return leaves(s, from + 2, end, left - 1, count + 1);
+    if after < i + 4 {
+        return true;
     }
-    if leaf(s, from, end) == end {
-        return count + 1;
-    }
-    0
+    i + 4 + s[i + 3] as usize != after
 }
 
 // The count of elements when those from `from` to `end` have been read, if each is a leaf, but the last; else 0. A SEQUENCE that
 // ends where the list ends is read as the rest of the list, one deeper.
 fn leaves(s: &[u8], from: usize, end: usize, left: usize, count: usize) -> usize
-    requires { ⌜ (from ≤ end) × (end ≤ from + 127) × (end ≤ length (now s)) × (length (now s) < 2 ^ 32) × (1 ≤ left) × (count ≤ 2 ^ 33) ⌝ }
+    requires { ⌜ (from ≤ end) × (end ≤ from + 127) × (end ≤ length (now s)) × (length (now s) < 2 ^ 32) × (1 ≤ left) × (count ≤ 2 ^ 32) ⌝ }
     ensures { λ r. ⌜ (0 < r → (forms : Forms) → count + 63 ≤ forms .elements → left ≤ forms .depth → Fills forms false (stretch (now (s .entry)) from end) (forms .depth + 1 - left) count r) ⌝ }
 {
     let mut i = from;

@@ -10,16 +10,15 @@ ghost use Prim.Native.Nat.{ℕ, _+_, _-_, _≤_, _<_};
 ghost use lib.ListN.{length, take, drop};
 ghost use Rattle.der.specs.Forms.{Forms};
 ghost use Rattle.der.specs.Given.{Given};
-ghost use Rattle.der.specs.Order.{smaller, handed};
+ghost use Rattle.der.specs.Order.{smaller};
 ghost use Rattle.der.specs.Fast.{stretch};
 ghost use Rattle.der.specs.Falling.{Falls, Stands};
 
-// Whether the first fault of the element at `at` is the order: in a SET, it is smaller than the member before it, from `prior` on.
+// Whether the first fault of the member of a SET at `at` is the order: it is smaller than the one before it, from `prior` on.
 pub(crate) fn fallen(
     digits: usize,
     wide: bool,
     most: usize,
-    set: bool,
     s: &[u8],
     prior: usize,
     at: usize,
@@ -27,11 +26,8 @@ pub(crate) fn fallen(
     count: usize,
 ) -> bool
     requires { ⌜ (digits ≤ 3) × (prior ≤ at) × (at ≤ length (now s)) ⌝ }
-    ensures { λ r. ⌜ (r ≡ true → (forms : Forms) → Given digits wide most left forms → Falls forms (handed set (stretch (now (s .entry)) prior at)) (stretch (now (s .entry)) at (length (now (s .entry)))) (forms .depth + 1 - left) count) × (r ≡ false → (forms : Forms) → Given digits wide most left forms → Stands forms (handed set (stretch (now (s .entry)) prior at)) (stretch (now (s .entry)) at (length (now (s .entry)))) (forms .depth + 1 - left) count) ⌝ }
+    ensures { λ r. ⌜ (r ≡ true → (forms : Forms) → Given digits wide most left forms → Falls forms (stretch (now (s .entry)) prior at) (stretch (now (s .entry)) at (length (now (s .entry)))) (forms .depth + 1 - left) count) × (r ≡ false → (forms : Forms) → Given digits wide most left forms → Stands forms (stretch (now (s .entry)) prior at) (stretch (now (s .entry)) at (length (now (s .entry)))) (forms .depth + 1 - left) count) ⌝ }
 {
-    if !set {
-        return false;
-    }
     if at == prior {
         return false;
     }

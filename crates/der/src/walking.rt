@@ -6,6 +6,7 @@ use crate::heading::header;
 use crate::order::fallen;
 use refusal::Refusal;
 ghost use mathlib.Core.Path.{_≡_};
+ghost use mathlib.Core.Bool.{true};
 ghost use mathlib.Core.List.{[]};
 ghost use Prim.Native.Nat.{ℕ, _+_, _-_, _*_, _^_, _≤_, _<_};
 ghost use lib.ListN.{length};
@@ -107,19 +108,48 @@ fn list(
     requires { ⌜ (digits ≤ 3) × (most < 2 ^ 32) × (base + length (now s) < 2 ^ 32) × (count ≤ most) ⌝ }
     ensures { λ r. ⌜ ((forms : Forms) → Given digits wide most left forms → (fuel : ℕ) → 2 * length (now (s .entry)) + 2 ≤ fuel → r ≡ listAt fuel forms set [] (now (s .entry)) base (forms .depth + 1 - left) count) ⌝ }
 {
+    if set {
+        return set_list(digits, wide, most, s, base, left, count);
+    }
+    let mut at = 0;
+    let mut read = count;
+    while at < s.len() {
+        let more = fast_path(s, at, left, most, read);
+        if 0 < more {
+            at = at + 2 + s[at + 1] as usize;
+            read = more;
+            continue;
+        }
+        match element(digits, wide, most, &s[at..], base + at, left, read) {
+            Read::Fault(refusal) => return Walked::Refused(refusal),
+            Read::Past { used, count } => {
+                at += used;
+                read = count;
+            }
+        }
+    }
+    Walked::Passed { count: read }
+}
+
+// The members of a SET that fill `s`, each held against the one before it.
+fn set_list(
+    digits: usize,
+    wide: bool,
+    most: usize,
+    s: &[u8],
+    base: usize,
+    left: usize,
+    count: usize,
+) -> Walked
+    requires { ⌜ (digits ≤ 3) × (most < 2 ^ 32) × (base + length (now s) < 2 ^ 32) × (count ≤ most) ⌝ }
+    ensures { λ r. ⌜ ((forms : Forms) → Given digits wide most left forms → (fuel : ℕ) → 2 * length (now (s .entry)) + 2 ≤ fuel → r ≡ listAt fuel forms true [] (now (s .entry)) base (forms .depth + 1 - left) count) ⌝ }
+{
     let mut prior = 0;
     let mut at = 0;
     let mut read = count;
     while at < s.len() {
-        if fallen(digits, wide, most, set, s, prior, at, left, read) {
+        if fallen(digits, wide, most, s, prior, at, left, read) {
             return Walked::Refused(Refusal::Der { at: base + at });
-        }
-        let more = fast_path(s, at, left, most, read);
-        if 0 < more {
-            prior = at;
-            at = at + 2 + s[at + 1] as usize;
-            read = more;
-            continue;
         }
         match element(digits, wide, most, &s[at..], base + at, left, read) {
             Read::Fault(refusal) => return Walked::Refused(refusal),

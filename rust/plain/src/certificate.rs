@@ -297,19 +297,14 @@ fn document_types(value: &[u8]) -> Option<()> {
     }
     // The SEQUENCE, the INTEGER and the SET were read.
     let mut count = 3;
-    let (mut rest, mut last): (&[u8], &[u8]) = (set.contents, &[]);
+    let mut rest = set.contents;
     while !rest.is_empty() {
         let string = split(rest)?;
-        let member = &rest[..rest.len() - string.after.len()];
-        if der::smaller(member, last) {
-            return None;
-        }
-        last = member;
         if string.id != PRINTABLE_STRING || !matches!(string.contents.len(), 1 | 2) {
             return None;
         }
         count += 1;
         rest = string.after;
     }
-    (count <= der::COUNT_LIMIT).then_some(())
+    (count <= der::COUNT_LIMIT && der::unsorted(set.contents).is_none()).then_some(())
 }

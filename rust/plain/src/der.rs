@@ -178,16 +178,55 @@ pub(crate) fn smaller(a: &[u8], b: &[u8]) -> bool {
     }
 }
 
+/// Where the first member of a SET starts that is smaller than the one before
+/// it, as far as headers can be read: none in a SET of one member.
+#[inline(always)]
+pub(crate) fn unsorted(contents: &[u8]) -> Option<&[u8]> {
+    match contents {
+        [_, length @ 0..=0x7F, tail @ ..] if tail.len() <= *length as usize => None,
+        _ => descent(contents),
+    }
+}
+
+#[cold]
+fn descent(contents: &[u8]) -> Option<&[u8]> {
+    let (mut rest, mut last): (&[u8], &[u8]) = (contents, &[]);
+    while let Some(element) = split(rest) {
+        let member = &rest[..rest.len() - element.after.len()];
+        if smaller(member, last) {
+            return Some(rest);
+        }
+        (rest, last) = (element.after, member);
+    }
+    None
+}
+
 /// Walks the first element of `rest`, which is at `depth`, and all below it,
 /// adding to `count`. Gives what stands after it, or the first fault, with
 /// offsets in `item`, of which `rest` is a part.
 pub(crate) fn tree<'a>(item: &'a [u8], rest: &'a [u8], depth: usize, count: &mut usize) -> Result<&'a [u8], Refusal> {
+    elements::<false>(item, rest, depth, count)
+}
+
+/// The same where a SET is out of order: the walk anew, up to the member that
+/// is too small or to a fault before it.
+#[cold]
+fn tree_unsorted<'a>(item: &'a [u8], rest: &'a [u8], depth: usize, count: &mut usize) -> Result<&'a [u8], Refusal> {
+    elements::<true>(item, rest, depth, count)
+}
+
+fn elements<'a, const UNSORTED: bool>(
+    item: &'a [u8],
+    start: &'a [u8],
+    top: usize,
+    count: &mut usize,
+) -> Result<&'a [u8], Refusal> {
     // What stands after each open element.
     let mut open: [&[u8]; DEPTH_LIMIT + 1] = [&[]; DEPTH_LIMIT + 1];
-    // The open SETs, a bit for the depth of their members, and the member of
-    // each that was read last: in a SET none is smaller than the one before it.
-    let (mut sets, mut last): (u32, [&[u8]; DEPTH_LIMIT + 2]) = (0, [&[]; DEPTH_LIMIT + 2]);
-    let (mut rest, top, mut depth, mut read) = (rest, depth, depth, *count);
+    let (mut rest, mut depth, mut read) = (start, top, *count);
+    // Where the first member out of order stands, of those in the SETs that
+    // were opened: it is refused when the walk comes to it.
+    let mut fallen = usize::MAX;
     loop {
         let Some(Element { id, contents, after }) = split(rest) else {
             return Err(Refusal::der(offset(item, rest)));
@@ -198,23 +237,22 @@ pub(crate) fn tree<'a>(item: &'a [u8], rest: &'a [u8], depth: usize, count: &mut
         if depth > DEPTH_LIMIT || read >= COUNT_LIMIT {
             return Err(Refusal::limit(offset(item, rest)));
         }
-        if sets & 1 << depth != 0 {
-            let member = &rest[..rest.len() - after.len()];
-            if smaller(member, last[depth]) {
-                return Err(Refusal::der(offset(item, rest)));
-            }
-            last[depth] = member;
+        if UNSORTED && offset(item, rest) == fallen {
+            return Err(Refusal::der(fallen));
         }
         read += 1;
         if id & CONSTRUCTED != 0 && !contents.is_empty() {
+            if id == SET {
+                if let Some(member) = unsorted(contents) {
+                    if !UNSORTED {
+                        return tree_unsorted(item, start, top, count);
+                    }
+                    fallen = fallen.min(offset(item, member));
+                }
+            }
             open[depth] = after;
             depth += 1;
             rest = contents;
-            sets &= !(1 << depth);
-            if id == SET {
-                sets |= 1 << depth;
-                last[depth] = &[];
-            }
             continue;
         }
         if !contents_good(id, contents) {

@@ -1,6 +1,6 @@
 //! Names and their country.
 
-use crate::der::{smaller, PRINTABLE_STRING, SEQUENCE, SET};
+use crate::der::{unsorted, PRINTABLE_STRING, SEQUENCE, SET};
 use crate::reader::Reader;
 
 /// countryName, 2.5.4.6.
@@ -25,9 +25,9 @@ pub(crate) fn name<'a>(reader: &mut Reader<'a>) -> Option<Name<'a>> {
     let outer = reader.enter(SEQUENCE)?;
     while !reader.at_end() {
         let in_name = reader.enter(SET)?;
-        let mut last: Option<&[u8]> = None;
+        let members = reader.rest();
+        let mut several = false;
         loop {
-            let from = reader.rest();
             // At least one: a SET that is empty has nothing to enter.
             let in_set = reader.enter(SEQUENCE)?;
             let oid = reader.oid()?;
@@ -37,13 +37,13 @@ pub(crate) fn name<'a>(reader: &mut Reader<'a>) -> Option<Name<'a>> {
                 countries += 1;
                 country = letters(value.id, value.contents);
             }
-            if last.is_some_and(|last| smaller(reader.since(from), last)) {
-                return None;
-            }
             if reader.at_end() {
                 break;
             }
-            last = Some(reader.since(from));
+            several = true;
+        }
+        if several && unsorted(members).is_some() {
+            return None;
         }
         reader.leave(in_name)?;
     }

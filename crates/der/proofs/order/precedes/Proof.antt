@@ -57,8 +57,7 @@ returns-2 c =
 
 loop-again : tie.Need-loop-again Inv-loop μ-loop
 loop-again c =
-    let turn = c .before .before .before .before in
-    (
+    let turn = c .before .before .before .before in (
       omega (arith, turn .loop-test .taken),
       next _ _ _ (turn .before .loop .inv .1) (turn .loop-test .taken)
           (omega (arith, c .if2 .left, c .before .if1 .left, c .before .before .before .octet .ensures)),

@@ -1,6 +1,7 @@
 -- An element is read as its definition says, by the law for each way through its tests; a list by reading its elements one
--- by one, some by the fast path, each after the test against the one before it. The octets at hand fall at each call, twice their
--- number, and one more for a list; so do the levels of depth that are left.
+-- by one, some by the fast path, and the members of a SET one by one, each after the test against the one before it. The octets at hand
+-- fall at each call, twice their number, one more for the members of a SET and two more for a list; so do the levels of depth that
+-- are left.
 use mathlib.Core.Path.{_≡_, refl, sym, subst, _∙_}
 use mathlib.Core.Bool.{Bool, true, false}
 use mathlib.Core.List.{List, []}
@@ -16,7 +17,7 @@ use Rattle.der.specs.declared.heading.Heading.the-variants.{Header}
 use Rattle.der.specs.declared.walking.Read.{Read}
 use Rattle.der.specs.declared.walking.Read.the-variants.{Past, Fault}
 use Rattle.der.specs.declared.walking.Walked.{Walked}
-use Rattle.der.specs.declared.walking.Walked.the-variants.{Refused}
+use Rattle.der.specs.declared.walking.Walked.the-variants.{Passed, Refused}
 use Rattle.der.specs.Forms.{Forms}
 use Rattle.der.specs.Given.{Given}
 use Rattle.der.specs.Heading.{headingOf, constructed}
@@ -31,16 +32,19 @@ use borrow.Fn.Kinds.{In}
 use borrow.Fn.PlainCycle.{Measures, is, falls, and}
 use Rattle.der.proofs.walking.element.Reads as element
 use Rattle.der.proofs.walking.element.Kinds as element-kinds
-use Rattle.der.proofs.walking.+element+list.Lts-element as element-lts
+use Rattle.der.proofs.walking.+element+list+set_list.Lts-element as element-lts
 use Rattle.der.proofs.walking.list.Reads as list
 use Rattle.der.proofs.walking.list.Kinds as list-kinds
-use Rattle.der.proofs.walking.+element+list.Lts-list as list-lts
+use Rattle.der.proofs.walking.set_list.Reads as set-list
+use Rattle.der.proofs.walking.set_list.Kinds as set-list-kinds
+use Rattle.der.proofs.walking.+element+list+set_list.Lts-set_list as set-list-lts
+use Rattle.der.proofs.walking.+element+list+set_list.Lts-list as list-lts
 use Rattle.der.proofs.contents.contents_good.Reads as contents-good-reads
 use Rattle.der.proofs.fast.fast_path.Reads as fast-path-reads
 use Rattle.der.proofs.heading.header.Reads as header-reads
 use Rattle.der.proofs.order.fallen.Reads as fallen-reads
-use Rattle.der.proofs.walking.+element+list.{statement}
-use Rattle.der.proofs.walking.+element+list.Tie.{close}
+use Rattle.der.proofs.walking.+element+list+set_list.{statement}
+use Rattle.der.proofs.walking.+element+list+set_list.Tie.{close}
 
 -- forms with given numbers
 abbrev made : ℕ → Bool → ℕ → ℕ → Forms
@@ -128,7 +132,10 @@ abbrev μ-element : Measures 1 element-kinds.ps ℕ
 μ-element κs a = 2 * length (a .1 .1 .1 .0 .now)
 
 abbrev μ-list : Measures 1 list-kinds.ps ℕ
-μ-list κs a = 2 * length (a .1 .1 .1 .1 .0 .now) + 1
+μ-list κs a = 2 * length (a .1 .1 .1 .1 .0 .now) + 2
+
+abbrev μ-set-list : Measures 1 set-list-kinds.ps ℕ
+μ-set-list κs a = 2 * length (a .1 .1 .1 .0 .now) + 1
 
 abbrev element-at : ℕ → In 1 element-kinds.ps
 element-at t = and 1 element-kinds.ps (is 1 element-kinds.ps μ-element t) element.Pre
@@ -142,11 +149,20 @@ list-at t = and 1 list-kinds.ps (is 1 list-kinds.ps μ-list t) list.Pre
 abbrev list-below : ℕ → In 1 list-kinds.ps
 list-below t = and 1 list-kinds.ps (falls 1 list-kinds.ps _<_ μ-list t) list.Pre
 
+abbrev set-list-at : ℕ → In 1 set-list-kinds.ps
+set-list-at t = and 1 set-list-kinds.ps (is 1 set-list-kinds.ps μ-set-list t) set-list.Pre
+
+abbrev set-list-below : ℕ → In 1 set-list-kinds.ps
+set-list-below t = and 1 set-list-kinds.ps (falls 1 set-list-kinds.ps _<_ μ-set-list t) set-list.Pre
+
 abbrev element-claims : ℕ → element-lts.Claims
 element-claims t = (header-reads.Asked, header-reads.Learnt, list-below t, list.Post, contents-good-reads.Asked, contents-good-reads.Learnt)
 
 abbrev list-claims : ℕ → list-lts.Claims
-list-claims t = (fallen-reads.Asked, fallen-reads.Learnt, fast-path-reads.Asked, fast-path-reads.Learnt, element-below t, element.Post)
+list-claims t = (set-list-below t, set-list.Post, fast-path-reads.Asked, fast-path-reads.Learnt, element-below t, element.Post)
+
+abbrev set-list-claims : ℕ → set-list-lts.Claims
+set-list-claims t = (fallen-reads.Asked, fallen-reads.Learnt, element-below t, element.Post)
 
 -- the header that was read, and the tests after it
 module _ (t : ℕ) where
@@ -272,12 +288,18 @@ module _ (t : ℕ) where
   element-returns-7 : element-lts.Need-returns-7 (element-claims t) (element-at t) element.Post
   element-returns-7 c = bad (c .before) (c .if4 .left)
 
+-- where no order is asked, it does not matter where the last element started
+any-prior : (forms : Forms) (s : List ℕ) (base depth count prior other at read : ℕ) → ListLeft forms false s base depth count prior at read
+    → ListLeft forms false s base depth count other at read
+unfolding handed
+any-prior forms s base depth count prior other at read f = f
+
 abbrev list-Inv-loop : list-lts.InvT-loop
-list-Inv-loop digits wide most set s base left count prior₀ at₀ read₀ prior at read =
-    (prior ≤ at) × (at ≤ length s) × (read ≤ most) × Rest digits wide most set s base left count prior at read
+list-Inv-loop digits wide most set s base left count at₀ read₀ at read =
+    (at ≤ length s) × (read ≤ most) × Rest digits wide most false s base left count 0 at read
 
 abbrev list-μ-loop : list-lts.MeasureT-loop
-list-μ-loop digits wide most set s base left count prior₀ at₀ read₀ prior at read = length s - at
+list-μ-loop digits wide most set s base left count at₀ read₀ at read = length s - at
 
 -- one turn of the list's loop
 module _ (t : ℕ) where
@@ -288,109 +310,108 @@ module _ (t : ℕ) where
   Started = list-lts.Start (list-claims t) (list-at t) list.Post list-Inv-loop list-μ-loop
 
   abbrev started : Turn → Started
-  started c = c .before .before .before
+  started c = c .before .before .before .before
 
+  -- the answer for the next element, and for the list
   abbrev Answered : Turn → Read → Type 0
   Answered c r =
       let start = started c in
       let here = c .before .loop in
-      Next (start .args .digits) (start .args .wide) (start .args .most) (start .args .set) (start .args .s .now) (start .args .base) (start .args .left) (start .args .count)
-      (here .prior) (here .at) (here .read) (c .loop-test .taken) (here .inv .3) r
+      Answer (start .args .digits) (start .args .wide) (start .args .most) (stretch (start .args .s .now) (here .at) (length (start .args .s .now)))
+      (start .args .base + here .at) (start .args .left) (here .read) r
+
+  abbrev Whole : Started → Bool → Walked → Type 0
+  Whole start set w =
+      (forms : Forms) → Given (start .args .digits) (start .args .wide) (start .args .most) (start .args .left) forms
+      → ListIs forms set (start .args .s .now) (start .args .base) (level forms (start .args .left)) (start .args .count) w
+
+  -- it is no SET
+  whole : (c : Turn) {w : Walked} → Whole (started c) false w → Whole (started c) (started c .args .set) w
+  whole c {w} f forms g =
+      let start = started c in
+      let plain : start .args .set ≡ false = c .before .before .if1 .left in
+      subst (λ b. ListIs forms b (start .args .s .now) (start .args .base) (level forms (start .args .left)) (start .args .count) w) (sym plain) (f forms g)
 
   -- a fault of the next element is the list's
-  stops : (c : Turn) {refusal : Refusal} → Answered c (Fault refusal)
-      → let start = started c in
-      (forms : Forms) → Given (start .args .digits) (start .args .wide) (start .args .most) (start .args .left) forms
-      → ListIs forms (start .args .set) (start .args .s .now) (start .args .base) (level forms (start .args .left)) (start .args .count) (Refused refusal)
-  stops c =
+  stops : (c : Turn) {refusal : Refusal} → Answered c (Fault refusal) → Whole (started c) (started c .args .set) (Refused refusal)
+  unfolding handed
+  stops c answer =
       let start = started c in
       let here = c .before .loop in
-      faulty (start .args .digits) (start .args .wide) (start .args .most) (start .args .set) (start .args .s .now) (start .args .base) (start .args .left) (start .args .count)
-      (here .prior) (here .at) (here .read) (c .loop-test .taken) (here .inv .3)
+      whole c (faulty (start .args .digits) (start .args .wide) (start .args .most) false (start .args .s .now) (start .args .base) (start .args .left) (start .args .count)
+      0 (here .at) (here .read) (c .loop-test .taken) (here .inv .2) answer)
 
   -- an element that is read is left behind
   goes-on : (c : Turn) (used n to : ℕ) → Answered c (Past used n) → to ≡ c .before .loop .at + used
       → let start = started c in
       let here = c .before .loop in
       (here .at < to) × (to ≤ length (start .args .s .now)) × (n ≤ start .args .most)
-      × Rest (start .args .digits) (start .args .wide) (start .args .most) (start .args .set) (start .args .s .now) (start .args .base) (start .args .left) (start .args .count) (here .at) to n
-  goes-on c =
+      × Rest (start .args .digits) (start .args .wide) (start .args .most) false (start .args .s .now) (start .args .base) (start .args .left) (start .args .count) 0 to n
+  unfolding handed
+  goes-on c used n to answer e =
       let start = started c in
       let here = c .before .loop in
-      past (start .args .digits) (start .args .wide) (start .args .most) (start .args .set) (start .args .s .now) (start .args .base) (start .args .left) (start .args .count)
-      (here .prior) (here .at) (here .read) (c .loop-test .taken) (here .inv .3)
-
-  abbrev Standing : Type 0
-  Standing = list-lts.Else1 (list-claims t) (list-at t) list.Post list-Inv-loop list-μ-loop
-
-  -- the element is not smaller than the one before it
-  stood : (c : Standing) {r : Read}
-      → let turn = c .before .before in
-      let start = started turn in
-      let here = turn .before .loop in
-      Answer (start .args .digits) (start .args .wide) (start .args .most) (stretch (start .args .s .now) (here .at) (length (start .args .s .now))) (start .args .base + here .at) (start .args .left) (here .read) r
-      → Answered turn r
-  stood c =
-      let turn = c .before .before in
-      let start = started turn in
-      let here = turn .before .loop in
-      next (start .args .digits) (start .args .wide) (start .args .most) (start .args .set) (start .args .s .now) (start .args .base) (start .args .left) (start .args .count)
-      (here .prior) (here .at) (here .read) (turn .loop-test .taken) (here .inv .3) (c .before .fallen .ensures .1 (c .if1 .left))
+      let (more, inside, few, rest) = past (start .args .digits) (start .args .wide) (start .args .most) false (start .args .s .now) (start .args .base) (start .args .left) (start .args .count)
+      0 (here .at) (here .read) (c .loop-test .taken) (here .inv .2) used n to answer e in
+      (more, inside, few, λ forms g. any-prior forms (start .args .s .now) (start .args .base) (level forms (start .args .left)) (start .args .count) (here .at) 0 to n (rest forms g))
 
   abbrev Fast : Type 0
   Fast = list-lts.Then2 (list-claims t) (list-at t) list.Post list-Inv-loop list-μ-loop
 
   fast : (c : Fast)
-      → let turn = c .before .before .before .before in
+      → let turn = c .before .before in
       let start = started turn in
       let here = turn .before .loop in
       let to = here .at + 2 + getD (start .args .s .now) (here .at + 1) 0 in
       (here .at < to) × (to ≤ length (start .args .s .now)) × (c .before .fast-path .result ≤ start .args .most)
-      × Rest (start .args .digits) (start .args .wide) (start .args .most) (start .args .set) (start .args .s .now) (start .args .base) (start .args .left) (start .args .count) (here .at) to (c .before .fast-path .result)
+      × Rest (start .args .digits) (start .args .wide) (start .args .most) false (start .args .s .now) (start .args .base) (start .args .left) (start .args .count) 0 to (c .before .fast-path .result)
   fast c =
-      let turn = c .before .before .before .before in
+      let turn = c .before .before in
       let start = started turn in
       let here = turn .before .loop in
       goes-on turn (2 + getD (start .args .s .now) (here .at + 1) 0) (c .before .fast-path .result) (here .at + 2 + getD (start .args .s .now) (here .at + 1) 0)
-      (stood (c .before .before) (λ forms g. c .before .fast-path .ensures (c .if2 .taken) .1 forms (g .limit) (g .levels) (start .args .base + here .at))) (omega arith)
+      (λ forms g. c .before .fast-path .ensures (c .if2 .taken) .1 forms (g .limit) (g .levels) (start .args .base + here .at)) (omega arith)
 
   abbrev Read-on : Type 0
   Read-on = list-lts.After-element (list-claims t) (list-at t) list.Post list-Inv-loop list-μ-loop
 
-  abbrev still : Read-on → Standing
-  still c = c .before .before .before .before
+  abbrev turned : Read-on → Turn
+  turned c = c .before .before .before .before
 
-  answered : (c : Read-on) {r : Read} → c .element .result ≡ r → Answered (still c .before .before) r
-  answered c e = stood (still c) λ forms g fuel h. sym e ∙ c .element .ensures forms g fuel h
+  answered : (c : Read-on) {r : Read} → c .element .result ≡ r → Answered (turned c) r
+  answered c e forms g fuel h = sym e ∙ c .element .ensures forms g fuel h
 
   abbrev Taken : Type 0
   Taken = list-lts.After-used (list-claims t) (list-at t) list.Post list-Inv-loop list-μ-loop
 
   slow : (c : Taken)
-      → let turn = still (c .before .before) .before .before in
+      → let turn = turned (c .before .before) in
       let start = started turn in
       let here = turn .before .loop in
       let to = here .at + c .used .given .0 .0 in
       (here .at < to) × (to ≤ length (start .args .s .now)) × (c .used .given .0 .1 .0 ≤ start .args .most)
-      × Rest (start .args .digits) (start .args .wide) (start .args .most) (start .args .set) (start .args .s .now) (start .args .base) (start .args .left) (start .args .count) (here .at) to (c .used .given .0 .1 .0)
-  slow c = goes-on (still (c .before .before) .before .before) _ _ _ (answered (c .before .before) (c .used .given .1)) refl
+      × Rest (start .args .digits) (start .args .wide) (start .args .most) false (start .args .s .now) (start .args .base) (start .args .left) (start .args .count) 0 to (c .used .given .0 .1 .0)
+  slow c = goes-on (turned (c .before .before)) _ _ _ (answered (c .before .before) (c .used .given .1)) refl
+
+  list-set-list-requires : list-lts.Need-set-list-requires (list-claims t) (list-at t) list.Post list-Inv-loop list-μ-loop
+  list-set-list-requires c κs =
+      let start = c .before .before in
+      let mu : 2 * length (start .args .s .now) + 2 ≡ t = start .pre .0 in
+      omega arith
+
+  list-returns : list-lts.Need-returns (list-claims t) (list-at t) list.Post list-Inv-loop list-μ-loop
+  list-returns c = λ forms g.
+      let start = c .before .before .before in
+      let set : start .args .set ≡ true = c .before .if1 .taken in
+      subst (λ b. ListIs forms b (start .args .s .now) (start .args .base) (level forms (start .args .left)) (start .args .count) (c .set-list .result)) (sym set) (c .set-list .ensures forms g)
 
   list-loop-holds : list-lts.Need-loop-holds (list-claims t) (list-at t) list.Post list-Inv-loop list-μ-loop
   list-loop-holds c =
-      let start = c .before in (
+      let start = c .before .before in (
         omega arith,
         omega arith,
-        omega arith,
-        λ forms g. left-first forms (start .args .set) (start .args .s .now) (start .args .base) (level forms (start .args .left)) (start .args .count),
+        λ forms g. left-first forms false (start .args .s .now) (start .args .base) (level forms (start .args .left)) (start .args .count),
       )
-
-  list-fallen-requires : list-lts.Need-fallen-requires (list-claims t) (list-at t) list.Post list-Inv-loop list-μ-loop
-  list-fallen-requires c κs = omega arith
-
-  list-returns : list-lts.Need-returns (list-claims t) (list-at t) list.Post list-Inv-loop list-μ-loop
-  list-returns c =
-      let turn = c .before .before in
-      stops turn λ forms g. c .before .fallen .ensures .0 (c .if1 .taken) forms g (started turn .args .base + turn .before .loop .at)
 
   list-add-at : list-lts.Need-add-at (list-claims t) (list-at t) list.Post list-Inv-loop list-μ-loop
   list-add-at c = omega (arith, c .before .fast-path .ensures (c .if2 .taken) .0)
@@ -411,21 +432,21 @@ module _ (t : ℕ) where
   list-loop-less c = omega (arith, fast (c .before))
 
   list-loop-again : list-lts.Need-loop-again (list-claims t) (list-at t) list.Post list-Inv-loop list-μ-loop
-  list-loop-again c = let on = fast (c .before) in (omega arith, on .1, on .2, on .3)
+  list-loop-again c = let on = fast (c .before) in (on .1, on .2, on .3)
 
   list-element-requires : list-lts.Need-element-requires (list-claims t) (list-at t) list.Post list-Inv-loop list-μ-loop
   list-element-requires c κs =
-      let turn = c .before .before .before .before .before in
+      let turn = c .before .before .before in
       let start = started turn in
       let at = turn .before .loop .at in
       let s = start .args .s .now in
-      let mu : 2 * length s + 1 ≡ t = start .pre .0 in
+      let mu : 2 * length s + 2 ≡ t = start .pre .0 in
       omega (arith, length-take (length s - at) (drop at s), length-drop at s)
 
   list-returns-2 : list-lts.Need-returns-2 (list-claims t) (list-at t) list.Post list-Inv-loop list-μ-loop
   list-returns-2 c =
       let read = c .before .before .before in
-      stops (still read .before .before) (answered read (c .before .refusal .given .1))
+      stops (turned read) (answered read (c .before .refusal .given .1))
 
   list-add-at-4 : list-lts.Need-add-at-4 (list-claims t) (list-at t) list.Post list-Inv-loop list-μ-loop
   list-add-at-4 c = omega (arith, slow (c .before))
@@ -434,17 +455,141 @@ module _ (t : ℕ) where
   list-loop-less-2 c = omega (arith, slow (c .before))
 
   list-loop-again-2 : list-lts.Need-loop-again-2 (list-claims t) (list-at t) list.Post list-Inv-loop list-μ-loop
-  list-loop-again-2 c = let on = slow (c .before) in (omega arith, on .1, on .2, on .3)
+  list-loop-again-2 c = let on = slow (c .before) in (on .1, on .2, on .3)
 
   list-returns-3 : list-lts.Need-returns-3 (list-claims t) (list-at t) list.Post list-Inv-loop list-μ-loop
   list-returns-3 c = λ forms g.
+      let start = c .before .before .before .before in
+      let here = c .before .loop in
+      let plain : start .args .set ≡ false = c .before .before .if1 .left in
+      subst (λ b. ListIs forms b (start .args .s .now) (start .args .base) (level forms (start .args .left)) (start .args .count) (Passed (here .read))) (sym plain)
+      (left-none forms false (start .args .s .now) (start .args .base) (level forms (start .args .left)) (start .args .count)
+      0 (here .at) (here .read) (here .inv .2 forms g) (c .loop-test .left))
+
+abbrev set-list-Inv-loop : set-list-lts.InvT-loop
+set-list-Inv-loop digits wide most s base left count prior₀ at₀ read₀ prior at read =
+    (prior ≤ at) × (at ≤ length s) × (read ≤ most) × Rest digits wide most true s base left count prior at read
+
+abbrev set-list-μ-loop : set-list-lts.MeasureT-loop
+set-list-μ-loop digits wide most s base left count prior₀ at₀ read₀ prior at read = length s - at
+
+-- one turn of the loop over a SET's members
+module _ (t : ℕ) where
+  abbrev SetTurn : Type 0
+  SetTurn = set-list-lts.In-loop (set-list-claims t) (set-list-at t) set-list.Post set-list-Inv-loop set-list-μ-loop
+
+  abbrev SetStarted : Type 0
+  SetStarted = set-list-lts.Start (set-list-claims t) (set-list-at t) set-list.Post set-list-Inv-loop set-list-μ-loop
+
+  abbrev set-started : SetTurn → SetStarted
+  set-started c = c .before .before .before
+
+  abbrev SetNext : SetTurn → Read → Type 0
+  SetNext c r =
+      let start = set-started c in
+      let here = c .before .loop in
+      Next (start .args .digits) (start .args .wide) (start .args .most) true (start .args .s .now) (start .args .base) (start .args .left) (start .args .count)
+      (here .prior) (here .at) (here .read) (c .loop-test .taken) (here .inv .3) r
+
+  -- a fault of the next member is the list's
+  set-stops : (c : SetTurn) {refusal : Refusal} → SetNext c (Fault refusal)
+      → let start = set-started c in
+      (forms : Forms) → Given (start .args .digits) (start .args .wide) (start .args .most) (start .args .left) forms
+      → ListIs forms true (start .args .s .now) (start .args .base) (level forms (start .args .left)) (start .args .count) (Refused refusal)
+  set-stops c =
+      let start = set-started c in
+      let here = c .before .loop in
+      faulty (start .args .digits) (start .args .wide) (start .args .most) true (start .args .s .now) (start .args .base) (start .args .left) (start .args .count)
+      (here .prior) (here .at) (here .read) (c .loop-test .taken) (here .inv .3)
+
+  abbrev Standing : Type 0
+  Standing = set-list-lts.Else1 (set-list-claims t) (set-list-at t) set-list.Post set-list-Inv-loop set-list-μ-loop
+
+  abbrev SetRead : Type 0
+  SetRead = set-list-lts.After-element (set-list-claims t) (set-list-at t) set-list.Post set-list-Inv-loop set-list-μ-loop
+
+  abbrev standing : SetRead → Standing
+  standing c = c .before .before
+
+  -- the member is not smaller than the one before it
+  set-answered : (c : SetRead) {r : Read} → c .element .result ≡ r → SetNext (standing c .before .before) r
+  unfolding handed
+  set-answered c e =
+      let stood = standing c in
+      let turn = stood .before .before in
+      let start = set-started turn in
+      let here = turn .before .loop in
+      next (start .args .digits) (start .args .wide) (start .args .most) true (start .args .s .now) (start .args .base) (start .args .left) (start .args .count)
+      (here .prior) (here .at) (here .read) (turn .loop-test .taken) (here .inv .3) (stood .before .fallen .ensures .1 (stood .if1 .left))
+      λ forms g fuel h. sym e ∙ c .element .ensures forms g fuel h
+
+  abbrev SetTaken : Type 0
+  SetTaken = set-list-lts.After-used (set-list-claims t) (set-list-at t) set-list.Post set-list-Inv-loop set-list-μ-loop
+
+  set-slow : (c : SetTaken)
+      → let turn = standing (c .before .before) .before .before in
+      let start = set-started turn in
+      let here = turn .before .loop in
+      let to = here .at + c .used .given .0 .0 in
+      (here .at < to) × (to ≤ length (start .args .s .now)) × (c .used .given .0 .1 .0 ≤ start .args .most)
+      × Rest (start .args .digits) (start .args .wide) (start .args .most) true (start .args .s .now) (start .args .base) (start .args .left) (start .args .count) (here .at) to (c .used .given .0 .1 .0)
+  set-slow c =
+      let turn = standing (c .before .before) .before .before in
+      let start = set-started turn in
+      let here = turn .before .loop in
+      past (start .args .digits) (start .args .wide) (start .args .most) true (start .args .s .now) (start .args .base) (start .args .left) (start .args .count)
+      (here .prior) (here .at) (here .read) (turn .loop-test .taken) (here .inv .3) _ _ _ (set-answered (c .before .before) (c .used .given .1)) refl
+
+  set-list-loop-holds : set-list-lts.Need-loop-holds (set-list-claims t) (set-list-at t) set-list.Post set-list-Inv-loop set-list-μ-loop
+  set-list-loop-holds c =
+      let start = c .before in (
+        omega arith,
+        omega arith,
+        omega arith,
+        λ forms g. left-first forms true (start .args .s .now) (start .args .base) (level forms (start .args .left)) (start .args .count),
+      )
+
+  set-list-fallen-requires : set-list-lts.Need-fallen-requires (set-list-claims t) (set-list-at t) set-list.Post set-list-Inv-loop set-list-μ-loop
+  set-list-fallen-requires c κs = omega arith
+
+  set-list-returns : set-list-lts.Need-returns (set-list-claims t) (set-list-at t) set-list.Post set-list-Inv-loop set-list-μ-loop
+  unfolding handed
+  set-list-returns c =
+      let turn = c .before .before in
+      set-stops turn λ forms g. c .before .fallen .ensures .0 (c .if1 .taken) forms g (set-started turn .args .base + turn .before .loop .at)
+
+  set-list-element-requires : set-list-lts.Need-element-requires (set-list-claims t) (set-list-at t) set-list.Post set-list-Inv-loop set-list-μ-loop
+  set-list-element-requires c κs =
+      let turn = c .before .before .before in
+      let start = set-started turn in
+      let at = turn .before .loop .at in
+      let s = start .args .s .now in
+      let mu : 2 * length s + 1 ≡ t = start .pre .0 in
+      omega (arith, length-take (length s - at) (drop at s), length-drop at s)
+
+  set-list-returns-2 : set-list-lts.Need-returns-2 (set-list-claims t) (set-list-at t) set-list.Post set-list-Inv-loop set-list-μ-loop
+  set-list-returns-2 c =
+      let read = c .before .before .before in
+      set-stops (standing read .before .before) (set-answered read (c .before .refusal .given .1))
+
+  set-list-add-at : set-list-lts.Need-add-at (set-list-claims t) (set-list-at t) set-list.Post set-list-Inv-loop set-list-μ-loop
+  set-list-add-at c = omega (arith, set-slow (c .before))
+
+  set-list-loop-less : set-list-lts.Need-loop-less (set-list-claims t) (set-list-at t) set-list.Post set-list-Inv-loop set-list-μ-loop
+  set-list-loop-less c = omega (arith, set-slow (c .before))
+
+  set-list-loop-again : set-list-lts.Need-loop-again (set-list-claims t) (set-list-at t) set-list.Post set-list-Inv-loop set-list-μ-loop
+  set-list-loop-again c = let on = set-slow (c .before) in (omega arith, on .1, on .2, on .3)
+
+  set-list-returns-3 : set-list-lts.Need-returns-3 (set-list-claims t) (set-list-at t) set-list.Post set-list-Inv-loop set-list-μ-loop
+  set-list-returns-3 c = λ forms g.
       let start = c .before .before .before in
       let here = c .before .loop in
-      left-none forms (start .args .set) (start .args .s .now) (start .args .base) (level forms (start .args .left)) (start .args .count)
+      left-none forms true (start .args .s .now) (start .args .base) (level forms (start .args .left)) (start .args .count)
       (here .prior) (here .at) (here .read) (here .inv .3 forms g) (c .loop-test .left)
 
-pub +element+list-spec : {M : Type 1} → statement M
-+element+list-spec = close μ-element μ-list
+pub +element+list+set-list-spec : {M : Type 1} → statement M
++element+list+set-list-spec = close μ-element μ-list μ-set-list
     (λ t. element-lts.spec (element-claims t)
     (element-at t)
     element.Post
@@ -474,15 +619,14 @@ pub +element+list-spec : {M : Type 1} → statement M
     (λ c. search needs)
     (element-returns-6 t)
     (element-returns-7 t))
-    λ t. list-lts.spec (list-claims t)
+    (λ t. list-lts.spec (list-claims t)
     (list-at t)
     list.Post
     list-Inv-loop
     list-μ-loop
-    (list-loop-holds t)
-    (list-fallen-requires t)
-    (λ c. search needs)
+    (list-set-list-requires t)
     (list-returns t)
+    (list-loop-holds t)
     (λ c κs. search needs)
     (list-add-at t)
     (list-add-at-2 t)
@@ -502,4 +646,25 @@ pub +element+list-spec : {M : Type 1} → statement M
     (list-add-at-4 t)
     (list-loop-less-2 t)
     (list-loop-again-2 t)
-    (list-returns-3 t)
+    (list-returns-3 t))
+    λ t. set-list-lts.spec (set-list-claims t)
+    (set-list-at t)
+    set-list.Post
+    set-list-Inv-loop
+    set-list-μ-loop
+    (set-list-loop-holds t)
+    (set-list-fallen-requires t)
+    (λ c. search needs)
+    (set-list-returns t)
+    (λ c. search needs)
+    (λ c. search needs)
+    (λ c. search needs)
+    (λ c. search needs)
+    (set-list-element-requires t)
+    (λ c. search needs)
+    (set-list-returns-2 t)
+    (λ c. search needs)
+    (set-list-add-at t)
+    (set-list-loop-less t)
+    (set-list-loop-again t)
+    (set-list-returns-3 t)
