@@ -40,14 +40,16 @@ long-keeps : (forms : Forms) (s : List ℕ) (tag at k : ℕ) → 2 ≤ at → He
 unfolding long
 long-keeps forms s tag at k h =
     cond-by (HeadWithin s) (leb 1 k && (leb k (forms .lengthOctets) && leb (at + k) (length s)))
-    (λ e. cond-by (HeadWithin s) (leb (smallest k) (number (take k (drop at s)))) (λ e. within-keeps s tag (at + k) (number (take k (drop at s))) (omega arith)) (λ e. bad-in))
+    (λ e. cond-by (HeadWithin s) (leb (smallest k) (number (take k (drop at s)))) (λ e. within-keeps s tag (at + k) (number (take k (drop at s)))
+    (omega arith)) (λ e. bad-in))
     (λ e. bad-in)
 
 sized-keeps : (forms : Forms) (s : List ℕ) (tag at : ℕ) → 1 ≤ at → HeadWithin s (sized forms s tag at)
 unfolding sized
 sized-keeps forms s tag at h =
     cond-by (HeadWithin s) (leb (length s) at) (λ e. bad-in)
-    (λ e. cond-by (HeadWithin s) (ltb (getD s at 0) 128) (λ e. within-keeps s tag (at + 1) (getD s at 0) (omega arith)) (λ e. long-keeps forms s tag (at + 1) (getD s at 0 - 128) (omega arith)))
+    (λ e. cond-by (HeadWithin s) (ltb (getD s at 0) 128) (λ e. within-keeps s tag (at + 1) (getD s at 0) (omega arith))
+    (λ e. long-keeps forms s tag (at + 1) (getD s at 0 - 128) (omega arith)))
 
 wide-keeps : (forms : Forms) (s : List ℕ) → HeadWithin s (wideHeading forms s)
 unfolding wideHeading
@@ -114,15 +116,18 @@ element-keeps forms fuel below prior s base depth count = go (headingOf forms s)
         (λ e. cond-by (ReadWithin forms s) (constructed (getD s 0 0))
         (λ e. filled-keeps forms s (skip + size) _ (omega arith) g
         (below .1 (isSet tag) [] (take size (drop skip s)) (base + skip) (depth + 1) (count + 1) (omega arith)))
-        (λ e. cond-by (ReadWithin forms s) (contentsGood tag (take size (drop skip s))) (λ e. past-in {m = count + 1} (omega arith) g (omega arith)) (λ e. fault-in)))))
+        (λ e. cond-by (ReadWithin forms s) (contentsGood tag (take size (drop skip s))) (λ e. past-in {m = count + 1} (omega arith) g (omega arith))
+        (λ e. fault-in)))))
 
 list-keeps : (forms : Forms) (fuel : ℕ) → Keeps forms fuel → (set : Bool) (prior s : List ℕ) (base depth count : ℕ) → count ≤ forms .elements
     → ListWithin forms (listAt (suc fuel) forms set prior s base depth count)
 unfolding listAt after
 list-keeps forms fuel below set prior s base depth count h =
-    cond-by (ListWithin forms) (eqb (length s) 0) (λ e. passed-in h) (λ e. go (elementAt fuel forms prior s base depth count) (below .0 prior s base depth count))
+    cond-by (ListWithin forms) (eqb (length s) 0) (λ e. passed-in h) (λ e. go (elementAt fuel forms prior s base depth count)
+    (below .0 prior s base depth count))
   where
-    go : (r : Read) → ReadWithin forms s r → ListWithin forms (after r λ used n. listAt fuel forms set (handed set (take used s)) (drop used s) (base + used) depth n)
+    go : (r : Read) → ReadWithin forms s r → ListWithin forms (after r λ used n. listAt fuel forms set (handed set (take used s)) (drop used s)
+        (base + used) depth n)
     go (Past used n) (past-in f g h) = below .1 set (handed set (take used s)) (drop used s) (base + used) depth n h
     go (Fault refusal) g = refused-in
 
@@ -162,7 +167,8 @@ element-takes forms (suc fuel) prior s base depth count tag skip size e used m g
         (cond-by P (ltb (forms .depth) depth) (λ _. fault-not) λ _.
         cond-by P (leb (forms .elements) count) (λ _. fault-not) λ _.
         cond-by P (smaller (take (skip + size) s) prior) (λ _. fault-not) λ _.
-        cond-by P (constructed (getD s 0 0)) (λ _. members (listAt fuel forms (isSet tag) [] (take size (drop skip s)) (base + skip) (depth + 1) (count + 1))) λ _.
+        cond-by P (constructed (getD s 0 0)) (λ _. members (listAt fuel forms (isSet tag) [] (take size (drop skip s)) (base + skip) (depth + 1)
+        (count + 1))) λ _.
         cond-by P (contentsGood tag (take size (drop skip s))) (λ _. same) λ _. fault-not)
 
 pub list-within :
@@ -177,7 +183,8 @@ list-within forms fuel set prior s base depth count m h e = go (subst (ListWithi
 -- a walk counts no more elements than the limit
 pub counted-within : (forms : Forms) (item : List ℕ) → counted (walkOf forms item) ≤ forms .elements
 unfolding walkOf whole counted
-counted-within forms item = tells (walkOf forms item) (cond-by (ListWithin forms) (ltb (forms .itemSize) (length item)) (λ e. refused-in) (λ e. go (elementAt (2 * length item + 2) forms [] item 0 1 0) (keeps forms (2 * length item + 2) .0 [] item 0 1 0)))
+counted-within forms item = tells (walkOf forms item) (cond-by (ListWithin forms) (ltb (forms .itemSize) (length item)) (λ e. refused-in)
+    (λ e. go (elementAt (2 * length item + 2) forms [] item 0 1 0) (keeps forms (2 * length item + 2) .0 [] item 0 1 0)))
   where
     go : (r : Read) → ReadWithin forms item r → ListWithin forms (whole (length item) r)
     go (Fault refusal) h = refused-in

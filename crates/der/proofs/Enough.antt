@@ -22,7 +22,8 @@ use Rattle.der.specs.Walk.{opened, filled, elementAt, listAt}
 use Rattle.der.specs.Fast.{stretch}
 use Rattle.der.specs.Falling.{Falls, Stands}
 use Rattle.der.proofs.Ascending.{smaller-none}
-use Rattle.der.proofs.Laws.{element-bad, element-deep, element-many, element-fallen, element-node, element-leaf, element-spoilt, list-done, list-more, list-fault}
+use Rattle.der.proofs.Laws.{element-bad, element-deep, element-many, element-fallen, element-node}
+use Rattle.der.proofs.Laws.{element-leaf, element-spoilt, list-done, list-more, list-fault}
 use Rattle.der.proofs.Bounds.{heading-within, element-within}
 
 abbrev pub ElementIs : Forms → List ℕ → List ℕ → ℕ → ℕ → ℕ → Read → Type 0
@@ -78,7 +79,8 @@ module _ (forms : Forms) (s : List ℕ) (base depth count : ℕ) where
 
 -- an element after another one of the SET: either the order is its first fault, or it is read as where no order is asked
 module _ (forms : Forms) (prior s : List ℕ) (depth count : ℕ) where
-  same-by : ((base fuel : ℕ) → elementAt (suc fuel) forms [] s base depth count ≡ elementAt (suc fuel) forms prior s base depth count) → Stands forms prior s depth count
+  same-by : ((base fuel : ℕ) → elementAt (suc fuel) forms [] s base depth count ≡ elementAt (suc fuel) forms prior s base depth count)
+      → Stands forms prior s depth count
   unfolding elementAt
   same-by f base zero = refl
   same-by f base (suc fuel) = f base fuel
@@ -130,7 +132,8 @@ module _ (forms : Forms) (set : Bool) (s : List ℕ) (base depth count : ℕ) wh
     go-on P g fuel enough = go (f fuel enough .0) (f fuel enough .1) (f fuel enough .2)
       where
         go : (rest : ℕ) → 2 * (length s - at) + 2 ≤ rest
-            → listAt fuel forms set [] s base depth count ≡ listAt rest forms set member (drop at s) (base + at) depth read → P (listAt fuel forms set [] s base depth count)
+            → listAt fuel forms set [] s base depth count ≡ listAt rest forms set member (drop at s) (base + at) depth read → P
+            (listAt fuel forms set [] s base depth count)
         go zero h e = absurd (omega arith)
         go (suc rest) h e = subst P (sym e) (g rest (omega arith))
 
@@ -150,7 +153,8 @@ module _ (forms : Forms) (set : Bool) (s : List ℕ) (base depth count : ℕ) wh
           → (rest : ℕ) → 2 * (length s - at) + 1 ≤ rest → elementAt rest forms member (drop at s) (base + at) depth read ≡ r
       element-left {r} g rest h = sym (subst (λ (l : List ℕ). ElementIs forms member l (base + at) depth read r) whole g rest (omega (arith, length-drop at s)))
 
-      pub left-fault : {refusal : Refusal} → ElementIs forms member (take (length s - at) (drop at s)) (base + at) depth read (Fault refusal) → ListIs forms set s base depth count (Refused refusal)
+      pub left-fault : {refusal : Refusal} → ElementIs forms member (take (length s - at) (drop at s)) (base + at) depth read (Fault refusal)
+          → ListIs forms set s base depth count (Refused refusal)
       left-fault {refusal} g = go-on (λ w. Refused refusal ≡ w) λ rest enough.
           sym (list-fault forms rest set member (drop at s) (base + at) depth read some refusal (element-left g rest enough))
 
@@ -162,7 +166,8 @@ module _ (forms : Forms) (set : Bool) (s : List ℕ) (base depth count : ℕ) wh
             (b .0, omega (arith, b .1, length-drop at s), b .2)
 
         pub left-next : ListLeft forms set s base depth count at (at + used) n
-        left-next = go-on (λ w. (rest : ℕ) × (2 * (length s - (at + used)) + 2 ≤ rest) × (w ≡ listAt rest forms set (handed set (stretch s at (at + used))) (drop (at + used) s) (base + (at + used)) depth n)) λ rest enough.
+        left-next = go-on (λ w. (rest : ℕ) × (2 * (length s - (at + used)) + 2 ≤ rest) × (w ≡ listAt rest forms set
+            (handed set (stretch s at (at + used))) (drop (at + used) s) (base + (at + used)) depth n)) λ rest enough.
             let span : at + used - at ≡ used = omega arith in (
               rest,
               omega (arith, read-within),

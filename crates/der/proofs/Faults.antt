@@ -65,7 +65,8 @@ module _ (forms : Forms) where
           (λ e. filled-faulty (skip + size) _ (below .1 (isSet tag) [] (take size (drop skip s)) (base + skip) (depth + 1) (count + 1)))
           (λ e. cond-by ReadFaulty (contentsGood tag (take size (drop skip s))) (λ e. past-no) (λ e. fault-by by-der)))))
 
-  list-faulty : (fuel : ℕ) → Keeps fuel → (set : Bool) (prior s : List ℕ) (base depth count : ℕ) → WalkFaulty (listAt (suc fuel) forms set prior s base depth count)
+  list-faulty : (fuel : ℕ) → Keeps fuel → (set : Bool) (prior s : List ℕ) (base depth count : ℕ) → WalkFaulty
+      (listAt (suc fuel) forms set prior s base depth count)
   unfolding listAt after
   list-faulty fuel below set prior s base depth count =
       cond-by WalkFaulty (eqb (length s) 0) (λ e. passed-no) (λ e. go (elementAt fuel forms prior s base depth count) (below .0 prior s base depth count))
@@ -81,7 +82,8 @@ module _ (forms : Forms) where
 
   walk-faulty : (s : List ℕ) → WalkFaulty (walkOf forms s)
   unfolding walkOf whole
-  walk-faulty s = cond-by WalkFaulty (ltb (forms .itemSize) (length s)) (λ e. refused-by by-limit) (λ e. go (elementAt (2 * length s + 2) forms [] s 0 1 0) (keeps (2 * length s + 2) .0 [] s 0 1 0))
+  walk-faulty s = cond-by WalkFaulty (ltb (forms .itemSize) (length s)) (λ e. refused-by by-limit)
+      (λ e. go (elementAt (2 * length s + 2) forms [] s 0 1 0) (keeps (2 * length s + 2) .0 [] s 0 1 0))
     where
       go : (r : Read) → ReadFaulty r → WalkFaulty (whole (length s) r)
       go (Fault refusal) (fault-by h) = refused-by h

@@ -106,20 +106,25 @@ module _ (forms : Forms) (s : List ℕ) (i e : ℕ) (two : i + 2 ≤ e) (inside 
   front : getD (stretch s i e) 0 0 ≡ getD s i 0
   front = let z : i + 0 ≡ i = omega arith in getD-part s i e 0 (omega arith) ∙ rw z refl
 
-  module _ {after : ℕ} (ends : after ≡ i + 2 + getD s (i + 1) 0) (fits : after ≤ e) (short : getD s (i + 1) 0 < 128) (known : identifierGood (getD s i 0) ≡ true) where
+  module _ {after : ℕ} (ends : after ≡ i + 2 + getD s (i + 1) 0) (fits : after ≤ e) (short : getD s (i + 1) 0 < 128)
+      (known : identifierGood (getD s i 0) ≡ true) where
     heads : headingOf forms (stretch s i e) ≡ Header (getD s i 0) 2 (getD s (i + 1) 0)
     heads =
         let size : getD (stretch s i e) 1 0 ≡ getD s (i + 1) 0 = getD-part s i e 1 (omega arith) in
-        subst (λ n. headingOf forms (stretch s i e) ≡ Header n 2 (getD s (i + 1) 0)) front (subst (λ n. headingOf forms (stretch s i e) ≡ Header (getD (stretch s i e) 0 0) 2 n) size (short-header forms (stretch s i e) (omega (arith, long)) (rw front known) (rw size short) (rw size (omega (arith, long)))))
+        subst (λ n. headingOf forms (stretch s i e) ≡ Header n 2 (getD s (i + 1) 0)) front
+        (subst (λ n. headingOf forms (stretch s i e) ≡ Header (getD (stretch s i e) 0 0) 2 n) size
+        (short-header forms (stretch s i e) (omega (arith, long)) (rw front known) (rw size short) (rw size (omega (arith, long)))))
 
     same : stretch s (i + 2) after ≡ take (2 + getD s (i + 1) 0 - 2) (drop 2 (stretch s i e))
     same = part-inner s i 2 (getD s (i + 1) 0) e refl ends fits
 
     module _ (depth count : ℕ) (shallow : depth ≤ forms .depth) (few : count < forms .elements) where
-      pub leaf-reads : constructed (getD s i 0) ≡ false → contentsGood (getD s i 0) (stretch s (i + 2) after) ≡ true → Reads forms (stretch s i e) depth count (after - i) (count + 1)
+      pub leaf-reads : constructed (getD s i 0) ≡ false → contentsGood (getD s i 0) (stretch s (i + 2) after) ≡ true → Reads forms
+          (stretch s i e) depth count (after - i) (count + 1)
       leaf-reads primitive good base =
           let used : after - i ≡ 2 + getD s (i + 1) 0 = omega arith in
-          rw used (leaf-is forms (stretch s i e) base depth count heads shallow few (rw front primitive) (subst (λ (l : List ℕ). contentsGood (getD s i 0) l ≡ true) same good))
+          rw used (leaf-is forms (stretch s i e) base depth count heads shallow few (rw front primitive)
+          (subst (λ (l : List ℕ). contentsGood (getD s i 0) l ≡ true) same good))
 
       pub node-reads : {set : Bool} {m : ℕ} → isSet (getD s i 0) ≡ set → constructed (getD s i 0) ≡ true
           → Fills forms set (stretch s (i + 2) after) (depth + 1) (count + 1) m → Reads forms (stretch s i e) depth count (2 + getD s (i + 1) 0) m
@@ -139,7 +144,8 @@ module _ (forms : Forms) (s : List ℕ) (i e : ℕ) (two : i + 2 ≤ e) (inside 
       passes-more forms (stretch s i e) depth count f (omega (arith, long)) (w .0) (w .1) (rw (part-drop s i (r - i) e, on) g)
 
   -- the one element that there is
-  pub reads-one : (depth count : ℕ) {used m : ℕ} → used ≡ e - i → Reads forms (stretch s i e) depth count used m → (set : Bool) → Fills forms set (stretch s i e) depth count m
+  pub reads-one : (depth count : ℕ) {used m : ℕ} → used ≡ e - i → Reads forms (stretch s i e) depth count used m → (set : Bool) → Fills forms set
+      (stretch s i e) depth count m
   reads-one depth count all f set = passes-one forms (stretch s i e) depth count f (omega (arith, long)) set (omega (arith, long))
 
 pub fills-none : (forms : Forms) (s : List ℕ) (e depth count : ℕ) → e ≤ length s → Fills forms false (stretch s e e) depth count count
@@ -159,7 +165,8 @@ pub set-of : (tag : ℕ) → tag ≡ 49 → Listed true tag
 unfolding identifierGood constructed isSet
 set-of tag e = rw e (record { known = refl; node = refl; kind = refl })
 
-module _ (forms : Forms) (s : List ℕ) (i e : ℕ) (two : i + 2 ≤ e) (inside : e ≤ length s) (depth count m : ℕ) (shallow : depth ≤ forms .depth) (few : count < forms .elements) where
+module _ (forms : Forms) (s : List ℕ) (i e : ℕ) (two : i + 2 ≤ e) (inside : e ≤ length s) (depth count m : ℕ) (shallow : depth ≤ forms .depth)
+    (few : count < forms .elements) where
   -- by its members
   pub list-reads : {set : Bool} {after : ℕ} → Listed set (getD s i 0) → after ≡ i + 2 + getD s (i + 1) 0 → after ≤ e → getD s (i + 1) 0 < 128
       → Fills forms set (stretch s (i + 2) after) (depth + 1) (count + 1) m → Reads forms (stretch s i e) depth count (2 + getD s (i + 1) 0) m

@@ -18,7 +18,8 @@ pub passes-none : (forms : Forms) (set : Bool) (s : List ℕ) (depth count : ℕ
 passes-none forms set s depth count h base zero enough = absurd (omega arith)
 passes-none forms set s depth count h base (suc fuel) enough = sym (list-done forms fuel set [] s base depth count h)
 
-module _ (forms : Forms) (s : List ℕ) (depth count : ℕ) {used m : ℕ} (f : (base : ℕ) → ElementIs forms [] s base depth count (Past used m)) (some : 0 < length s) where
+module _ (forms : Forms) (s : List ℕ) (depth count : ℕ) {used m : ℕ} (f : (base : ℕ) → ElementIs forms [] s base depth count (Past used m))
+    (some : 0 < length s) where
   pub passes-more : {n : ℕ} → 2 ≤ used → used ≤ length s → Fills forms false (drop used s) depth m n → Fills forms false s depth count n
   unfolding handed
   passes-more wide within g base zero enough = absurd (omega arith)

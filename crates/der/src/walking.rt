@@ -147,7 +147,7 @@ fn set_list(
     let mut prior = 0;
     let mut at = 0;
     let mut read = count;
-    while at < s.len() {
+    while s.len() > at {
         if fallen(digits, wide, most, s, prior, at, left, read) {
             return Walked::Refused(Refusal::Der { at: base + at });
         }

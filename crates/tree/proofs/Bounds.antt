@@ -46,7 +46,8 @@ module _ (forms : Forms) where
         let h : Headed forms s tag skip size = heading-fits forms s tag skip size (o .header) in
         record { some = omega (arith, h .some); fits = h .fits; few = omega (arith, o .few) }
 
-    pub list-bound : (fuel : ℕ) (set : Bool) (prior s : List ℕ) (base d n : ℕ) → n ≤ forms .elements → WalkedBound forms (listAt fuel forms set prior s base d n)
+    pub list-bound : (fuel : ℕ) (set : Bool) (prior s : List ℕ) (base d n : ℕ) → n ≤ forms .elements → WalkedBound forms
+        (listAt fuel forms set prior s base d n)
     list-bound zero set prior s base d n few = tt
     list-bound (suc fuel) set prior s base d n few =
         list-by forms fuel prior s base d n set (WalkedBound forms) (λ refusal. tt) (λ done. few) λ used k m first rest.

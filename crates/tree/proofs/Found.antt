@@ -14,7 +14,8 @@ use Rattle.der.specs.Forms.{Forms}
 use Rattle.octets.specs.Octets.{Octets}
 use Rattle.der.specs.Order.{smaller, isSet, handed}
 use Rattle.der.specs.Walk.{elementAt, listAt}
-use Rattle.tree.specs.Tree.{Tree, leaf, node, Trees, none, more, tagged, encoded, encodedAll, size, sizeAll, depth, depthAll, Sound, sound-leaf, sound-node, SoundAll, sound-none, sound-more}
+use Rattle.tree.specs.Tree.{Tree, leaf, node, Trees, none, more, tagged, encoded, encodedAll}
+use Rattle.tree.specs.Tree.{size, sizeAll, depth, depthAll, Sound, sound-leaf, sound-node, SoundAll, sound-none, sound-more}
 use Rattle.tree.proofs.Rising.{rises, rises-none, rises-more, ordered-rises}
 use Rattle.tree.proofs.Numbers.{octets-take, octets-drop}
 use Rattle.tree.proofs.Written.{Taken, heading-taken}

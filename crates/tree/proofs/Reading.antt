@@ -12,7 +12,8 @@ use Rattle.der.specs.Forms.{Forms}
 use Rattle.der.specs.Order.{smaller, isSet}
 use Rattle.der.specs.Walk.{filled, elementAt, listAt}
 use Rattle.der.proofs.Laws.{element-node, element-leaf, list-done, list-more}
-use Rattle.tree.specs.Tree.{Tree, leaf, node, Trees, none, more, tagged, encoded, encodedAll, size, sizeAll, depth, depthAll, Sound, sound-leaf, sound-node, SoundAll, sound-none, sound-more}
+use Rattle.tree.specs.Tree.{Tree, leaf, node, Trees, none, more, tagged, encoded, encodedAll}
+use Rattle.tree.specs.Tree.{size, sizeAll, depth, depthAll, Sound, sound-leaf, sound-node, SoundAll, sound-none, sound-more}
 use Rattle.tree.proofs.Rising.{rises, rises-first, rises-rest, ordered-rises}
 use Rattle.tree.proofs.Tags.{identifier-some}
 use Rattle.tree.proofs.Headings.{skipped, heading-of, length-tagged, length-encoded-some, tagged-contents, tagged-first}
@@ -47,13 +48,15 @@ module _ (forms : Forms) (limit : forms .lengthOctets ≤ 3) where
         let c : List ℕ = encodedAll members in
         let skip : ℕ = skipped tag (length c) in
         let inner = reads-all members sound (isSet tag) [] (sym (ordered-rises tag members) ∙ order) fuel (base + skip) (d + 1) (n + 1)
-        (omega (arith, length-append (tagged tag c) rest, length-tagged tag c, identifier-some tag, length-encoded-some (length c))) (omega arith) (omega arith) in
+        (omega (arith, length-append (tagged tag c) rest, length-tagged tag c, identifier-some tag, length-encoded-some (length c))) (omega arith)
+        (omega arith) in
         element-node forms fuel prior _ base d n tag skip (length c) (heading-of forms limit tag c rest good below) (omega arith) (omega arith)
         (first-risen tag c rest prior risen) (rw (tagged-first tag c rest) built)
         ∙ rw (tagged-contents tag c rest, inner) (ap₂ Past (sym (length-tagged tag c)) (omega arith))
 
     pub reads-all :
-        (xs : Trees) → SoundAll forms xs → (set : Bool) (prior : List ℕ) → rises set prior xs ≡ true → (fuel base d n : ℕ) → 2 * length (encodedAll xs) + 2 ≤ fuel
+        (xs : Trees) → SoundAll forms xs → (set : Bool) (prior : List ℕ) → rises set prior xs ≡ true → (fuel base d n : ℕ) → 2 * length
+        (encodedAll xs) + 2 ≤ fuel
         → d + depthAll xs ≤ forms .depth + 1 → n + sizeAll xs ≤ forms .elements
         → listAt fuel forms set prior (encodedAll xs) base d n ≡ Passed (n + sizeAll xs)
     reads-all none sound set prior order zero base d n f deep many = absurd (omega arith)
@@ -64,6 +67,7 @@ module _ (forms : Forms) (limit : forms .lengthOctets ≤ 3) where
         let s : List ℕ = encoded x ++ encodedAll xs in
         let long : length s ≡ length (encoded x) + length (encodedAll xs) = length-append (encoded x) (encodedAll xs) in
         let first = reads x sound prior (encodedAll xs) (rises-first set prior x xs order) fuel base d n (omega arith) (omega arith) (omega arith) in
-        let others = reads-all xs rest set _ (rises-rest set prior x xs order) fuel (base + length (encoded x)) d (n + size x) (omega (arith, encoded-some x)) (omega arith) (omega arith) in
+        let others = reads-all xs rest set _ (rises-rest set prior x xs order) fuel (base + length (encoded x)) d (n + size x)
+        (omega (arith, encoded-some x)) (omega arith) (omega arith) in
         list-more forms fuel set prior s base d n (omega (arith, encoded-some x)) _ _ first
         ∙ rw (drop-append-seam, take-append-seam) (others ∙ ap Passed (omega arith))

@@ -20,8 +20,10 @@ cast-size c = omega (arith, c .shared-slice-known3 .given (c .before .before .be
 
 -- the members of a SET that its first one fills
 sole : (s : List ℕ) (from end left count r : ℕ) → end ≤ length s → end ≤ from + 127 → Alone s from end
-    → ((forms : Forms) → count + 64 ≤ forms .elements → left - 1 ≤ forms .depth → Fills forms false (stretch s from end) (forms .depth + 1 - (left - 1)) (count + 1) r)
-    → (forms : Forms) → count + 64 ≤ forms .elements → left - 1 ≤ forms .depth → Fills forms true (stretch s from end) (forms .depth + 1 - (left - 1)) (count + 1) r
+    → ((forms : Forms) → count + 64 ≤ forms .elements → left - 1 ≤ forms .depth → Fills forms false (stretch s from end)
+    (forms .depth + 1 - (left - 1)) (count + 1) r)
+    → (forms : Forms) → count + 64 ≤ forms .elements → left - 1 ≤ forms .depth → Fills forms true (stretch s from end) (forms .depth + 1 - (left - 1))
+    (count + 1) r
 sole s from end left count r inside near a f forms room levels =
     let long : length (stretch s from end) ≡ end - from = part-length s from end inside in
     let first : getD (stretch s from end) 1 0 ≡ getD s (from + 1) 0 = getD-part s from end 1 (omega (arith, a .two)) in

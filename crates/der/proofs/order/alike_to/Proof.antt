@@ -28,8 +28,9 @@ next a b i h g e f =
     (h, g, taken-more a b i 16 e (subst (λ n. alike (take n (drop i a)) (take n (drop i b)) ≡ true) span f))
 
 turned : (c : tie.Else1 Inv-loop μ-loop)
-    → let start = c .before .before .before .before .before in
-    let i = c .before .before .loop .i in
+    → let here = c .before .before in
+    let start = here .before .before .before in
+    let i = here .loop .i in
     alike (take (i + 16 - i) (drop i (start .args .a .now))) (take (i + 16 - i) (drop i (start .args .b .now))) ≡ true
     → Alike (start .args .a .now) (start .args .b .now) (i + 16)
 turned c = next _ _ _ (c .before .loop-test .taken) (c .if1 .left) (c .before .before .loop .inv .2)

@@ -73,18 +73,21 @@ within c = ended (from (named c) .args .digits) (from (named c) .args .wide) 0 (
 returns : tie.Need-returns
 returns c =
     let start = from (c .before .before) in
-    headless (start .args .digits) (start .args .wide) (start .args .most) (start .args .prior .now) (start .args .s .now) (start .args .left) (start .args .count)
+    headless (start .args .digits) (start .args .wide) (start .args .most) (start .args .prior .now) (start .args .s .now) (start .args .left)
+    (start .args .count)
     λ forms e w. sym (c .before .before .header .ensures forms e w) ∙ c .enum-told .given .1
 
 returns-2 : tie.Need-returns-2
 returns-2 c =
     let start = from (named (c .before)) in
-    deep (start .args .digits) (start .args .wide) (start .args .most) (start .args .prior .now) (start .args .s .now) (start .args .left) (start .args .count) (heads (c .before)) (c .if1 .taken)
+    deep (start .args .digits) (start .args .wide) (start .args .most) (start .args .prior .now) (start .args .s .now) (start .args .left)
+    (start .args .count) (heads (c .before)) (c .if1 .taken)
 
 returns-3 : tie.Need-returns-3
 returns-3 c =
     let start = from (named (c .before .before)) in
-    many (start .args .digits) (start .args .wide) (start .args .most) (start .args .prior .now) (start .args .s .now) (start .args .left) (start .args .count) (heads (c .before .before)) (c .before .if1 .left) (c .if2 .taken)
+    many (start .args .digits) (start .args .wide) (start .args .most) (start .args .prior .now) (start .args .s .now) (start .args .left)
+    (start .args .count) (heads (c .before .before)) (c .before .if1 .left) (c .if2 .taken)
 
 add-end : tie.Need-add-end
 add-end c = omega (arith, within (c .before .before))
@@ -96,7 +99,8 @@ returns-4 : tie.Need-returns-4
 returns-4 c =
     let tests = c .before .before in
     let start = from (named (tests .before .before)) in
-    judged (start .args .digits) (start .args .wide) (start .args .most) (start .args .prior .now) (start .args .s .now) (start .args .left) (start .args .count) (heads (tests .before .before)) (tests .before .if1 .left) (tests .if2 .left) (c .precedes .ensures)
+    judged (start .args .digits) (start .args .wide) (start .args .most) (start .args .prior .now) (start .args .s .now) (start .args .left)
+    (start .args .count) (heads (tests .before .before)) (tests .before .if1 .left) (tests .if2 .left) (c .precedes .ensures)
 
 pub out-of-order-spec : {M : Type 1} → statement M
 out-of-order-spec =

@@ -27,7 +27,8 @@ use Rattle.der.specs.Walk.{filled}
 use Rattle.der.specs.Fast.{stretch}
 use Rattle.der.specs.Falling.{Stands}
 use Rattle.der.proofs.Bounds.{heading-within}
-use Rattle.der.proofs.Enough.{ElementIs, ListIs, bad-is, deep-is, many-is, leaf-is, spoilt-is, node-is, ListLeft, left-first, left-none, left-fault, read-within, left-next}
+use Rattle.der.proofs.Enough.{ElementIs, ListIs, bad-is, deep-is, many-is, leaf-is, spoilt-is}
+use Rattle.der.proofs.Enough.{node-is, ListLeft, left-first, left-none, left-fault, read-within, left-next}
 use borrow.Fn.Kinds.{In}
 use borrow.Fn.PlainCycle.{Measures, is, falls, and}
 use Rattle.der.proofs.walking.element.Reads as element
@@ -91,7 +92,13 @@ module _ (digits : ℕ) (wide : Bool) (most : ℕ) (s : List ℕ) (base left cou
         unfolding isSet
         node {w} h f forms g =
             let deeper : level forms (left - 1) ≡ level forms left + 1 = omega (arith, g .levels) in
-            let below : Given digits wide most (left - 1) forms = record { octets = g .octets; tags = g .tags; limit = g .limit; levels = omega (arith, g .levels) } in
+            let below : Given digits wide most (left - 1) forms = record {
+              octets = g .octets;
+              tags = g .tags;
+              limit = g .limit;
+              levels = omega
+                  (arith, g .levels);
+            } in
             node-is forms s base (level forms left) count (e forms (g .octets) (g .tags)) (shallow forms) (omega (arith, g .limit)) refl h
             (subst (λ d. ListIs forms (eqb tag 49) (take (skip + size - skip) (drop skip s)) (base + skip) d (count + 1) w) deeper (f forms below))
 
@@ -108,11 +115,13 @@ module _ (digits : ℕ) (wide : Bool) (most : ℕ) (set : Bool) (s : List ℕ) (
         → ElementIs forms (handed set (stretch s prior at)) (stretch s at (length s)) (base + at) (level forms left) read r
 
     -- where that one is not in its way
-    next : {r : Read} → ((forms : Forms) → Given digits wide most left forms → Stands forms (handed set (stretch s prior at)) (stretch s at (length s)) (level forms left) read)
+    next : {r : Read} → ((forms : Forms) → Given digits wide most left forms → Stands forms (handed set (stretch s prior at))
+        (stretch s at (length s)) (level forms left) read)
         → Answer digits wide most (stretch s at (length s)) (base + at) left read r → Next r
     next stands answer forms g fuel enough = answer forms g fuel enough ∙ stands forms g (base + at) fuel
 
-    faulty : {refusal : Refusal} → Next (Fault refusal) → (forms : Forms) → Given digits wide most left forms → ListIs forms set s base (level forms left) count (Refused refusal)
+    faulty : {refusal : Refusal} → Next (Fault refusal) → (forms : Forms) → Given digits wide most left forms → ListIs forms set s base
+        (level forms left) count (Refused refusal)
     faulty answer forms g = left-fault forms set s base (level forms left) count prior at read (f forms g) more (answer forms g)
 
     past : (used n to : ℕ) → Next (Past used n) → to ≡ at + used → (at < to) × (to ≤ length s) × (n ≤ most) × Rest at to n
@@ -338,7 +347,8 @@ module _ (t : ℕ) where
   stops c answer =
       let start = started c in
       let here = c .before .loop in
-      whole c (faulty (start .args .digits) (start .args .wide) (start .args .most) false (start .args .s .now) (start .args .base) (start .args .left) (start .args .count)
+      whole c (faulty (start .args .digits) (start .args .wide) (start .args .most) false (start .args .s .now) (start .args .base)
+      (start .args .left) (start .args .count)
       0 (here .at) (here .read) (c .loop-test .taken) (here .inv .2) answer)
 
   -- an element that is read is left behind
@@ -346,14 +356,21 @@ module _ (t : ℕ) where
       → let start = started c in
       let here = c .before .loop in
       (here .at < to) × (to ≤ length (start .args .s .now)) × (n ≤ start .args .most)
-      × Rest (start .args .digits) (start .args .wide) (start .args .most) false (start .args .s .now) (start .args .base) (start .args .left) (start .args .count) 0 to n
+      × Rest (start .args .digits) (start .args .wide) (start .args .most) false (start .args .s .now) (start .args .base) (start .args .left)
+      (start .args .count) 0 to n
   unfolding handed
   goes-on c used n to answer e =
       let start = started c in
       let here = c .before .loop in
-      let (more, inside, few, rest) = past (start .args .digits) (start .args .wide) (start .args .most) false (start .args .s .now) (start .args .base) (start .args .left) (start .args .count)
-      0 (here .at) (here .read) (c .loop-test .taken) (here .inv .2) used n to answer e in
-      (more, inside, few, λ forms g. any-prior forms (start .args .s .now) (start .args .base) (level forms (start .args .left)) (start .args .count) (here .at) 0 to n (rest forms g))
+      let (more, inside, few, rest) = past (start .args .digits) (start .args .wide) (start .args .most) false (start .args .s .now)
+      (start .args .base) (start .args .left) (start .args .count)
+      0 (here .at) (here .read) (c .loop-test .taken) (here .inv .2) used n to answer e in (
+        more,
+        inside,
+        few,
+        λ forms g. any-prior forms (start .args .s .now) (start .args .base) (level forms (start .args .left)) (start .args .count)
+            (here .at) 0 to n (rest forms g),
+      )
 
   abbrev Fast : Type 0
   Fast = list-lts.Then2 (list-claims t) (list-at t) list.Post list-Inv-loop list-μ-loop
@@ -364,7 +381,8 @@ module _ (t : ℕ) where
       let here = turn .before .loop in
       let to = here .at + 2 + getD (start .args .s .now) (here .at + 1) 0 in
       (here .at < to) × (to ≤ length (start .args .s .now)) × (c .before .fast-path .result ≤ start .args .most)
-      × Rest (start .args .digits) (start .args .wide) (start .args .most) false (start .args .s .now) (start .args .base) (start .args .left) (start .args .count) 0 to (c .before .fast-path .result)
+      × Rest (start .args .digits) (start .args .wide) (start .args .most) false (start .args .s .now) (start .args .base) (start .args .left)
+      (start .args .count) 0 to (c .before .fast-path .result)
   fast c =
       let turn = c .before .before in
       let start = started turn in
@@ -390,7 +408,8 @@ module _ (t : ℕ) where
       let here = turn .before .loop in
       let to = here .at + c .used .given .0 .0 in
       (here .at < to) × (to ≤ length (start .args .s .now)) × (c .used .given .0 .1 .0 ≤ start .args .most)
-      × Rest (start .args .digits) (start .args .wide) (start .args .most) false (start .args .s .now) (start .args .base) (start .args .left) (start .args .count) 0 to (c .used .given .0 .1 .0)
+      × Rest (start .args .digits) (start .args .wide) (start .args .most) false (start .args .s .now) (start .args .base) (start .args .left)
+      (start .args .count) 0 to (c .used .given .0 .1 .0)
   slow c = goes-on (turned (c .before .before)) _ _ _ (answered (c .before .before) (c .used .given .1)) refl
 
   list-set-list-requires : list-lts.Need-set-list-requires (list-claims t) (list-at t) list.Post list-Inv-loop list-μ-loop
@@ -403,7 +422,8 @@ module _ (t : ℕ) where
   list-returns c = λ forms g.
       let start = c .before .before .before in
       let set : start .args .set ≡ true = c .before .if1 .taken in
-      subst (λ b. ListIs forms b (start .args .s .now) (start .args .base) (level forms (start .args .left)) (start .args .count) (c .set-list .result)) (sym set) (c .set-list .ensures forms g)
+      subst (λ b. ListIs forms b (start .args .s .now) (start .args .base) (level forms (start .args .left)) (start .args .count)
+      (c .set-list .result)) (sym set) (c .set-list .ensures forms g)
 
   list-loop-holds : list-lts.Need-loop-holds (list-claims t) (list-at t) list.Post list-Inv-loop list-μ-loop
   list-loop-holds c =
@@ -462,7 +482,8 @@ module _ (t : ℕ) where
       let start = c .before .before .before .before in
       let here = c .before .loop in
       let plain : start .args .set ≡ false = c .before .before .if1 .left in
-      subst (λ b. ListIs forms b (start .args .s .now) (start .args .base) (level forms (start .args .left)) (start .args .count) (Passed (here .read))) (sym plain)
+      subst (λ b. ListIs forms b (start .args .s .now) (start .args .base) (level forms (start .args .left)) (start .args .count)
+      (Passed (here .read))) (sym plain)
       (left-none forms false (start .args .s .now) (start .args .base) (level forms (start .args .left)) (start .args .count)
       0 (here .at) (here .read) (here .inv .2 forms g) (c .loop-test .left))
 
@@ -499,7 +520,8 @@ module _ (t : ℕ) where
   set-stops c =
       let start = set-started c in
       let here = c .before .loop in
-      faulty (start .args .digits) (start .args .wide) (start .args .most) true (start .args .s .now) (start .args .base) (start .args .left) (start .args .count)
+      faulty (start .args .digits) (start .args .wide) (start .args .most) true (start .args .s .now) (start .args .base) (start .args .left)
+      (start .args .count)
       (here .prior) (here .at) (here .read) (c .loop-test .taken) (here .inv .3)
 
   abbrev Standing : Type 0
@@ -532,7 +554,8 @@ module _ (t : ℕ) where
       let here = turn .before .loop in
       let to = here .at + c .used .given .0 .0 in
       (here .at < to) × (to ≤ length (start .args .s .now)) × (c .used .given .0 .1 .0 ≤ start .args .most)
-      × Rest (start .args .digits) (start .args .wide) (start .args .most) true (start .args .s .now) (start .args .base) (start .args .left) (start .args .count) (here .at) to (c .used .given .0 .1 .0)
+      × Rest (start .args .digits) (start .args .wide) (start .args .most) true (start .args .s .now) (start .args .base) (start .args .left)
+      (start .args .count) (here .at) to (c .used .given .0 .1 .0)
   set-slow c =
       let turn = standing (c .before .before) .before .before in
       let start = set-started turn in
