@@ -168,8 +168,13 @@ pub(crate) fn bit_string_good(contents: &[u8]) -> bool {
 }
 
 /// Whether one encoding is smaller than another, octet by octet, the shorter
-/// padded with zero octets.
-pub(crate) fn smaller(a: &[u8], b: &[u8]) -> bool {
+/// padded with zero octets. Most differ in their headers.
+fn smaller(a: &[u8], b: &[u8]) -> bool {
+    if let ([a0, a1, ..], [b0, b1, ..]) = (a, b) {
+        if (a0, a1) != (b0, b1) {
+            return (a0, a1) < (b0, b1);
+        }
+    }
     let common = a.len().min(b.len());
     match a[..common].cmp(&b[..common]) {
         Ordering::Less => true,
@@ -190,13 +195,13 @@ pub(crate) fn unsorted(contents: &[u8]) -> Option<&[u8]> {
 
 #[cold]
 fn descent(contents: &[u8]) -> Option<&[u8]> {
-    let (mut rest, mut last): (&[u8], &[u8]) = (contents, &[]);
+    let mut last = contents;
+    let mut rest = split(contents)?.after;
     while let Some(element) = split(rest) {
-        let member = &rest[..rest.len() - element.after.len()];
-        if smaller(member, last) {
+        if smaller(&rest[..rest.len() - element.after.len()], &last[..last.len() - rest.len()]) {
             return Some(rest);
         }
-        (rest, last) = (element.after, member);
+        (last, rest) = (rest, element.after);
     }
     None
 }
@@ -205,7 +210,10 @@ fn descent(contents: &[u8]) -> Option<&[u8]> {
 /// adding to `count`. Gives what stands after it, or the first fault, with
 /// offsets in `item`, of which `rest` is a part.
 pub(crate) fn tree<'a>(item: &'a [u8], rest: &'a [u8], depth: usize, count: &mut usize) -> Result<&'a [u8], Refusal> {
-    elements::<false>(item, rest, depth, count)
+    match elements::<false>(item, rest, depth, count) {
+        Err(Refusal::UNSORTED) => tree_unsorted(item, rest, depth, count),
+        read => read,
+    }
 }
 
 /// The same where a SET is out of order: the walk anew, up to the member that
@@ -215,15 +223,16 @@ fn tree_unsorted<'a>(item: &'a [u8], rest: &'a [u8], depth: usize, count: &mut u
     elements::<true>(item, rest, depth, count)
 }
 
+#[inline(always)]
 fn elements<'a, const UNSORTED: bool>(
     item: &'a [u8],
-    start: &'a [u8],
-    top: usize,
+    rest: &'a [u8],
+    depth: usize,
     count: &mut usize,
 ) -> Result<&'a [u8], Refusal> {
     // What stands after each open element.
     let mut open: [&[u8]; DEPTH_LIMIT + 1] = [&[]; DEPTH_LIMIT + 1];
-    let (mut rest, mut depth, mut read) = (start, top, *count);
+    let (mut rest, top, mut depth, mut read) = (rest, depth, depth, *count);
     // Where the first member out of order stands, of those in the SETs that
     // were opened: it is refused when the walk comes to it.
     let mut fallen = usize::MAX;
@@ -245,7 +254,7 @@ fn elements<'a, const UNSORTED: bool>(
             if id == SET {
                 if let Some(member) = unsorted(contents) {
                     if !UNSORTED {
-                        return tree_unsorted(item, start, top, count);
+                        return Err(Refusal::UNSORTED);
                     }
                     fallen = fallen.min(offset(item, member));
                 }

@@ -1,6 +1,6 @@
 //! Names and their country.
 
-use crate::der::{unsorted, PRINTABLE_STRING, SEQUENCE, SET};
+use crate::der::{split, unsorted, PRINTABLE_STRING, SEQUENCE, SET};
 use crate::reader::Reader;
 
 /// countryName, 2.5.4.6.
@@ -21,12 +21,10 @@ pub(crate) struct Name<'a> {
 #[inline]
 pub(crate) fn name<'a>(reader: &mut Reader<'a>) -> Option<Name<'a>> {
     let before = reader.rest();
-    let (mut countries, mut country) = (0, None);
+    let (mut countries, mut country, mut several) = (0, None, false);
     let outer = reader.enter(SEQUENCE)?;
     while !reader.at_end() {
         let in_name = reader.enter(SET)?;
-        let members = reader.rest();
-        let mut several = false;
         loop {
             // At least one: a SET that is empty has nothing to enter.
             let in_set = reader.enter(SEQUENCE)?;
@@ -42,14 +40,27 @@ pub(crate) fn name<'a>(reader: &mut Reader<'a>) -> Option<Name<'a>> {
             }
             several = true;
         }
-        if several && unsorted(members).is_some() {
-            return None;
-        }
         reader.leave(in_name)?;
     }
     reader.leave(outer)?;
-    let country = if countries == 1 { country } else { None };
-    Some(Name { whole: reader.since(before), country })
+    let (country, whole) = (if countries == 1 { country } else { None }, reader.since(before));
+    if several && out_of_order(whole) {
+        return None;
+    }
+    Some(Name { whole, country })
+}
+
+/// Whether a SET of a name is out of order.
+#[cold]
+fn out_of_order(name: &[u8]) -> bool {
+    let mut rest = split(name).map_or(&[][..], |name| name.contents);
+    while let Some(set) = split(rest) {
+        if unsorted(set.contents).is_some() {
+            return true;
+        }
+        rest = set.after;
+    }
+    false
 }
 
 /// The letters of a PrintableString of two letters A to Z.
