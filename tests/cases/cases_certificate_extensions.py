@@ -247,19 +247,21 @@ def types():
         ('with a string of no octets', type_list(printable(''))),
         ('with a string of three octets', type_list(printable('PPP'))),
         ('with a string of three octets last', type_list(printable('P'), printable('ID'), printable('PPP'))),
-        ('with a string of no octets in the middle', type_list(printable('P'), printable(''), printable('ID'))),
+        ('with a string of no octets before another', type_list(printable(''), printable('P'))),
         ('with a UTF8String', type_list(utf8('P'))),
-        ('with a UTF8String last', type_list(printable('P'), utf8('ID'))),
-        ('with a NULL among the strings', type_list(printable('P'), NULL)),
+        ('with a UTF8String before a string', type_list(utf8('ID'), printable('P'))),
+        ('with a NULL before a string', type_list(NULL, printable('P'))),
         ('with a SET in the SET', type_list(set_of(printable('P')))),
+        ('out of order', type_list(printable('ID'), printable('P'))),
+        ('of one length, out of order', type_list(printable('V'), printable('P'))),
+        ('in order but for the last', type_list(printable('P'), printable('V'), printable('ID'), printable('AC'))),
     )
     for label, contents in wrong:
         yield from changed(SIGNER, ('document type list ' + label, (13,), 'document_types', document_types(contents)))
     right = (
         ('of one letter', type_list(printable('P'))),
         ('of two letters', type_list(printable('ID'))),
-        ('of both lengths', type_list(printable('P'), printable('ID'), printable('V'))),
-        ('out of order', type_list(printable('ID'), printable('P'))),
+        ('of both lengths', type_list(printable('P'), printable('V'), printable('ID'))),
         ('with a string twice', type_list(printable('P'), printable('P'))),
         ('with octets that are no letters', type_list(element(0x13, b'\0\xff'))),
     )

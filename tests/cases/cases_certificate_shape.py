@@ -3,7 +3,7 @@ import crl_build
 from cases_certificate import NULL, breaks, rows, with_mended
 from certificate_build import (ANCHOR, KEY_USAGE, LINK, NO_MEANING, SIGNER, SIGNS_CERTIFICATES, algorithm, certificate,
                                extensions, issuer_name, public_key, signature, subject_name, times)
-from der_build import (COMMON_NAME, attribute, bit_string, boolean, common, context, extension, generalized,
+from der_build import (COMMON_NAME, as_set, attribute, bit_string, boolean, common, context, extension, generalized,
                        integer, octet_string, oid, printable, sequence, set_of, utc, utf8)
 from octets import element, octets
 from oracle_tree import tree
@@ -20,11 +20,12 @@ def outermost():
     good = certificate(SIGNER)
     body = tree(good).contents()
     for label, item in (
-            ('a SET around all', element(0x31, body)), ('a context element around all', element(0xa0, body)),
+            ('a SET around all', as_set(tree(good).parts())), ('a context element around all', element(0xa0, body)),
             ('one SEQUENCE more around all', sequence(good)), ('an empty SEQUENCE', sequence()),
             ('a NULL', NULL), ('an INTEGER', integer(5)), ('a primitive of the context class', element(0x80, body)),
             ('the tbs alone', sequence(sequence(tree(good).members[0].contents()))),
-            ('the tbs a SET', good[:4] + b'\x31' + good[5:]), ('the tbs an A0', good[:4] + b'\xa0' + good[5:]),
+            ('the tbs a SET', sequence(as_set(tree(good).members[0].parts()), *tree(good).parts()[1:])),
+            ('the tbs an A0', good[:4] + b'\xa0' + good[5:]),
             ('an empty tbs', sequence(sequence(), algorithm(), signature())), ('a CRL', crl_build.crl())):
         yield breaks((1,), label, SIGNER, item)
     yield from shapes(
@@ -58,7 +59,7 @@ def first_parts():
 def middle_parts():
     yield from shapes(
         SIGNER, ('no issuer', {'issuer': b''}),
-        ('the issuer a SET', {'issuer': element(0x31, tree(issuer_name()).contents())}),
+        ('the issuer a SET', {'issuer': as_set(tree(issuer_name()).parts())}),
         ('no times', {'times': b''}), ('an empty SEQUENCE of times', {'times': sequence()}),
         ('one time', {'times': sequence(START)}),
         ('three times', {'times': sequence(START, END, END)}), ('times in a SET', {'times': set_of(START, END)}),
@@ -68,7 +69,7 @@ def middle_parts():
         ('the end an INTEGER', {'times': times(START, integer(341231235959))}),
         ('times without their SEQUENCE', {'times': START + END}),
         ('no subject', {'subject': b''}),
-        ('the subject a SET', {'subject': element(0x31, tree(subject_name(SIGNER)).contents())}),
+        ('the subject a SET', {'subject': as_set(tree(subject_name(SIGNER)).parts())}),
         ('the subject in an A4', {'subject': context(4, subject_name(SIGNER))}),
         ('no key', {'key': b''}), ('the key a BIT STRING', {'key': bit_string(b'\4')}),
         ('the key a SET', {'key': set_of()}),
@@ -99,7 +100,7 @@ def block():
     yield from shapes(
         SIGNER, ('no block of extensions', {'block': b''}), ('an A3 with nothing in it', {'block': context(3)}),
         ('an A3 with two lists', {'block': context(3, sequence(*good), sequence())}),
-        ('an A3 with a SET of extensions', {'block': context(3, set_of(*good))}),
+        ('an A3 with a SET of extensions', {'block': context(3, as_set(good))}),
         ('an A3 with the extensions themselves', {'block': context(3, *good)}),
         ('an A3 with a NULL after the list', {'block': context(3, sequence(*good), NULL)}),
         ('an 83 in place of A3', {'block': element(0x83, sequence(*good))}),
@@ -125,7 +126,7 @@ def one_extension():
         ('with a NULL at the end', sequence(number, value, NULL)),
         ('with two values', sequence(number, value, value)),
         ('with two OBJECT IDENTIFIERs', sequence(number, number, value)),
-        ('that is a SET', set_of(number, value)), ('that is an OBJECT IDENTIFIER', number), ('that is a NULL', NULL),
+        ('that is a SET', as_set([number, value])), ('that is an OBJECT IDENTIFIER', number), ('that is a NULL', NULL),
         ('with a BIT STRING', sequence(number, bit_string(b''))),
         ('with a SEQUENCE for its value', sequence(number, sequence())),
         ('with an INTEGER for TRUE', sequence(number, integer(-1), value)),
@@ -158,12 +159,12 @@ def names():
         ('an attribute of three members', set_of(sequence(number, value, value))),
         ('an attribute with its value first', set_of(sequence(value, number))),
         ('an attribute without SEQUENCE', set_of(number, value)),
-        ('a NULL beside an attribute', set_of(common('x'), NULL)),
+        ('an A0 beside an attribute', set_of(common('x'), context(0))),
         ('a NULL before an attribute', set_of(NULL, common('x'))),
         ('an attribute named by an OCTET STRING', set_of(sequence(octet_string(b'\x55'), value))))
     right = (
         ('an attribute more', set_of(common('x'))), ('two attributes in a SET', set_of(common('x'), common('y'))),
-        ('two attributes in a SET, out of order', set_of(common('y'), common('x'))),
+        ('an attribute twice in a SET', set_of(common('x'), common('x'))),
         ('a SEQUENCE for a value', set_of(attribute(COMMON_NAME, sequence()))),
         ('an ENUMERATED for a value', set_of(attribute(COMMON_NAME, octets('0A 01 05')))),
         ('a NULL for a value', set_of(attribute(COMMON_NAME, NULL))), ('a value of no octets', set_of(common(''))),

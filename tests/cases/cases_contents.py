@@ -41,8 +41,6 @@ def free_contents():
     )
     for name, text in others:
         yield walk('free contents: ' + name, octets(text), PASSED % 1)
-    yield walk('a SET out of order', octets('31 06 02 01 05 01 01 FF'), PASSED % 3)
-    yield walk('a SET with a member twice', octets('31 04 05 00 05 00'), PASSED % 3)
     yield walk('a context element is walked inside', octets('A0 03 01 01 FF'), PASSED % 2)
     yield walk('a fault inside a context element', element(0xa0, BAD), AT % 2)
     yield walk('a fault inside an application element', element(0x61, NULL, BAD), AT % 4)

@@ -5,7 +5,7 @@ from cases_certificate import NULL, octets_of
 from certificate_build import (NO_MEANING, algorithm, authority_key, certificate, issuer_name, signature)
 from crl_build import (CERTIFICATE_ISSUER, FIRST, INVALIDITY, NUMBER, SECOND, crl, entries, entry, extensions, number,
                        reason)
-from der_build import (COUNTRY, attribute, boolean, common, context, country, extension, generalized, integer, name,
+from der_build import (COUNTRY, as_set, attribute, boolean, common, context, country, extension, generalized, integer, name,
                        octet_string, oid, printable, sequence, set_of, utc, utf8)
 from octets import element, nested, octets
 from oracle_der import walk
@@ -110,12 +110,11 @@ def limits():
 
 def outermost():
     item = crl()
-    body = tree(item).contents()
     for label, odd in (
-            ('a SET around all', element(0x31, body)), ('one SEQUENCE more around all', sequence(item)),
+            ('a SET around all', as_set(tree(item).parts())), ('one SEQUENCE more around all', sequence(item)),
             ('an empty SEQUENCE', sequence()), ('a NULL', NULL), ('a good signer', certificate(3)),
             ('a good anchor', certificate(1)),
-            ('the tbs a SET', item[:4] + b'\x31' + item[5:]),
+            ('the tbs a SET', sequence(as_set(tree(item).members[0].parts()), *tree(item).parts()[1:])),
             ('an empty tbs', sequence(sequence(), algorithm(), signature()))):
         yield judged(label, (1,), odd)
     short = {'issuer': name(country('UT'))}
@@ -133,7 +132,7 @@ def outermost():
         ('no inner algorithm', {'algorithm': b''}),
         ('the inner algorithm a SET', {'algorithm': set_of()}),
         ('no issuer', {'issuer': b''}),
-        ('the issuer a SET', {'issuer': element(0x31, tree(issuer_name()).contents())}),
+        ('the issuer a SET', {'issuer': as_set(tree(issuer_name()).parts())}),
         ('no times', {'this': b'', 'next': b''}),
         ('no next update', {'next': b''}),
         ('no next update and no entries', {'next': b'', 'entries': b''}, {'entries': b''}),
@@ -149,7 +148,7 @@ def outermost():
         ('neither entries nor block', {'entries': b'', 'block': b''}, {'entries': b''}),
         ('an A0 with nothing in it', {'block': context(0)}),
         ('an A0 with two lists', {'block': context(0, sequence(*extensions()), sequence())}),
-        ('an A0 with a SET of extensions', {'block': context(0, set_of(*extensions()))}),
+        ('an A0 with a SET of extensions', {'block': context(0, as_set(extensions()))}),
         ('an A0 with the extensions themselves', {'block': context(0, *extensions())}),
         ('an A3 in place of A0', {'block': context(3, sequence(*extensions()))}),
         ('an 80 in place of A0', {'block': element(0x80, sequence(*extensions()))}),
@@ -243,7 +242,7 @@ def parts():
         ('no country', (4,), {'issuer': name(cn)}),
         ('the country alone', (), {'issuer': name(ut)}),
         ('the country last', (), {'issuer': name(cn, ut)}),
-        ('the country second in a SET', (), {'issuer': sequence(set_of(cn, ut))}),
+        ('the country second in a SET', (), {'issuer': sequence(set_of(common('C'), ut))}),
         ('the country twice in a SET', (4,), {'issuer': sequence(set_of(ut, ut))}),
         ('the country twice over SETs', (4,), {'issuer': name(ut, cn, ut)}),
         ('the country twice, the second a UTF8String', (4,), {'issuer': name(ut, attribute(COUNTRY, utf8('UT')))}),

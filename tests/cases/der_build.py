@@ -12,6 +12,11 @@ def set_of(*members):
     return element(0x31, *members)
 
 
+def as_set(members):
+    """A SET of those members, in ascending order."""
+    return set_of(*sorted(members))
+
+
 def context(number, *members):
     """A constructed element of the context class."""
     return element(0xa0 + number, *members)

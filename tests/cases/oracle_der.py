@@ -1,6 +1,6 @@
 """Bytes as DER, written from the rules paper alone: the walk, INTEGER, one step through members.
 
-The walk goes forward over the octets with the ends of the open elements on a stack. It keeps each rule in the form that
+The walk goes forward over the octets with the open elements on a stack. It keeps each rule in the form that
 is plainest here: a minimal INTEGER is one that its number would be written as, an OBJECT IDENTIFIER is a pattern.
 """
 import re
@@ -70,24 +70,42 @@ def good_contents(identifier, contents):
     return True
 
 
+def smaller(one, other):
+    """Whether an encoding is below another, the shorter padded with zero octets."""
+    long = max(len(one), len(other))
+    return one.ljust(long, b'\0') < other.ljust(long, b'\0')
+
+
+class Open:
+    """An element whose members are read: its end, and of a SET the members so far."""
+    def __init__(self, end, of_set):
+        self.end, self.of_set, self.members = end, of_set, []
+
+    def ascends_to(self, member):
+        self.members.append(member)
+        return not self.of_set or len(self.members) < 2 or not smaller(member, self.members[-2])
+
+
 def walk(item):
     """The number of elements, or the first fault that the walk meets."""
     if len(item) > LONGEST_ITEM:
         raise Refused(3)
-    at, count, ends = 0, 0, []
-    while count == 0 or ends:
-        if ends and at == ends[-1]:
-            ends.pop()
+    at, count, holders = 0, 0, []
+    while count == 0 or holders:
+        if holders and at == holders[-1].end:
+            holders.pop()
             continue
-        found = heading(item, at, ends[-1] if ends else len(item))
+        found = heading(item, at, holders[-1].end if holders else len(item))
         if found is None:
             raise Refused(2, at)
-        if len(ends) + 1 > DEEPEST or count + 1 > MOST_ELEMENTS:
+        if len(holders) + 1 > DEEPEST or count + 1 > MOST_ELEMENTS:
             raise Refused(3, at)
         identifier, start, end = found
+        if holders and not holders[-1].ascends_to(item[at:end]):
+            raise Refused(2, at)
         count += 1
         if identifier & 0x20:
-            ends.append(end)
+            holders.append(Open(end, identifier & 0x1f == SET and identifier < 0x40))
             at = start
         elif good_contents(identifier, item[start:end]):
             at = end

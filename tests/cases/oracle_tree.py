@@ -19,6 +19,9 @@ class Element:
     def whole(self):
         return self.item[self.at:self.end]
 
+    def parts(self):
+        return [member.whole() for member in self.members]
+
     def contents(self):
         return self.item[self.start:self.end]
 

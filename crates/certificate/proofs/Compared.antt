@@ -9,6 +9,7 @@ use Rattle.der.specs.Contents.{booleanGood, integerGood, bitStringGood, content
 use Rattle.der.specs.Forms.{paper}
 use Rattle.der.specs.Heading.{constructed, identifierGood, within, smallest, long, sized, headingOf}
 use Rattle.octets.specs.Octets.{number}
+use Rattle.der.specs.Order.{smaller, isSet, handed}
 use Rattle.der.specs.Walk.{opened, filled, after, elementAt, listAt, whole, walkOf}
 use Rattle.elements.specs.declared.elements.Element.{Element}
 use Rattle.elements.specs.Elements.{contentsOf}
@@ -19,7 +20,7 @@ use Rattle.certificate.specs.Rules.{usageOf, signingOnce, criticalWith}
 
 -- 03 02 07 80 and 03 02 01 06 are one element, 30 06 01 01 FF 02 01 00 is three.
 pub usage-walks : (role : ℕ) → walkOf paper (usageOf role) ≡ Passed 1
-unfolding usageOf walkOf whole elementAt listAt opened filled after headingOf sized long within smallest identifierGood constructed contentsGood bitStringGood number
+unfolding usageOf smaller isSet handed walkOf whole elementAt listAt opened filled after headingOf sized long within smallest identifierGood constructed contentsGood bitStringGood number
 usage-walks role = go (eqb role 3)
   where
     go : (b : Bool) → walkOf paper (cond b (0x03 ∷ 0x02 ∷ 0x07 ∷ 0x80 ∷ []) (0x03 ∷ 0x02 ∷ 0x01 ∷ 0x06 ∷ [])) ≡ Passed 1
@@ -27,7 +28,7 @@ usage-walks role = go (eqb role 3)
     go false = refl
 
 pub constraints-walk : walkOf paper signingOnce ≡ Passed 3
-unfolding walkOf whole elementAt listAt opened filled after headingOf sized long within smallest identifierGood constructed contentsGood booleanGood integerGood bitStringGood number
+unfolding smaller isSet handed walkOf whole elementAt listAt opened filled after headingOf sized long within smallest identifierGood constructed contentsGood booleanGood integerGood bitStringGood number
 constraints-walk = refl
 
 compared :

@@ -1,7 +1,7 @@
 -- The walk refuses by a DER rule or by a limit, and never by a rule of the profile.
 use Prim.Native.Nat.{ℕ, zero, suc, _+_, _*_}
-use mathlib.Core.Bool.{cond}
-use mathlib.Core.List.{List}
+use mathlib.Core.Bool.{Bool, cond}
+use mathlib.Core.List.{List, []}
 use mathlib.Core.Path.{_≡_, refl, subst}
 use native.Mathlib.Omega.{arith}
 use lib.Dec.{leb, ltb, eqb}
@@ -17,6 +17,7 @@ use Rattle.der.specs.declared.walking.Walked.the-variants.{Passed, Refus
 use Rattle.der.specs.Forms.{Forms}
 use Rattle.der.specs.Heading.{headingOf, constructed}
 use Rattle.der.specs.Contents.{contentsGood}
+use Rattle.der.specs.Order.{smaller, isSet, handed}
 use Rattle.der.specs.Walk.{opened, filled, after, elementAt, listAt, whole, walkOf}
 use Rattle.der.proofs.Bounds.{cond-by}
 
@@ -41,44 +42,48 @@ module _ (forms : Forms) where
   -- what the fuel below keeps, the next one keeps
   abbrev Keeps : ℕ → Type 0
   Keeps fuel =
-      ((s : List ℕ) (base depth count : ℕ) → ReadFaulty (elementAt fuel forms s base depth count))
-      × ((s : List ℕ) (base depth count : ℕ) → WalkFaulty (listAt fuel forms s base depth count))
+      ((prior s : List ℕ) (base depth count : ℕ) → ReadFaulty (elementAt fuel forms prior s base depth count))
+      × ((set : Bool) (prior s : List ℕ) (base depth count : ℕ) → WalkFaulty (listAt fuel forms set prior s base depth count))
 
-  element-faulty : (fuel : ℕ) → Keeps fuel → (s : List ℕ) (base depth count : ℕ) → ReadFaulty (elementAt (suc fuel) forms s base depth count)
+  element-faulty : (fuel : ℕ) → Keeps fuel → (prior s : List ℕ) (base depth count : ℕ) → ReadFaulty (elementAt (suc fuel) forms prior s base depth count)
   unfolding elementAt opened
-  element-faulty fuel below s base depth count = go (headingOf forms s)
+  element-faulty fuel below prior s base depth count = go (headingOf forms s)
     where
       go : (h : Heading) → ReadFaulty (opened h (Fault (Der base)) λ tag skip size.
           cond (ltb (forms .depth) depth) (Fault (Limit base))
           (cond (leb (forms .elements) count) (Fault (Limit base))
+          (cond (smaller (take (skip + size) s) prior) (Fault (Der base))
           (cond (constructed (getD s 0 0))
-          (filled (skip + size) (listAt fuel forms (take size (drop skip s)) (base + skip) (depth + 1) (count + 1)))
-          (cond (contentsGood tag (take size (drop skip s))) (Past (skip + size) (count + 1)) (Fault (Der base))))))
+          (filled (skip + size) (listAt fuel forms (isSet tag) [] (take size (drop skip s)) (base + skip) (depth + 1) (count + 1)))
+          (cond (contentsGood tag (take size (drop skip s))) (Past (skip + size) (count + 1)) (Fault (Der base)))))))
       go Bad = fault-by by-der
       go (Header tag skip size) =
           cond-by ReadFaulty (ltb (forms .depth) depth) (λ e. fault-by by-limit)
           (λ e. cond-by ReadFaulty (leb (forms .elements) count) (λ e. fault-by by-limit)
+          (λ e. cond-by ReadFaulty (smaller (take (skip + size) s) prior) (λ e. fault-by by-der)
           (λ e. cond-by ReadFaulty (constructed (getD s 0 0))
-          (λ e. filled-faulty (skip + size) (listAt fuel forms (take size (drop skip s)) (base + skip) (depth + 1) (count + 1)) (below .1 (take size (drop skip s)) (base + skip) (depth + 1) (count + 1)))
-          (λ e. cond-by ReadFaulty (contentsGood tag (take size (drop skip s))) (λ e. past-no) (λ e. fault-by by-der))))
+          (λ e. filled-faulty (skip + size) _ (below .1 (isSet tag) [] (take size (drop skip s)) (base + skip) (depth + 1) (count + 1)))
+          (λ e. cond-by ReadFaulty (contentsGood tag (take size (drop skip s))) (λ e. past-no) (λ e. fault-by by-der)))))
 
-  list-faulty : (fuel : ℕ) → Keeps fuel → (s : List ℕ) (base depth count : ℕ) → WalkFaulty (listAt (suc fuel) forms s base depth count)
+  list-faulty : (fuel : ℕ) → Keeps fuel → (set : Bool) (prior s : List ℕ) (base depth count : ℕ) → WalkFaulty
+      (listAt (suc fuel) forms set prior s base depth count)
   unfolding listAt after
-  list-faulty fuel below s base depth count =
-      cond-by WalkFaulty (eqb (length s) 0) (λ e. passed-no) (λ e. go (elementAt fuel forms s base depth count) (below .0 s base depth count))
+  list-faulty fuel below set prior s base depth count =
+      cond-by WalkFaulty (eqb (length s) 0) (λ e. passed-no) (λ e. go (elementAt fuel forms prior s base depth count) (below .0 prior s base depth count))
     where
-      go : (r : Read) → ReadFaulty r → WalkFaulty (after r λ used n. listAt fuel forms (drop used s) (base + used) depth n)
-      go (Past used n) h = below .1 (drop used s) (base + used) depth n
+      go : (r : Read) → ReadFaulty r → WalkFaulty (after r λ used n. listAt fuel forms set (handed set (take used s)) (drop used s) (base + used) depth n)
+      go (Past used n) h = below .1 set (handed set (take used s)) (drop used s) (base + used) depth n
       go (Fault refusal) (fault-by h) = refused-by h
 
   keeps : (fuel : ℕ) → Keeps fuel
   unfolding elementAt listAt
-  keeps zero = (λ s base depth count. fault-by by-der, λ s base depth count. refused-by by-der)
+  keeps zero = (λ prior s base depth count. fault-by by-der, λ set prior s base depth count. refused-by by-der)
   keeps (suc fuel) = (element-faulty fuel (keeps fuel), list-faulty fuel (keeps fuel))
 
   walk-faulty : (s : List ℕ) → WalkFaulty (walkOf forms s)
   unfolding walkOf whole
-  walk-faulty s = cond-by WalkFaulty (ltb (forms .itemSize) (length s)) (λ e. refused-by by-limit) (λ e. go (elementAt (2 * length s + 2) forms s 0 1 0) (keeps (2 * length s + 2) .0 s 0 1 0))
+  walk-faulty s = cond-by WalkFaulty (ltb (forms .itemSize) (length s)) (λ e. refused-by by-limit)
+      (λ e. go (elementAt (2 * length s + 2) forms [] s 0 1 0) (keeps (2 * length s + 2) .0 [] s 0 1 0))
     where
       go : (r : Read) → ReadFaulty r → WalkFaulty (whole (length s) r)
       go (Fault refusal) (fault-by h) = refused-by h

@@ -1,25 +1,28 @@
 -- Elements with a length in the short form: leaves, lists of them, and the element that such a list fills.
-use Prim.Native.Nat.{ℕ, _+_, _-_, _*_, _/_, _≤_, _<_}
+use Prim.Native.Nat.{ℕ, zero, suc, _+_, _-_, _*_, _≤_, _<_}
 use mathlib.Core.Path.{_≡_, refl, sym, subst, _∙_}
-use mathlib.Core.Bool.{true, false}
-use mathlib.Core.List.{List}
-use mathlib.Core.Logic.{_⊎_, inl, inr}
+use mathlib.Core.Bool.{Bool, true, false}
+use mathlib.Core.List.{List, []}
 use native.Mathlib.Omega.{arith}
-use native.Mathlib.Nat.{eq-or-lt-of-le}
-use borrow.Author.Tests.{eq-eqb}
-use lib.ListN.{length, getD, take, drop}
+use borrow.Author.Tests.{eq-eqb, le-ltb}
+use lib.ListN.{length, getD, take, drop, length-drop}
 use lib.Seq.{getD-take, getD-drop}
-use Rattle.der.specs.declared.heading.Heading.the-variants.{Header}
-use Rattle.der.specs.declared.walking.Walked.the-variants.{Passed}
+use Rattle.refusal.specs.declared.Refusal.{Refusal}
+use Rattle.refusal.specs.declared.Refusal.the-variants.{Der}
+use Rattle.der.specs.declared.heading.Heading.the-variants.{Header, Bad}
+use Rattle.der.specs.declared.walking.Read.{Read}
+use Rattle.der.specs.declared.walking.Read.the-variants.{Past, Fault}
+use Rattle.der.specs.declared.walking.Walked.the-variants.{Passed, Refused}
 use Rattle.der.specs.Forms.{Forms}
-use Rattle.der.specs.Heading.{identifierGood, headingOf, constructed}
+use Rattle.der.specs.Heading.{identifierGood, wideHeading, headingOf, constructed}
 use Rattle.der.specs.Contents.{booleanGood, integerGood, bitStringGood, oidGood, contentsGood}
-use Rattle.der.specs.Fast.{stretch, Reads, Fills, Unjudged, Leaf}
-use Rattle.der.specs.Walk.{filled}
-use Rattle.der.proofs.Laws.{short-header}
-use Rattle.der.proofs.Bounds.{element-within}
+use Rattle.der.specs.Order.{isSet, handed}
+use Rattle.der.specs.Fast.{stretch, Reads, Fills, Last, Unjudged, Leaf}
+use Rattle.der.specs.Walk.{filled, elementAt, listAt}
+use Rattle.der.proofs.Laws.{short-header, element-bad, list-done, list-more, list-fault}
+use Rattle.der.proofs.Bounds.{element-within, element-takes}
 use Rattle.der.proofs.Enough.{ListIs, leaf-is, node-is}
-use Rattle.der.proofs.Parts.{part-length, part-drop, part-inner, passes-none, passes-more}
+use Rattle.der.proofs.Parts.{part-length, part-drop, part-inner, passes-none, passes-more, passes-one}
 
 module _ {tag : ℕ} {c : List ℕ} where
   pub leaf-boolean : tag ≡ 1 → booleanGood c ≡ true → Leaf tag c
@@ -45,8 +48,56 @@ module _ {tag : ℕ} {c : List ℕ} where
   unfolding identifierGood constructed contentsGood
   leaf-oid e g = rw e (record { known = refl; primitive = refl; good = g })
 
-getD-part : (s : List ℕ) (i e k : ℕ) → i + k < e → getD (stretch s i e) k 0 ≡ getD s (i + k) 0
+pub getD-part : (s : List ℕ) (i e k : ℕ) → i + k < e → getD (stretch s i e) k 0 ≡ getD s (i + k) 0
 getD-part s i e k h = getD-take (e - i) (drop i s) k 0 (omega arith) ∙ getD-drop i s k 0
+
+-- the forms without tags of two octets
+abbrev pub narrow : Forms → Forms
+narrow forms = record {
+  itemSize = forms .itemSize;
+  depth = forms .depth;
+  elements = forms .elements;
+  lengthOctets = forms .lengthOctets;
+  wideTags = false;
+}
+
+passed-not : {m : ℕ} {refusal : Refusal} → Passed m ≡ Refused refusal → ⊥
+passed-not e = let w : _≡_ {A = ℕ} 0 1 = cc in omega arith
+
+module _ (s : List ℕ) (two : 2 ≤ length s) (short : getD s 1 0 < 128) (all : 2 + getD s 1 0 ≡ length s) where
+  -- a list that is read without tags of two octets starts with a tag of one
+  first-known : (forms : Forms) (depth count m : ℕ) → Fills (narrow forms) false s depth count m → identifierGood (getD s 0 0) ≡ true
+  unfolding headingOf wideHeading
+  first-known forms depth count m f = go (identifierGood (getD s 0 0)) refl
+    where
+      go : (b : Bool) → identifierGood (getD s 0 0) ≡ b → b ≡ true
+      go true e = refl
+      go false e =
+          let bad : headingOf (narrow forms) s ≡ Bad = simp (le-ltb _ _ two, e) in
+          absurd (passed-not (f 0 (suc (suc (2 * length s))) (omega arith)
+          ∙ list-fault (narrow forms) (suc (2 * length s)) false [] s 0 depth count (λ z. omega arith) (Der 0)
+          (element-bad (narrow forms) (2 * length s) [] s 0 depth count bad)))
+
+  -- its first element fills it, so it is the only one, and the members of a SET may be read so
+  pub alone-fills : (forms : Forms) (depth count m : ℕ) → Fills (narrow forms) false s depth count m → Fills forms false s depth count m
+      → Fills forms true s depth count m
+  alone-fills forms depth count m f g base zero enough = absurd (omega arith)
+  alone-fills forms depth count m f g base (suc zero) enough = absurd (omega arith)
+  alone-fills forms depth count m f g base (suc (suc fuel)) enough = go (elementAt (suc fuel) forms [] s base depth count) refl
+    where
+      heads : headingOf forms s ≡ Header (getD s 0 0) 2 (getD s 1 0)
+      heads = short-header forms s two (first-known forms depth count m f) short (omega arith)
+
+      go : (r : Read) → elementAt (suc fuel) forms [] s base depth count ≡ r → Passed m ≡ listAt (suc (suc fuel)) forms true [] s base depth count
+      go (Fault refusal) e =
+          absurd (passed-not (g base (suc (suc fuel)) enough ∙ list-fault forms (suc fuel) false [] s base depth count (λ z. omega arith) refusal e))
+      go (Past used n) e =
+          let takes : used ≡ 2 + getD s 1 0 = element-takes forms (suc fuel) [] s base depth count (getD s 0 0) 2 (getD s 1 0) heads used n e in
+          let none : length (drop used s) ≡ 0 = omega (arith, length-drop used s) in
+          let ends : (set : Bool) → listAt (suc (suc fuel)) forms set [] s base depth count ≡ Passed n = λ set.
+          list-more forms (suc fuel) set [] s base depth count (λ z. omega arith) used n e
+          ∙ list-done forms fuel set (handed set (take used s)) (drop used s) (base + used) depth n none in
+          g base (suc (suc fuel)) enough ∙ ends false ∙ sym (ends true)
 
 module _ (forms : Forms) (s : List ℕ) (i e : ℕ) (two : i + 2 ≤ e) (inside : e ≤ length s) where
   long : length (stretch s i e) ≡ e - i
@@ -55,53 +106,75 @@ module _ (forms : Forms) (s : List ℕ) (i e : ℕ) (two : i + 2 ≤ e) (inside 
   front : getD (stretch s i e) 0 0 ≡ getD s i 0
   front = let z : i + 0 ≡ i = omega arith in getD-part s i e 0 (omega arith) ∙ rw z refl
 
-  module _ {after : ℕ} (ends : after ≡ i + 2 + getD s (i + 1) 0) (fits : after ≤ e) (short : getD s (i + 1) 0 < 128) (known : identifierGood (getD s i 0) ≡ true) where
+  module _ {after : ℕ} (ends : after ≡ i + 2 + getD s (i + 1) 0) (fits : after ≤ e) (short : getD s (i + 1) 0 < 128)
+      (known : identifierGood (getD s i 0) ≡ true) where
     heads : headingOf forms (stretch s i e) ≡ Header (getD s i 0) 2 (getD s (i + 1) 0)
     heads =
         let size : getD (stretch s i e) 1 0 ≡ getD s (i + 1) 0 = getD-part s i e 1 (omega arith) in
-        subst (λ n. headingOf forms (stretch s i e) ≡ Header n 2 (getD s (i + 1) 0)) front (subst (λ n. headingOf forms (stretch s i e) ≡ Header (getD (stretch s i e) 0 0) 2 n) size (short-header forms (stretch s i e) (omega (arith, long)) (rw front known) (rw size short) (rw size (omega (arith, long)))))
+        subst (λ n. headingOf forms (stretch s i e) ≡ Header n 2 (getD s (i + 1) 0)) front
+        (subst (λ n. headingOf forms (stretch s i e) ≡ Header (getD (stretch s i e) 0 0) 2 n) size
+        (short-header forms (stretch s i e) (omega (arith, long)) (rw front known) (rw size short) (rw size (omega (arith, long)))))
 
     same : stretch s (i + 2) after ≡ take (2 + getD s (i + 1) 0 - 2) (drop 2 (stretch s i e))
     same = part-inner s i 2 (getD s (i + 1) 0) e refl ends fits
 
     module _ (depth count : ℕ) (shallow : depth ≤ forms .depth) (few : count < forms .elements) where
-      pub leaf-reads : constructed (getD s i 0) ≡ false → contentsGood (getD s i 0) (stretch s (i + 2) after) ≡ true → Reads forms (stretch s i e) depth count (after - i) (count + 1)
+      pub leaf-reads : constructed (getD s i 0) ≡ false → contentsGood (getD s i 0) (stretch s (i + 2) after) ≡ true → Reads forms
+          (stretch s i e) depth count (after - i) (count + 1)
       leaf-reads primitive good base =
           let used : after - i ≡ 2 + getD s (i + 1) 0 = omega arith in
-          rw used (leaf-is forms (stretch s i e) base depth count heads shallow few (rw front primitive) (subst (λ (l : List ℕ). contentsGood (getD s i 0) l ≡ true) same good))
+          rw used (leaf-is forms (stretch s i e) base depth count heads shallow few (rw front primitive)
+          (subst (λ (l : List ℕ). contentsGood (getD s i 0) l ≡ true) same good))
 
-      pub node-reads : {m : ℕ} → constructed (getD s i 0) ≡ true → Fills forms (stretch s (i + 2) after) (depth + 1) (count + 1) m → Reads forms (stretch s i e) depth count (2 + getD s (i + 1) 0) m
+      pub node-reads : {set : Bool} {m : ℕ} → isSet (getD s i 0) ≡ set → constructed (getD s i 0) ≡ true
+          → Fills forms set (stretch s (i + 2) after) (depth + 1) (count + 1) m → Reads forms (stretch s i e) depth count (2 + getD s (i + 1) 0) m
       unfolding filled
-      node-reads {m} node f base = node-is forms (stretch s i e) base depth count heads shallow few (rw front node) (subst (λ (l : List ℕ). ListIs forms l (base + 2) (depth + 1) (count + 1) (Passed m)) same (f (base + 2)))
+      node-reads {set} {m} kind node f base =
+          node-is forms (stretch s i e) base depth count heads shallow few kind (rw front node)
+          (subst (λ (l : List ℕ). ListIs forms set l (base + 2) (depth + 1) (count + 1) (Passed m)) same (f (base + 2)))
 
   -- one element more
-  pub reads-on : (depth count r m n : ℕ) → Reads forms (stretch s i e) depth count (r - i) m → Fills forms (stretch s r e) depth m n → Fills forms (stretch s i e) depth count n
+  pub reads-on : (depth count r m n : ℕ) → Reads forms (stretch s i e) depth count (r - i) m → Fills forms false (stretch s r e) depth m n
+      → Fills forms false (stretch s i e) depth count n
   reads-on depth count r m n f g =
-      let w : (2 ≤ r - i) × (r - i ≤ length (stretch s i e)) × (m ≤ forms .elements) = element-within forms (2 * length (stretch s i e) + 1) (stretch s i e) 0 depth count (r - i) m (sym (f 0 (2 * length (stretch s i e) + 1) (omega arith))) in
+      let enough = 2 * length (stretch s i e) + 1 in
+      let w : (2 ≤ r - i) × (r - i ≤ length (stretch s i e)) × (m ≤ forms .elements) =
+      element-within forms enough [] (stretch s i e) 0 depth count (r - i) m (sym (f 0 enough (omega arith))) in
       let on : i + (r - i) ≡ r = omega (arith, w) in
       passes-more forms (stretch s i e) depth count f (omega (arith, long)) (w .0) (w .1) (rw (part-drop s i (r - i) e, on) g)
 
-pub fills-none : (forms : Forms) (s : List ℕ) (e depth count : ℕ) → e ≤ length s → Fills forms (stretch s e e) depth count count
-fills-none forms s e depth count inside = passes-none forms (stretch s e e) depth count (omega (arith, part-length s e e inside))
+  -- the one element that there is
+  pub reads-one : (depth count : ℕ) {used m : ℕ} → used ≡ e - i → Reads forms (stretch s i e) depth count used m → (set : Bool) → Fills forms set
+      (stretch s i e) depth count m
+  reads-one depth count all f set = passes-one forms (stretch s i e) depth count f (omega (arith, long)) set (omega (arith, long))
 
--- a SEQUENCE or a SET
-list-tag : (tag : ℕ) → tag / 2 ≡ 24 → (identifierGood tag ≡ true) × (constructed tag ≡ true)
-unfolding identifierGood constructed
-list-tag tag h = let many : 48 ≤ tag = omega arith in go (eq-or-lt-of-le many)
-  where
-    go : (48 ≡ tag) ⊎ (48 < tag) → (identifierGood tag ≡ true) × (constructed tag ≡ true)
-    go (inl e) = let z : tag ≡ 48 = omega arith in rw z (refl, refl)
-    go (inr e) = let z : tag ≡ 49 = omega arith in rw z (refl, refl)
+pub fills-none : (forms : Forms) (s : List ℕ) (e depth count : ℕ) → e ≤ length s → Fills forms false (stretch s e e) depth count count
+fills-none forms s e depth count inside = passes-none forms false (stretch s e e) depth count (omega (arith, part-length s e e inside))
 
-module _ (forms : Forms) (s : List ℕ) (i e : ℕ) (two : i + 2 ≤ e) (inside : e ≤ length s) (tag : getD s i 0 / 2 ≡ 24) (depth count m : ℕ) (shallow : depth ≤ forms .depth) (few : count < forms .elements) where
+-- the identifier of a SEQUENCE, or of a SET
+pub record Listed (set : Bool) (tag : ℕ) : Type 0 where
+  known : identifierGood tag ≡ true
+  node : constructed tag ≡ true
+  kind : isSet tag ≡ set
+
+pub sequence : (tag : ℕ) → tag ≡ 48 → Listed false tag
+unfolding identifierGood constructed isSet
+sequence tag e = rw e (record { known = refl; node = refl; kind = refl })
+
+pub set-of : (tag : ℕ) → tag ≡ 49 → Listed true tag
+unfolding identifierGood constructed isSet
+set-of tag e = rw e (record { known = refl; node = refl; kind = refl })
+
+module _ (forms : Forms) (s : List ℕ) (i e : ℕ) (two : i + 2 ≤ e) (inside : e ≤ length s) (depth count m : ℕ) (shallow : depth ≤ forms .depth)
+    (few : count < forms .elements) where
   -- by its members
-  pub list-reads : {after : ℕ} → after ≡ i + 2 + getD s (i + 1) 0 → after ≤ e → getD s (i + 1) 0 < 128 → Fills forms (stretch s (i + 2) after) (depth + 1) (count + 1) m → Reads forms (stretch s i e) depth count (2 + getD s (i + 1) 0) m
-  list-reads ends fits short =
-      let known = list-tag (getD s i 0) tag in
-      node-reads forms s i e two inside ends fits short (known .0) depth count shallow few (known .1)
+  pub list-reads : {set : Bool} {after : ℕ} → Listed set (getD s i 0) → after ≡ i + 2 + getD s (i + 1) 0 → after ≤ e → getD s (i + 1) 0 < 128
+      → Fills forms set (stretch s (i + 2) after) (depth + 1) (count + 1) m → Reads forms (stretch s i e) depth count (2 + getD s (i + 1) 0) m
+  list-reads l ends fits short = node-reads forms s i e two inside ends fits short (l .known) depth count shallow few (l .kind) (l .node)
 
-  -- one that ends a list
-  pub last-fills : i + 2 + getD s (i + 1) 0 ≡ e → getD s (i + 1) 0 < 128 → Fills forms (stretch s (i + 2) e) (depth + 1) (count + 1) m → Fills forms (stretch s i e) depth count m
-  last-fills ends short f =
-      let used : 2 + getD s (i + 1) 0 ≡ e - i = omega arith in
-      reads-on forms s i e two inside depth count e m m (subst (λ n. Reads forms (stretch s i e) depth count n m) used (list-reads (sym ends) (omega arith) short f)) (fills-none forms s e depth m inside)
+  -- a SEQUENCE that fills a list, or ends one
+  pub last-fills : Last s i e → getD s (i + 1) 0 < 128 → Fills forms false (stretch s (i + 2) e) (depth + 1) (count + 1) m
+      → (set : Bool) → Fills forms set (stretch s i e) depth count m
+  last-fills l short f =
+      let ends : i + 2 + getD s (i + 1) 0 ≡ e = l .ends in
+      reads-one forms s i e two inside depth count (omega arith) (list-reads (sequence _ (l .tag)) (sym ends) (omega arith) short f)

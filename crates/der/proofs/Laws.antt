@@ -16,6 +16,7 @@ use Rattle.der.specs.declared.walking.Walked.the-variants.{Passed, Refus
 use Rattle.der.specs.Forms.{Forms}
 use Rattle.der.specs.Heading.{identifierGood, within, sized, headingOf, constructed}
 use Rattle.der.specs.Contents.{contentsGood}
+use Rattle.der.specs.Order.{smaller, isSet, handed}
 use Rattle.der.specs.Walk.{opened, filled, after, elementAt, listAt, whole, walkOf}
 
 pub and-left : (a b : Bool) → (a && b) ≡ true → a ≡ true
@@ -45,49 +46,56 @@ unjudged tag c h =
       ne-eqb tag 6 (λ e. omega arith),
     )
 
-module _ (forms : Forms) (fuel : ℕ) (s : List ℕ) (base depth count : ℕ) where
-  pub element-bad : headingOf forms s ≡ Bad → elementAt (suc fuel) forms s base depth count ≡ Fault (Der base)
+module _ (forms : Forms) (fuel : ℕ) (prior s : List ℕ) (base depth count : ℕ) where
+  pub element-bad : headingOf forms s ≡ Bad → elementAt (suc fuel) forms prior s base depth count ≡ Fault (Der base)
   unfolding elementAt opened
   element-bad e = simp e
 
   module _ (tag skip size : ℕ) (e : headingOf forms s ≡ Header tag skip size) where
-    pub element-deep : forms .depth < depth → elementAt (suc fuel) forms s base depth count ≡ Fault (Limit base)
+    pub element-deep : forms .depth < depth → elementAt (suc fuel) forms prior s base depth count ≡ Fault (Limit base)
     unfolding elementAt opened
     element-deep h = simp (e, lt-ltb _ _ h)
 
     module _ (shallow : depth ≤ forms .depth) where
-      pub element-many : forms .elements ≤ count → elementAt (suc fuel) forms s base depth count ≡ Fault (Limit base)
+      pub element-many : forms .elements ≤ count → elementAt (suc fuel) forms prior s base depth count ≡ Fault (Limit base)
       unfolding elementAt opened
       element-many h = simp (e, le-ltb _ _ shallow, le-leb _ _ h)
 
       module _ (few : count < forms .elements) where
-        pub element-node : constructed (getD s 0 0) ≡ true
-            → elementAt (suc fuel) forms s base depth count ≡ filled (skip + size) (listAt fuel forms (take size (drop skip s)) (base + skip) (depth + 1) (count + 1))
+        pub element-fallen : smaller (take (skip + size) s) prior ≡ true → elementAt (suc fuel) forms prior s base depth count ≡ Fault (Der base)
         unfolding elementAt opened
-        element-node h = simp (e, le-ltb _ _ shallow, lt-leb _ _ few, h)
+        element-fallen h = simp (e, le-ltb _ _ shallow, lt-leb _ _ few, h)
 
-        pub element-leaf : constructed (getD s 0 0) ≡ false → contentsGood tag (take size (drop skip s)) ≡ true
-            → elementAt (suc fuel) forms s base depth count ≡ Past (skip + size) (count + 1)
-        unfolding elementAt opened
-        element-leaf h g = simp (e, le-ltb _ _ shallow, lt-leb _ _ few, h, g)
+        module _ (risen : smaller (take (skip + size) s) prior ≡ false) where
+          pub element-node : constructed (getD s 0 0) ≡ true
+              → elementAt (suc fuel) forms prior s base depth count
+              ≡ filled (skip + size) (listAt fuel forms (isSet tag) [] (take size (drop skip s)) (base + skip) (depth + 1) (count + 1))
+          unfolding elementAt opened
+          element-node h = simp (e, le-ltb _ _ shallow, lt-leb _ _ few, risen, h)
 
-        pub element-spoilt : constructed (getD s 0 0) ≡ false → contentsGood tag (take size (drop skip s)) ≡ false
-            → elementAt (suc fuel) forms s base depth count ≡ Fault (Der base)
-        unfolding elementAt opened
-        element-spoilt h g = simp (e, le-ltb _ _ shallow, lt-leb _ _ few, h, g)
+          pub element-leaf : constructed (getD s 0 0) ≡ false → contentsGood tag (take size (drop skip s)) ≡ true
+              → elementAt (suc fuel) forms prior s base depth count ≡ Past (skip + size) (count + 1)
+          unfolding elementAt opened
+          element-leaf h g = simp (e, le-ltb _ _ shallow, lt-leb _ _ few, risen, h, g)
 
-  pub list-done : length s ≡ 0 → listAt (suc fuel) forms s base depth count ≡ Passed count
+          pub element-spoilt : constructed (getD s 0 0) ≡ false → contentsGood tag (take size (drop skip s)) ≡ false
+              → elementAt (suc fuel) forms prior s base depth count ≡ Fault (Der base)
+          unfolding elementAt opened
+          element-spoilt h g = simp (e, le-ltb _ _ shallow, lt-leb _ _ few, risen, h, g)
+
+module _ (forms : Forms) (fuel : ℕ) (set : Bool) (prior s : List ℕ) (base depth count : ℕ) where
+  pub list-done : length s ≡ 0 → listAt (suc fuel) forms set prior s base depth count ≡ Passed count
   unfolding listAt
   list-done h = simp (eq-eqb _ _ h)
 
   module _ (left : length s ≡ 0 → ⊥) where
-    pub list-more : (used n : ℕ) → elementAt fuel forms s base depth count ≡ Past used n
-        → listAt (suc fuel) forms s base depth count ≡ listAt fuel forms (drop used s) (base + used) depth n
+    pub list-more : (used n : ℕ) → elementAt fuel forms prior s base depth count ≡ Past used n
+        → listAt (suc fuel) forms set prior s base depth count ≡ listAt fuel forms set (handed set (take used s)) (drop used s) (base + used) depth n
     unfolding listAt after
     list-more used n e = simp (ne-eqb _ _ left, e)
 
-    pub list-fault : (refusal : Refusal) → elementAt fuel forms s base depth count ≡ Fault refusal
-        → listAt (suc fuel) forms s base depth count ≡ Refused refusal
+    pub list-fault : (refusal : Refusal) → elementAt fuel forms prior s base depth count ≡ Fault refusal
+        → listAt (suc fuel) forms set prior s base depth count ≡ Refused refusal
     unfolding listAt after
     list-fault refusal e = simp (ne-eqb _ _ left, e)
 
@@ -98,11 +106,11 @@ module _ (forms : Forms) (s : List ℕ) where
 
   module _ (short : length s ≤ forms .itemSize) where
     pub walk-fault :
-        {refusal : Refusal} → elementAt (2 * length s + 2) forms s 0 1 0 ≡ Fault refusal → walkOf forms s ≡ Refused refusal
+        {refusal : Refusal} → elementAt (2 * length s + 2) forms [] s 0 1 0 ≡ Fault refusal → walkOf forms s ≡ Refused refusal
     unfolding walkOf whole
     walk-fault e = simp (le-ltb _ _ short, e)
 
-    module _ {used n : ℕ} (e : elementAt (2 * length s + 2) forms s 0 1 0 ≡ Past used n) where
+    module _ {used n : ℕ} (e : elementAt (2 * length s + 2) forms [] s 0 1 0 ≡ Past used n) where
       pub walk-passed : used ≡ length s → walkOf forms s ≡ Passed n
       unfolding walkOf whole
       walk-passed h = simp (le-ltb _ _ short, e, eq-eqb _ _ h)

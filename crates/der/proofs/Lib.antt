@@ -1,3 +1,4 @@
+pub mod Ascending
 pub mod Laws
 pub mod Bounds
 pub mod Enough

@@ -2,27 +2,38 @@
 -- when its first element is and the rest is.
 use Prim.Native.Nat.{ℕ, zero, suc, _+_, _-_, _≤_, _<_}
 use mathlib.Core.Path.{_≡_, refl, sym, _∙_}
+use mathlib.Core.Bool.{Bool, false}
 use mathlib.Core.List.{List, [], _∷_}
 use native.Mathlib.Omega.{arith}
 use lib.ListN.{length, take, drop, length-take, length-drop}
 use lib.Seq.{take-take, drop-drop}
 use Rattle.der.specs.declared.walking.Read.the-variants.{Past}
 use Rattle.der.specs.Forms.{Forms}
+use Rattle.der.specs.Order.{handed}
 use Rattle.der.specs.Fast.{stretch, Fills}
 use Rattle.der.proofs.Laws.{list-done, list-more}
 use Rattle.der.proofs.Enough.{ElementIs}
 
-pub passes-none : (forms : Forms) (s : List ℕ) (depth count : ℕ) → length s ≡ 0 → Fills forms s depth count count
-passes-none forms s depth count h base zero enough = absurd (omega arith)
-passes-none forms s depth count h base (suc fuel) enough = sym (list-done forms fuel s base depth count h)
+pub passes-none : (forms : Forms) (set : Bool) (s : List ℕ) (depth count : ℕ) → length s ≡ 0 → Fills forms set s depth count count
+passes-none forms set s depth count h base zero enough = absurd (omega arith)
+passes-none forms set s depth count h base (suc fuel) enough = sym (list-done forms fuel set [] s base depth count h)
 
-pub passes-more :
-    (forms : Forms) (s : List ℕ) (depth count : ℕ) {used m n : ℕ} → ((base : ℕ) → ElementIs forms s base depth count (Past used m)) → 0 < length s → 2 ≤ used
-    → used ≤ length s → Fills forms (drop used s) depth m n → Fills forms s depth count n
-passes-more forms s depth count f some wide within g base zero enough = absurd (omega arith)
-passes-more forms s depth count {used} {m} {n} f some wide within g base (suc fuel) enough =
-    g (base + used) fuel (omega (arith, length-drop used s))
-    ∙ sym (list-more forms fuel s base depth count (λ e. omega arith) used m (sym (f base fuel (omega arith))))
+module _ (forms : Forms) (s : List ℕ) (depth count : ℕ) {used m : ℕ} (f : (base : ℕ) → ElementIs forms [] s base depth count (Past used m))
+    (some : 0 < length s) where
+  pub passes-more : {n : ℕ} → 2 ≤ used → used ≤ length s → Fills forms false (drop used s) depth m n → Fills forms false s depth count n
+  unfolding handed
+  passes-more wide within g base zero enough = absurd (omega arith)
+  passes-more {n} wide within g base (suc fuel) enough =
+      g (base + used) fuel (omega (arith, length-drop used s))
+      ∙ sym (list-more forms fuel false [] s base depth count (λ e. omega arith) used m (sym (f base fuel (omega arith))))
+
+  -- one element that fills the list, whatever the list is of
+  pub passes-one : (set : Bool) → used ≡ length s → Fills forms set s depth count m
+  passes-one set all base zero enough = absurd (omega arith)
+  passes-one set all base (suc zero) enough = absurd (omega arith)
+  passes-one set all base (suc (suc fuel)) enough =
+      sym (list-more forms (suc fuel) set [] s base depth count (λ e. omega arith) used m (sym (f base (suc fuel) (omega arith)))
+      ∙ list-done forms fuel set (handed set (take used s)) (drop used s) (base + used) depth m (omega (arith, length-drop used s)))
 
 -- a stretch without its first octets
 drop-taken : (k n : ℕ) (l : List ℕ) → drop k (take n l) ≡ take (n - k) (drop k l)

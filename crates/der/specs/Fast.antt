@@ -1,8 +1,8 @@
 -- What the fast paths of the walk promise, of a stretch of octets that they read without telling a fault. No public promise
 -- cites this.
-use Prim.Native.Nat.{ℕ, _+_, _-_, _*_, _/_, _≤_}
-use mathlib.Core.Bool.{true, false}
-use mathlib.Core.List.{List}
+use Prim.Native.Nat.{ℕ, _+_, _-_, _*_, _≤_}
+use mathlib.Core.Bool.{Bool, true, false}
+use mathlib.Core.List.{List, []}
 use mathlib.Core.Path.{_≡_}
 use lib.ListN.{length, getD, take, drop}
 use Rattle.der.specs.declared.walking.Read.the-variants.{Past}
@@ -18,15 +18,20 @@ stretch s i e = take (e - i) (drop i s)
 
 -- the element at the front of s is read, and takes `used` octets
 abbrev pub Reads : Forms → List ℕ → ℕ → ℕ → ℕ → ℕ → Type 0
-Reads forms s depth count used m = (base fuel : ℕ) → 2 * length s + 1 ≤ fuel → Past used m ≡ elementAt fuel forms s base depth count
+Reads forms s depth count used m = (base fuel : ℕ) → 2 * length s + 1 ≤ fuel → Past used m ≡ elementAt fuel forms [] s base depth count
 
--- the elements that fill s are read
-abbrev pub Fills : Forms → List ℕ → ℕ → ℕ → ℕ → Type 0
-Fills forms s depth count m = (base fuel : ℕ) → 2 * length s + 2 ≤ fuel → Passed m ≡ listAt fuel forms s base depth count
+-- the elements that fill s are read, `set` where they are the members of a SET
+abbrev pub Fills : Forms → Bool → List ℕ → ℕ → ℕ → ℕ → Type 0
+Fills forms set s depth count m = (base fuel : ℕ) → 2 * length s + 2 ≤ fuel → Passed m ≡ listAt fuel forms set [] s base depth count
 
--- the header of a SEQUENCE or SET that ends at e
+-- the header of a SEQUENCE that ends at e
 pub record Last (s : List ℕ) (i e : ℕ) : Type 0 where
-  pub tag : getD s i 0 / 2 ≡ 24
+  pub tag : getD s i 0 ≡ 48
+  pub ends : i + 2 + getD s (i + 1) 0 ≡ e
+
+-- an element at i, with a header of two octets, that ends at e
+pub record Alone (s : List ℕ) (i e : ℕ) : Type 0 where
+  pub two : i + 2 ≤ e
   pub ends : i + 2 + getD s (i + 1) 0 ≡ e
 
 -- an identifier of a primitive whose contents are not judged

@@ -2,7 +2,9 @@ pub mod Forms
 pub mod Given
 pub mod Heading
 pub mod Contents
+pub mod Order
 pub mod Walk
 pub mod Integer
 pub mod Member
 pub mod Fast
+pub mod Falling

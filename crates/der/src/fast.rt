@@ -10,7 +10,7 @@ ghost use Prim.Native.Nat.{ℕ, _+_, _-_, _^_, _≤_, _<_};
 ghost use lib.ListN.{length, getD};
 ghost use Rattle.der.specs.Forms.{Forms};
 ghost use Rattle.der.specs.Heading.{constructed};
-ghost use Rattle.der.specs.Fast.{stretch, Reads, Fills, Last, Unjudged, Leaf};
+ghost use Rattle.der.specs.Fast.{stretch, Reads, Fills, Last, Alone, Unjudged, Leaf};
 
 // The count of elements when the one at `at` has been read, if nothing is wrong with it and it is a primitive with a header of two
 // octets, or holds nothing but such; else 0.
@@ -89,8 +89,8 @@ fn judged(tag: u8, c: &[u8]) -> bool
     false
 }
 
-// The count of elements when the one at `i` has been read, if it is a SEQUENCE or SET whose members are leaves, but that the last
-// one may again be such an element; else 0.
+// The count of elements when the one at `i` has been read, if it is a SEQUENCE or SET of leaves, but that the last one may be a SEQUENCE
+// of them again; else 0. A SET has one member: of more the order is asked.
 fn flat(s: &[u8], i: usize, end: usize, left: usize, count: usize) -> usize
     requires { ⌜ (i + 2 ≤ end) × (end ≤ length (now s)) × (length (now s) < 2 ^ 32) × (2 ≤ left) × (count < 2 ^ 32) ⌝ }
     ensures { λ r. ⌜ (0 < r → (forms : Forms) → count + 64 ≤ forms .elements → left ≤ forms .depth → Reads forms (stretch (now (s .entry)) i end) (forms .depth + 1 - left) count (2 + getD (now (s .entry)) (i + 1) 0) r) ⌝ }
@@ -107,14 +107,31 @@ fn flat(s: &[u8], i: usize, end: usize, left: usize, count: usize) -> usize
     if end < after {
         return 0;
     }
+    if several(s, i, after) {
+        return 0;
+    }
     leaves(s, from, after, left - 1, count + 1)
 }
 
-// The count of elements when those from `from` to `end` have been read, if each is a leaf, but the last; else 0. A SEQUENCE or SET that
+// Whether the element at `i` that ends at `after` is a SET, and its first member does not fill it.
+fn several(s: &[u8], i: usize, after: usize) -> bool
+    requires { ⌜ (i + 2 ≤ after) × (after ≤ length (now s)) × (length (now s) < 2 ^ 32) ⌝ }
+    ensures { λ r. ⌜ (r ≡ false → getD (now (s .entry)) i 0 ≡ 49 → Alone (now (s .entry)) (i + 2) after) ⌝ }
+{
+    if s[i] != 49 {
+        return false;
+    }
+    if after < i + 4 {
+        return true;
+    }
+    i + 4 + s[i + 3] as usize != after
+}
+
+// The count of elements when those from `from` to `end` have been read, if each is a leaf, but the last; else 0. A SEQUENCE that
 // ends where the list ends is read as the rest of the list, one deeper.
 fn leaves(s: &[u8], from: usize, end: usize, left: usize, count: usize) -> usize
     requires { ⌜ (from ≤ end) × (end ≤ from + 127) × (end ≤ length (now s)) × (length (now s) < 2 ^ 32) × (1 ≤ left) × (count ≤ 2 ^ 32) ⌝ }
-    ensures { λ r. ⌜ (0 < r → (forms : Forms) → count + 63 ≤ forms .elements → left ≤ forms .depth → Fills forms (stretch (now (s .entry)) from end) (forms .depth + 1 - left) count r) ⌝ }
+    ensures { λ r. ⌜ (0 < r → (forms : Forms) → count + 63 ≤ forms .elements → left ≤ forms .depth → Fills forms false (stretch (now (s .entry)) from end) (forms .depth + 1 - left) count r) ⌝ }
 {
     let mut i = from;
     let mut read = count;
@@ -145,12 +162,12 @@ fn leaves(s: &[u8], from: usize, end: usize, left: usize, count: usize) -> usize
     0
 }
 
-// Whether the element at `i` is a SEQUENCE or SET that ends at `end`.
+// Whether the element at `i` is a SEQUENCE that ends at `end`.
 fn last(s: &[u8], i: usize, end: usize) -> bool
     requires { ⌜ (i + 2 ≤ end) × (end ≤ i + 127) × (end ≤ length (now s)) × (length (now s) < 2 ^ 32) ⌝ }
     ensures { λ r. ⌜ (r ≡ true → Last (now (s .entry)) i end) ⌝ }
 {
-    if s[i] / 2 != 24 {
+    if s[i] != 48 {
         return false;
     }
     i + 2 + s[i + 1] as usize == end

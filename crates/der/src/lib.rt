@@ -3,6 +3,7 @@ mod contents;
 mod fast;
 mod heading;
 mod numbers;
+mod order;
 mod stepping;
 mod walking;
 

@@ -3,8 +3,11 @@ use crate::contents::contents_good;
 use crate::fast::fast_path;
 use crate::heading::Heading;
 use crate::heading::header;
+use crate::order::fallen;
 use refusal::Refusal;
 ghost use mathlib.Core.Path.{_≡_};
+ghost use mathlib.Core.Bool.{true};
+ghost use mathlib.Core.List.{[]};
 ghost use Prim.Native.Nat.{ℕ, _+_, _-_, _*_, _^_, _≤_, _<_};
 ghost use lib.ListN.{length};
 ghost use Rattle.der.specs.Forms.{Forms, paper};
@@ -55,7 +58,7 @@ fn element(
     count: usize,
 ) -> Read
     requires { ⌜ (digits ≤ 3) × (most < 2 ^ 32) × (base + length (now s) < 2 ^ 32) × (count ≤ most) ⌝ }
-    ensures { λ r. ⌜ ((forms : Forms) → Given digits wide most left forms → (fuel : ℕ) → 2 * length (now (s .entry)) + 1 ≤ fuel → r ≡ elementAt fuel forms (now (s .entry)) base (forms .depth + 1 - left) count) ⌝ }
+    ensures { λ r. ⌜ ((forms : Forms) → Given digits wide most left forms → (fuel : ℕ) → 2 * length (now (s .entry)) + 1 ≤ fuel → r ≡ elementAt fuel forms [] (now (s .entry)) base (forms .depth + 1 - left) count) ⌝ }
 {
     let Heading::Header { tag, skip, size } = header(digits, wide, s) else {
         return Read::Fault(Refusal::Der { at: base });
@@ -72,6 +75,7 @@ fn element(
             digits,
             wide,
             most,
+            tag == 49,
             &s[skip..end],
             base + skip,
             left - 1,
@@ -90,19 +94,23 @@ fn element(
     Read::Fault(Refusal::Der { at: base })
 }
 
-// The elements that fill `s`.
+// The elements that fill `s`, `set` where they are the members of a SET.
 fn list(
     digits: usize,
     wide: bool,
     most: usize,
+    set: bool,
     s: &[u8],
     base: usize,
     left: usize,
     count: usize,
 ) -> Walked
     requires { ⌜ (digits ≤ 3) × (most < 2 ^ 32) × (base + length (now s) < 2 ^ 32) × (count ≤ most) ⌝ }
-    ensures { λ r. ⌜ ((forms : Forms) → Given digits wide most left forms → (fuel : ℕ) → 2 * length (now (s .entry)) + 2 ≤ fuel → r ≡ listAt fuel forms (now (s .entry)) base (forms .depth + 1 - left) count) ⌝ }
+    ensures { λ r. ⌜ ((forms : Forms) → Given digits wide most left forms → (fuel : ℕ) → 2 * length (now (s .entry)) + 2 ≤ fuel → r ≡ listAt fuel forms set [] (now (s .entry)) base (forms .depth + 1 - left) count) ⌝ }
 {
+    if set {
+        return set_list(digits, wide, most, s, base, left, count);
+    }
     let mut at = 0;
     let mut read = count;
     while at < s.len() {
@@ -115,6 +123,38 @@ fn list(
         match element(digits, wide, most, &s[at..], base + at, left, read) {
             Read::Fault(refusal) => return Walked::Refused(refusal),
             Read::Past { used, count } => {
+                at += used;
+                read = count;
+            }
+        }
+    }
+    Walked::Passed { count: read }
+}
+
+// The members of a SET that fill `s`, each held against the one before it.
+fn set_list(
+    digits: usize,
+    wide: bool,
+    most: usize,
+    s: &[u8],
+    base: usize,
+    left: usize,
+    count: usize,
+) -> Walked
+    requires { ⌜ (digits ≤ 3) × (most < 2 ^ 32) × (base + length (now s) < 2 ^ 32) × (count ≤ most) ⌝ }
+    ensures { λ r. ⌜ ((forms : Forms) → Given digits wide most left forms → (fuel : ℕ) → 2 * length (now (s .entry)) + 2 ≤ fuel → r ≡ listAt fuel forms true [] (now (s .entry)) base (forms .depth + 1 - left) count) ⌝ }
+{
+    let mut prior = 0;
+    let mut at = 0;
+    let mut read = count;
+    while s.len() > at {
+        if fallen(digits, wide, most, s, prior, at, left, read) {
+            return Walked::Refused(Refusal::Der { at: base + at });
+        }
+        match element(digits, wide, most, &s[at..], base + at, left, read) {
+            Read::Fault(refusal) => return Walked::Refused(refusal),
+            Read::Past { used, count } => {
+                prior = at;
                 at += used;
                 read = count;
             }

@@ -45,7 +45,7 @@ is-node (node own members) tag built sound e = (members, ap (λ (t : ℕ). node 
 pub is-leaf : (tree : Tree) (tag : ℕ) → constructed tag ≡ false → Sound paper tree → tagOf tree ≡ tag → tree ≡ leaf tag (contentsOf tree)
 unfolding tagOf contentsOf
 is-leaf (leaf own c) tag flat sound e = ap (λ (t : ℕ). leaf t c) e
-is-leaf (node own members) tag flat (sound-node small good built fits all) e =
+is-leaf (node own members) tag flat (sound-node small good built fits order all) e =
     absurd (true≢false (sym built ∙ ap constructed (narrow own good) ∙ ap constructed e ∙ flat))
 
 -- no tree stands in a stretch without octets

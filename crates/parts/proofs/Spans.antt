@@ -36,7 +36,7 @@ pub record Member (s : List ℕ) (from end : ℕ) (e : Element) (tree : Tree) (t
   pub inside : (tag : ℕ) (members : Trees) → tree ≡ node tag members → Spans s (e .contents) (e .end) members
 
 pub members-sound : (tag : ℕ) (members : Trees) → Sound paper (node tag members) → SoundAll paper members
-members-sound tag members (sound-node small good built fits all) = all
+members-sound tag members (sound-node small good built fits order all) = all
 
 module _ (before behind : List ℕ) (tree : Tree) (trees : Trees) (sound : Sound paper tree) (rest : SoundAll paper trees) where
   item : List ℕ

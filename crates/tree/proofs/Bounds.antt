@@ -1,5 +1,6 @@
 -- An element takes two octets or more and ends within what holds it, and it is counted only below the limit.
 use mathlib.Core.Path.{subst}
+use mathlib.Core.Bool.{Bool}
 use mathlib.Core.List.{List}
 use Prim.Native.Nat.{ℕ, zero, suc, _≤_}
 use native.Mathlib.Omega.{arith}
@@ -30,24 +31,25 @@ module _ (forms : Forms) where
   mutual
     unfolding elementAt listAt
 
-    pub element-bound : (fuel : ℕ) (s : List ℕ) (base d n : ℕ) → ReadBound forms s (elementAt fuel forms s base d n)
-    element-bound zero s base d n = tt
-    element-bound (suc fuel) s base d n =
-        element-by forms fuel s base d n (ReadBound forms s) (λ refusal. tt)
+    pub element-bound : (fuel : ℕ) (prior s : List ℕ) (base d n : ℕ) → ReadBound forms s (elementAt fuel forms prior s base d n)
+    element-bound zero prior s base d n = tt
+    element-bound (suc fuel) prior s base d n =
+        element-by forms fuel prior s base d n (ReadBound forms s) (λ refusal. tt)
         (λ tag skip size m o built inner.
         let h : Headed forms s tag skip size = heading-fits forms s tag skip size (o .header) in
         record {
           some = omega (arith, h .some);
           fits = h .fits;
-          few = subst (WalkedBound forms) inner (list-bound fuel _ _ _ _ (omega (arith, o .few)));
+          few = subst (WalkedBound forms) inner (list-bound fuel _ _ _ _ _ _ (omega (arith, o .few)));
         })
         λ tag skip size o primitive good.
         let h : Headed forms s tag skip size = heading-fits forms s tag skip size (o .header) in
         record { some = omega (arith, h .some); fits = h .fits; few = omega (arith, o .few) }
 
-    pub list-bound : (fuel : ℕ) (s : List ℕ) (base d n : ℕ) → n ≤ forms .elements → WalkedBound forms (listAt fuel forms s base d n)
-    list-bound zero s base d n few = tt
-    list-bound (suc fuel) s base d n few =
-        list-by forms fuel s base d n (WalkedBound forms) (λ refusal. tt) (λ done. few) λ used k m first rest.
-        let b : Bound forms s used k = subst (ReadBound forms s) first (element-bound fuel s base d n) in
-        subst (WalkedBound forms) rest (list-bound fuel _ _ _ _ (b .few))
+    pub list-bound : (fuel : ℕ) (set : Bool) (prior s : List ℕ) (base d n : ℕ) → n ≤ forms .elements → WalkedBound forms
+        (listAt fuel forms set prior s base d n)
+    list-bound zero set prior s base d n few = tt
+    list-bound (suc fuel) set prior s base d n few =
+        list-by forms fuel prior s base d n set (WalkedBound forms) (λ refusal. tt) (λ done. few) λ used k m first rest.
+        let b : Bound forms s used k = subst (ReadBound forms s) first (element-bound fuel prior s base d n) in
+        subst (WalkedBound forms) rest (list-bound fuel _ _ _ _ _ _ (b .few))

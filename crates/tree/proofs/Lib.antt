@@ -1,4 +1,5 @@
 pub mod Cases
+pub mod Rising
 pub mod Numbers
 pub mod Lengths
 pub mod Tags
@@ -11,6 +12,7 @@ pub mod Reading
 pub mod Found
 pub mod Passes
 pub mod Same
+pub mod Reorder
 pub mod Parts
 pub mod Members
 pub mod Minimal

@@ -25,11 +25,11 @@ pub heading-tree :
 unfolding encoded headerOf tagOf contentsOf
 heading-tree forms limit (leaf tag c) rest (sound-leaf b good primitive o below contents) =
     heading-of forms limit tag c rest good below ∙ ap (λ (k : ℕ). Header tag k (length c)) (sym (length-append (identifier tag) (lengthEncoded (length c))))
-heading-tree forms limit (node tag members) rest (sound-node b good built below sound) =
+heading-tree forms limit (node tag members) rest (sound-node b good built below order sound) =
     heading-of forms limit tag (encodedAll members) rest good below ∙ ap (λ (k : ℕ). Header tag k (length (encodedAll members))) (sym (length-append (identifier tag) (lengthEncoded (length (encodedAll members)))))
 
 -- the one identifier 2 is primitive
 pub leaf-two : (forms : Forms) (x : Tree) → Sound forms x → tagOf x ≡ 2 → x ≡ leaf 2 (contentsOf x)
 unfolding tagOf contentsOf constructed leading
 leaf-two forms (leaf tag c) sound e = ap (λ (t : ℕ). leaf t c) e
-leaf-two forms (node tag members) (sound-node b good built below sound) e = absurd (true≢false (sym built ∙ ap (λ (t : ℕ). constructed (leading t)) e))
+leaf-two forms (node tag members) (sound-node b good built below order sound) e = absurd (true≢false (sym built ∙ ap (λ (t : ℕ). constructed (leading t)) e))

@@ -1,6 +1,7 @@
--- The octets tell the identifier and the contents, and the contents tell the members: two trees with one encoding are one.
+-- The octets tell the identifier and the contents, and the contents tell the members: two trees with one encoding are one, whatever the
+-- order of a SET's members.
 use mathlib.Core.Path.{_≡_, refl, sym, _∙_, ap, ap₂}
-use mathlib.Core.Bool.{true, true≢false}
+use mathlib.Core.Bool.{true, false, true≢false}
 use mathlib.Core.List.{List, _++_}
 use Prim.Native.Nat.{ℕ, _+_, _≤_, _<_}
 use native.Mathlib.Omega.{arith}
@@ -11,6 +12,28 @@ use Rattle.der.specs.Heading.{headingOf, constructed}
 use Rattle.tree.specs.Tree.{Tree, leaf, node, Trees, none, more, leading, tagged, encoded, encodedAll, tagGood, Sound, sound-leaf, sound-node, SoundAll, sound-more}
 use Rattle.tree.proofs.Headings.{told, skipped, heading-of, tagged-contents}
 use Rattle.tree.proofs.Reading.{encoded-some}
+
+-- sound but for the order
+mutual
+  pub data Formed (forms : Forms) : Tree → Type 0 where
+    formed-leaf :
+        {tag : ℕ} {c : List ℕ} → tagGood forms tag ≡ true → constructed (leading tag) ≡ false → length c < told forms → Formed forms (leaf tag c)
+    formed-node :
+        {tag : ℕ} {members : Trees} → tagGood forms tag ≡ true → constructed (leading tag) ≡ true → length (encodedAll members) < told forms
+        → FormedAll forms members → Formed forms (node tag members)
+
+  pub data FormedAll (forms : Forms) : Trees → Type 0 where
+    formed-none : FormedAll forms none
+    formed-more : {tree : Tree} {trees : Trees} → Formed forms tree → FormedAll forms trees → FormedAll forms (more tree trees)
+
+mutual
+  pub formed : {forms : Forms} (x : Tree) → Sound forms x → Formed forms x
+  formed (leaf tag c) (sound-leaf _ good primitive _ below _) = formed-leaf good primitive below
+  formed (node tag members) (sound-node _ good built below _ sound) = formed-node good built below (formed-all members sound)
+
+  formed-all : {forms : Forms} (xs : Trees) → SoundAll forms xs → FormedAll forms xs
+  formed-all none sound = formed-none
+  formed-all (more x xs) (sound-more sound rest) = formed-more (formed x sound) (formed-all xs rest)
 
 module _ (forms : Forms) (limit : forms .lengthOctets ≤ 3) where
   tagged-one :
@@ -31,25 +54,28 @@ module _ (forms : Forms) (limit : forms .lengthOctets ≤ 3) where
   mutual
     unfolding encoded encodedAll
 
-    pub tree-one :
-        (a b : Tree) (r q : List ℕ) → Sound forms a → Sound forms b → encoded a ++ r ≡ encoded b ++ q → (a ≡ b) × (r ≡ q)
-    tree-one (leaf x c) (leaf y k) r q (sound-leaf _ gx _ _ bc _) (sound-leaf _ gy _ _ bk _) e =
+    pub formed-one :
+        (a b : Tree) (r q : List ℕ) → Formed forms a → Formed forms b → encoded a ++ r ≡ encoded b ++ q → (a ≡ b) × (r ≡ q)
+    formed-one (leaf x c) (leaf y k) r q (formed-leaf gx _ bc) (formed-leaf gy _ bk) e =
         let (tags, contents, rests) = tagged-one x y c k r q gx gy bc bk e in
         (ap₂ leaf tags contents, rests)
-    tree-one (leaf x c) (node y ks) r q (sound-leaf _ gx px _ bc _) (sound-node _ gy py bk _) e =
+    formed-one (leaf x c) (node y ks) r q (formed-leaf gx px bc) (formed-node gy py bk _) e =
         let (tags, contents, rests) = tagged-one x y c (encodedAll ks) r q gx gy bc bk e in
         absurd (true≢false (sym py ∙ ap (λ (t : ℕ). constructed (leading t)) (sym tags) ∙ px))
-    tree-one (node x cs) (leaf y k) r q (sound-node _ gx px bc _) (sound-leaf _ gy py _ bk _) e =
+    formed-one (node x cs) (leaf y k) r q (formed-node gx px bc _) (formed-leaf gy py bk) e =
         let (tags, contents, rests) = tagged-one x y (encodedAll cs) k r q gx gy bc bk e in
         absurd (true≢false (sym px ∙ ap (λ (t : ℕ). constructed (leading t)) tags ∙ py))
-    tree-one (node x cs) (node y ks) r q (sound-node _ gx _ bc sc) (sound-node _ gy _ bk sk) e =
+    formed-one (node x cs) (node y ks) r q (formed-node gx _ bc sc) (formed-node gy _ bk sk) e =
         let (tags, contents, rests) = tagged-one x y (encodedAll cs) (encodedAll ks) r q gx gy bc bk e in
-        (ap₂ node tags (trees-one cs ks sc sk contents), rests)
+        (ap₂ node tags (formed-all-one cs ks sc sk contents), rests)
 
-    pub trees-one : (xs ys : Trees) → SoundAll forms xs → SoundAll forms ys → encodedAll xs ≡ encodedAll ys → xs ≡ ys
-    trees-one none none sx sy e = refl
-    trees-one none (more y ys) sx sy e = absurd (omega (arith, ap length e, length-append (encoded y) (encodedAll ys), encoded-some y))
-    trees-one (more x xs) none sx sy e = absurd (omega (arith, ap length e, length-append (encoded x) (encodedAll xs), encoded-some x))
-    trees-one (more x xs) (more y ys) (sound-more sx sxs) (sound-more sy sys) e =
-        let both : (x ≡ y) × (encodedAll xs ≡ encodedAll ys) = tree-one x y (encodedAll xs) (encodedAll ys) sx sy e in
-        ap₂ more (both .0) (trees-one xs ys sxs sys (both .1))
+    formed-all-one : (xs ys : Trees) → FormedAll forms xs → FormedAll forms ys → encodedAll xs ≡ encodedAll ys → xs ≡ ys
+    formed-all-one none none sx sy e = refl
+    formed-all-one none (more y ys) sx sy e = absurd (omega (arith, ap length e, length-append (encoded y) (encodedAll ys), encoded-some y))
+    formed-all-one (more x xs) none sx sy e = absurd (omega (arith, ap length e, length-append (encoded x) (encodedAll xs), encoded-some x))
+    formed-all-one (more x xs) (more y ys) (formed-more sx sxs) (formed-more sy sys) e =
+        let both : (x ≡ y) × (encodedAll xs ≡ encodedAll ys) = formed-one x y (encodedAll xs) (encodedAll ys) sx sy e in
+        ap₂ more (both .0) (formed-all-one xs ys sxs sys (both .1))
+
+  pub tree-one : (a b : Tree) (r q : List ℕ) → Sound forms a → Sound forms b → encoded a ++ r ≡ encoded b ++ q → (a ≡ b) × (r ≡ q)
+  tree-one a b r q sa sb e = formed-one a b r q (formed a sa) (formed b sb) e

@@ -1,6 +1,6 @@
 -- What the walk means, as theorems over the definitions.
-use mathlib.Core.Path.{_≡_, refl, _∙_, ap, subst}
-use mathlib.Core.Bool.{true}
+use mathlib.Core.Path.{_≡_, refl, sym, _∙_, ap, subst}
+use mathlib.Core.Bool.{Bool, true}
 use mathlib.Core.Logic.{_↔_}
 use mathlib.Core.List.{List, [], _++_, append-assoc}
 use Prim.Native.Nat.{ℕ, _+_, _-_, _*_, _≤_}
@@ -19,11 +19,13 @@ use Rattle.der.specs.Heading.{headingOf}
 use Rattle.der.specs.Member.{placed, memberOf}
 use Rattle.der.specs.Integer.{integerOf}
 use Rattle.tree.specs.Tree.{Tree, Trees, none, more, encoded, encodedAll, tagOf, contentsOf, headerOf, Sound, Encodes, EncodesInteger}
+use Rattle.tree.specs.Reordered.{Reordered}
 use Rattle.tree.proofs.Answers.{walk-by}
 use Rattle.tree.proofs.Bounds.{Bound, ReadBound, element-bound}
 use Rattle.tree.proofs.Fuel.{element-fuel, list-fuel}
 use Rattle.tree.proofs.Passes.{passed-encodes, encodes-passed}
-use Rattle.tree.proofs.Same.{tree-one}
+use Rattle.tree.proofs.Same.{tree-one, formed, formed-one}
+use Rattle.tree.proofs.Reorder.{reordered-one, formed-reordered}
 use Rattle.tree.proofs.Parts.{encoded-parts, length-parts, heading-tree}
 use Rattle.tree.proofs.Members.{part-at, member-at}
 use Rattle.tree.proofs.Integers.{NumberEncodes, integer-encodes, encodes-integer, one-item}
@@ -39,20 +41,40 @@ walk-passes forms limit item n o =
 pub one-tree : (forms : Forms) → forms .lengthOctets ≤ 3 → (a b : Tree) → Sound forms a → Sound forms b → encoded a ≡ encoded b → a ≡ b
 one-tree forms limit a b sa sb e = tree-one forms limit a b [] [] sa sb (ap (λ (s : List ℕ). s ++ []) e) .0
 
+-- Two sound trees that differ only in the order of a SET's members have the same octets.
+pub reordered-octets :
+    (forms : Forms) → forms .lengthOctets ≤ 3 → (a b : Tree) → Sound forms a → Sound forms b → Reordered a b → encoded a ≡ encoded b
+reordered-octets forms limit a b sa sb r = ap encoded (reordered-one forms limit a b r sa sb)
+
+-- Of an item that passes, and one whose tree is the same but for the order of a SET's members, both pass only where they are the same
+-- octets.
+pub reordered-items :
+    (forms : Forms) (limit : forms .lengthOctets ≤ 3) (item : List ℕ) (n m : ℕ) (o : Octets item) (passes : walkOf forms item ≡ Passed n) (other : Tree)
+    → Reordered (walk-passes forms limit item n o .0 passes .tree) other → Octets (encoded other) → walkOf forms (encoded other) ≡ Passed m
+    → encoded other ≡ item
+reordered-items forms limit item n m o passes other r octets e =
+    let a = walk-passes forms limit item n o .0 passes in
+    let b = walk-passes forms limit (encoded other) m octets .0 e in
+    let same : b .tree ≡ other = formed-one forms limit (b .tree) other [] []
+    (formed (b .tree) (b .sound)) (formed-reordered forms limit (a .tree) other r (formed (a .tree) (a .sound)))
+    (ap (λ (s : List ℕ). s ++ []) (b .bytes)) .0 in
+    let sound : Sound forms other = subst (Sound forms) same (b .sound) in
+    sym (reordered-octets forms limit (a .tree) other (a .sound) sound r) ∙ a .bytes
+
 -- No answer tells more elements than the limit.
 pub counted-limit : (forms : Forms) (item : List ℕ) → counted (walkOf forms item) ≤ forms .elements
 unfolding counted
 counted-limit forms item =
     walk-by forms item (λ (w : Walked). counted w ≤ forms .elements) (λ refusal. omega arith) λ m short e.
-    let b : Bound forms item (length item) m = subst (ReadBound forms item) e (element-bound forms _ item 0 1 0) in
+    let b : Bound forms item (length item) m = subst (ReadBound forms item) e (element-bound forms _ [] item 0 1 0) in
     b .few
 
 -- From 2 * length s + 1 on for an element, and 2 * length s + 2 for a list, the fuel changes nothing.
 pub fuel-enough :
-    (forms : Forms) (f g : ℕ) (s : List ℕ) (base d n : ℕ)
-    → (2 * length s + 1 ≤ f → 2 * length s + 1 ≤ g → elementAt f forms s base d n ≡ elementAt g forms s base d n)
-    × (2 * length s + 2 ≤ f → 2 * length s + 2 ≤ g → listAt f forms s base d n ≡ listAt g forms s base d n)
-fuel-enough forms f g s base d n = (element-fuel forms f g s base d n, list-fuel forms f g s base d n)
+    (forms : Forms) (f g : ℕ) (set : Bool) (prior s : List ℕ) (base d n : ℕ)
+    → (2 * length s + 1 ≤ f → 2 * length s + 1 ≤ g → elementAt f forms prior s base d n ≡ elementAt g forms prior s base d n)
+    × (2 * length s + 2 ≤ f → 2 * length s + 2 ≤ g → listAt f forms set prior s base d n ≡ listAt g forms set prior s base d n)
+fuel-enough forms f g set prior s base d n = (element-fuel forms f g prior s base d n, list-fuel forms f g set prior s base d n)
 
 -- Stepping ends where no member is left.
 pub step-none :

@@ -10,6 +10,7 @@ use Rattle.der.specs.Forms.{Forms}
 use Rattle.octets.specs.Octets.{Octets, big, twos}
 use Rattle.der.specs.Heading.{identifierGood, wideGood, constructed}
 use Rattle.der.specs.Contents.{contentsGood}
+use Rattle.der.specs.Order.{smaller, isSet}
 
 mutual
   pub data Tree : Type 0 where
@@ -83,8 +84,17 @@ unfoldable mutual
 unfoldable pub tagGood : Forms → ℕ → Bool
 tagGood forms tag = cond (ltb tag 256) (identifierGood tag) (forms .wideTags && wideGood (tag / 256) (tag % 256))
 
--- An identifier that may stand, primitive over contents that may stand and constructed over sound members, each length
--- one that the forms can tell: below 128 in the short form.
+-- each member's encoding is not smaller than that of the one before it; before the first stands `prior`
+unfoldable pub ascending : List ℕ → Trees → Bool
+ascending prior none = true
+ascending prior (more tree trees) = cond (smaller (encoded tree) prior) false (ascending (encoded tree) trees)
+
+-- X.690 11.6: the members of a SET ascend
+unfoldable pub ordered : ℕ → Trees → Bool
+ordered tag members = cond (isSet tag) (ascending [] members) true
+
+-- An identifier that may stand, primitive over contents that may stand and constructed over sound members, which ascend in
+-- a SET, each length one that the forms can tell: below 128 in the short form.
 mutual
   pub data Sound (forms : Forms) : Tree → Type 0 where
     sound-leaf :
@@ -92,7 +102,8 @@ mutual
         → length c < max 128 (256 ^ forms .lengthOctets) → contentsGood tag c ≡ true → Sound forms (leaf tag c)
     sound-node :
         {tag : ℕ} {members : Trees} → tag < 65536 → tagGood forms tag ≡ true → constructed (leading tag) ≡ true
-        → length (encodedAll members) < max 128 (256 ^ forms .lengthOctets) → SoundAll forms members → Sound forms (node tag members)
+        → length (encodedAll members) < max 128 (256 ^ forms .lengthOctets) → ordered tag members ≡ true → SoundAll forms members
+        → Sound forms (node tag members)
 
   pub data SoundAll (forms : Forms) : Trees → Type 0 where
     sound-none : SoundAll forms none

@@ -6,6 +6,7 @@ use Rattle.calendar.specs.Difference.{differenceOf}
 use Rattle.octets.specs.Octets.{number, twos}
 use Rattle.der.specs.Heading.{constructed, identifierGood, within, smallest, long, sized, wideHeading, headingOf}
 use Rattle.der.specs.Contents.{booleanGood, integerGood, bitStringGood, subIdentifiers, oidGood, contentsGood}
+use Rattle.der.specs.Order.{smaller, isSet, handed}
 use Rattle.der.specs.Walk.{opened, filled, after, elementAt, listAt, whole, walkOf}
 use Rattle.der.specs.Integer.{held, asked, integerOf}
 use Rattle.refusal.specs.Rules.{firstBroken}
@@ -15,6 +16,6 @@ use Rattle.image.specs.Answer.{graded, openedOf}
 use Rattle.worked.specs.Table.{table, AllHold}
 
 pub worked : AllHold table
-unfolding leap february monthLength realDay daysOfMonths daysOfYears dayNumber differenceOf number twos constructed identifierGood within smallest long sized wideHeading headingOf booleanGood integerGood bitStringGood subIdentifiers oidGood contentsGood opened filled after elementAt listAt whole walkOf held asked integerOf firstBroken field indexStart entryCount versionIn dayIn width entryAt rule1 rule2 rule3 rule4 rule5 fieldsGood entryGood sumOf totalOf fit rule6 summed rule7 rules graded openedOf
+unfolding leap february monthLength realDay daysOfMonths daysOfYears dayNumber differenceOf number twos constructed identifierGood within smallest long sized wideHeading headingOf booleanGood integerGood bitStringGood subIdentifiers oidGood contentsGood smaller isSet handed opened filled after elementAt listAt whole walkOf held asked integerOf firstBroken field indexStart entryCount versionIn dayIn width entryAt rule1 rule2 rule3 rule4 rule5 fieldsGood entryGood sumOf totalOf fit rule6 summed rule7 rules graded openedOf
 worked =
-    (refl, (refl, (refl, (refl, (refl, (refl, (refl, (refl, (refl, (refl, (refl, (refl, (refl, (refl, (refl, (refl, tt))))))))))))))))
+    (refl, (refl, (refl, (refl, (refl, (refl, (refl, (refl, (refl, (refl, (refl, (refl, (refl, (refl, (refl, (refl, (refl, (refl, (refl, (refl, (refl, (refl, (refl, (refl, (refl, (refl, tt))))))))))))))))))))))))))

@@ -1,5 +1,6 @@
--- The cases in bold type of "Both sides of the line": what is asked, and what comes out.
+-- The cases in bold type of "Both sides of the line", and the order of a SET's members: what is asked, and what comes out.
 use Prim.Native.Nat.{ℕ}
+use mathlib.Core.Bool.{Bool, true, false}
 use mathlib.Core.Path.{_≡_}
 use mathlib.Core.List.{List, [], _∷_}
 use lib.IntN.{ℤ, pos, negsuc}
@@ -10,6 +11,7 @@ use Rattle.der.specs.declared.numbers.Number.the-variants.{Value}
 use Rattle.der.specs.declared.walking.Walked.the-variants.{Passed, Refused}
 use Rattle.der.specs.Forms.{paper}
 use Rattle.der.specs.Integer.{integerOf}
+use Rattle.der.specs.Order.{smaller}
 use Rattle.der.specs.Walk.{walkOf}
 use Rattle.image.specs.declared.Opened.the-variants.{Image}
 use Rattle.image.specs.Answer.{openedOf}
@@ -25,6 +27,8 @@ pub data Case : Type 0 where
   from-to : ℕ → ℕ → ℤ → Case
   -- an image that is good, with so many entries and of that day
   reads : List ℕ → ℕ → ℕ → Case
+  -- whether one encoding is smaller than another
+  compares : List ℕ → List ℕ → Bool → Case
 
 abbrev pub Holds : Case → Type 0
 Holds (passes item n) = walkOf paper item ≡ Passed n
@@ -32,6 +36,7 @@ Holds (breaks item at) = walkOf paper item ≡ Refused (Der at)
 Holds (is item value) = integerOf paper item ≡ Value value
 Holds (from-to first second days) = differenceOf first second ≡ Days days
 Holds (reads image entries day) = openedOf image ≡ Image entries day
+Holds (compares a b answer) = smaller a b ≡ answer
 
 abbrev pub AllHold : List Case → Type 0
 AllHold [] = Unit
@@ -55,4 +60,14 @@ table =
     ∷ from-to 20210101 20201231 (negsuc 0)
     ∷ from-to 19500101 20991231 (pos 54786)
     ∷ reads (0x00 ∷ 0x00 ∷ 0x00 ∷ 0x00 ∷ 0x00 ∷ 0x00 ∷ 0x00 ∷ 0x01 ∷ 0x01 ∷ 0x34 ∷ 0xD7 ∷ 0xAD ∷ []) 0 20240301
+    ∷ compares (0x13 ∷ 0x01 ∷ 0x44 ∷ []) (0x13 ∷ 0x01 ∷ 0x50 ∷ []) true
+    ∷ compares (0x13 ∷ 0x01 ∷ 0x50 ∷ []) (0x13 ∷ 0x01 ∷ 0x50 ∷ []) false
+    ∷ compares (0x13 ∷ 0x01 ∷ 0x50 ∷ []) (0x13 ∷ 0x02 ∷ 0x41 ∷ 0x43 ∷ []) true
+    ∷ compares (0x04 ∷ 0x02 ∷ 0x00 ∷ 0x00 ∷ []) (0x05 ∷ 0x00 ∷ []) true
+    ∷ compares (0x05 ∷ 0x00 ∷ []) (0x05 ∷ 0x00 ∷ 0x00 ∷ []) false
+    ∷ compares (0x05 ∷ 0x00 ∷ []) (0x05 ∷ 0x00 ∷ 0x01 ∷ []) true
+    ∷ passes (0x31 ∷ 0x06 ∷ 0x13 ∷ 0x01 ∷ 0x44 ∷ 0x13 ∷ 0x01 ∷ 0x50 ∷ []) 3
+    ∷ passes (0x31 ∷ 0x06 ∷ 0x13 ∷ 0x01 ∷ 0x50 ∷ 0x13 ∷ 0x01 ∷ 0x50 ∷ []) 3
+    ∷ breaks (0x31 ∷ 0x06 ∷ 0x13 ∷ 0x01 ∷ 0x50 ∷ 0x13 ∷ 0x01 ∷ 0x44 ∷ []) 5
+    ∷ passes (0x30 ∷ 0x06 ∷ 0x13 ∷ 0x01 ∷ 0x50 ∷ 0x13 ∷ 0x01 ∷ 0x44 ∷ []) 3
     ∷ []

@@ -154,6 +154,34 @@ fn days_without_the_leap_day_of_2000() {
 }
 
 #[test]
+fn the_order_of_a_set_is_not_asked() {
+    found(
+        |question, output| match question {
+            Question::Walk(item) => plain(&mut Question::Walk(sequences(item)), output),
+            _ => plain(question, output),
+        },
+        |question| matches!(question, Question::Walk(..)),
+    );
+}
+
+/// An item with a SEQUENCE for each SET, as far as its elements can be read.
+fn sequences(item: &[u8]) -> Vec<u8> {
+    let (mut item, mut at) = (item.to_vec(), 0);
+    while at + 1 < item.len() {
+        let (header, length) = match (item[at + 1], item.get(at + 2), item.get(at + 3)) {
+            (0x81, Some(&length), _) => (3, usize::from(length)),
+            (0x82, Some(&high), Some(&low)) => (4, usize::from(high) * 256 + usize::from(low)),
+            (length, ..) => (2, usize::from(length)),
+        };
+        if item[at] == 0x31 {
+            item[at] = 0x30;
+        }
+        at += if item[at] & 0x20 != 0 { header } else { header + length };
+    }
+    item
+}
+
+#[test]
 fn octets_after_the_item_are_told_at_the_last() {
     found(
         |question, output| match (plain(question, output), question) {

@@ -56,8 +56,8 @@ pub(crate) fn tag(element: &mut [u8], id: u8) {
 }
 
 const SHAPE: &[Way] = &[
-    way(1, "outermost a SET", ALL, |c, _| c.envelope.outermost_tag = 0x31),
-    way(1, "tbs a SET", ALL, |c, _| c.envelope.tbs_tag = 0x31),
+    way(1, "outermost an application element", ALL, |c, _| c.envelope.outermost_tag = 0x71),
+    way(1, "tbs an application element", ALL, |c, _| c.envelope.tbs_tag = 0x71),
     way(1, "tbs an OCTET STRING", ALL, |c, _| c.envelope.tbs_tag = 4),
     way(1, "no version", ALL, |c, _| c.version.clear()),
     way(1, "version empty", ALL, |c, _| c.version = vec![0xA0, 0]),
@@ -72,7 +72,7 @@ const SHAPE: &[Way] = &[
     way(1, "inner algorithm a SET", ALL, |c, _| c.algorithm = vec![0x31, 0]),
     way(1, "inner algorithm a NULL", ALL, |c, _| c.algorithm = vec![5, 0]),
     way(1, "no outer algorithm", ALL, |c, _| c.envelope.outer_algorithm.clear()),
-    way(1, "outer algorithm a SET", ALL, |c, _| tag(&mut c.envelope.outer_algorithm, 0x31)),
+    way(1, "outer algorithm an application element", ALL, |c, _| tag(&mut c.envelope.outer_algorithm, 0x71)),
     way(1, "signature an OCTET STRING", ALL, |c, _| tag(&mut c.envelope.signature, 4)),
     way(1, "no signature", ALL, |c, _| c.envelope.signature.clear()),
     way(1, "more after the signature", ALL, |c, _| c.envelope.after_signature = vec![5, 0]),
@@ -97,7 +97,9 @@ const SHAPE_OF_PARTS: &[Way] = &[
     way(1, "one time", ALL, |c, _| c.validity = Some(element(SEQUENCE, &c.start))),
     way(1, "no time", ALL, |c, _| c.validity = Some(vec![0x30, 0])),
     way(1, "three times", ALL, |c, _| c.validity = Some(sequence(&[&c.start, &c.end, &c.end]))),
-    way(1, "times in a SET", ALL, |c, _| c.validity = Some(element(0x31, &[&c.start[..], &c.end].concat()))),
+    way(1, "times in an application element", ALL, |c, _| {
+        c.validity = Some(element(0x71, &[&c.start[..], &c.end].concat()))
+    }),
     way(1, "start of another tag", ALL, |c, r| tag(&mut c.start, *r.pick(&[0x16, 0x19, 0x80, 4]))),
     way(1, "end of another tag", ALL, |c, r| tag(&mut c.end, *r.pick(&[0x16, 0x19, 0x80, 4]))),
     way(1, "no validity", ALL, |c, _| c.validity = Some(Vec::new())),
@@ -344,7 +346,11 @@ const TYPES: &[Way] = &[
     way(13, "document types without contents", SIGNERS, |c, _| value(c, &DOCUMENT_TYPES, &[])),
     way(13, "document types empty", SIGNERS, |c, _| value(c, &DOCUMENT_TYPES, &[0x30, 0])),
     way(13, "no types", SIGNERS, |c, _| value(c, &DOCUMENT_TYPES, &extension::document_types(&[]))),
-    way(13, "an empty type", SIGNERS, |c, _| value(c, &DOCUMENT_TYPES, &extension::document_types(&["P", ""]))),
+    way(13, "an empty type", SIGNERS, |c, _| value(c, &DOCUMENT_TYPES, &extension::document_types(&["", "P"]))),
+    way(13, "types out of order", SIGNERS, |c, _| value(c, &DOCUMENT_TYPES, &extension::document_types(&["ID", "P"]))),
+    way(13, "the last type out of order", SIGNERS, |c, _| {
+        value(c, &DOCUMENT_TYPES, &extension::document_types(&["A", "P", "V", "ID", "AC"]))
+    }),
     way(13, "a type of three", SIGNERS, |c, _| value(c, &DOCUMENT_TYPES, &extension::document_types(&["P", "PAS"]))),
     way(13, "version 1", SIGNERS, |c, _| value(c, &DOCUMENT_TYPES, &[0x30, 8, 2, 1, 1, 0x31, 3, 0x13, 1, b'P'])),
     way(13, "version 00 00", SIGNERS, |c, _| value(c, &DOCUMENT_TYPES, &[0x30, 9, 2, 2, 0, 0, 0x31, 3, 0x13, 1, b'P'])),

@@ -25,8 +25,8 @@ pub fn ways() -> Vec<&'static Way> {
 }
 
 const SHAPE: &[Way] = &[
-    way(1, "outermost a SET", |c, _| c.envelope.outermost_tag = 0x31),
-    way(1, "tbs a SET", |c, _| c.envelope.tbs_tag = 0x31),
+    way(1, "outermost an application element", |c, _| c.envelope.outermost_tag = 0x71),
+    way(1, "tbs an application element", |c, _| c.envelope.tbs_tag = 0x71),
     way(1, "tbs an OCTET STRING", |c, _| c.envelope.tbs_tag = 4),
     way(1, "no version", |c, _| c.version.clear()),
     way(1, "version in A0", |c, _| c.version = vec![0xA0, 3, 2, 1, 1]),
@@ -35,7 +35,7 @@ const SHAPE: &[Way] = &[
     way(1, "no inner algorithm", |c, _| c.algorithm.clear()),
     way(1, "inner algorithm a SET", |c, _| c.algorithm = vec![0x31, 0]),
     way(1, "no outer algorithm", |c, _| c.envelope.outer_algorithm.clear()),
-    way(1, "outer algorithm a SET", |c, _| tag(&mut c.envelope.outer_algorithm, 0x31)),
+    way(1, "outer algorithm an application element", |c, _| tag(&mut c.envelope.outer_algorithm, 0x71)),
     way(1, "signature an OCTET STRING", |c, _| tag(&mut c.envelope.signature, 4)),
     way(1, "no signature", |c, _| c.envelope.signature.clear()),
     way(1, "more after the signature", |c, _| c.envelope.after_signature = vec![5, 0]),

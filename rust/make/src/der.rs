@@ -46,8 +46,10 @@ pub fn sequence(members: &[&[u8]]) -> Vec<u8> {
     around(SEQUENCE, members)
 }
 
-pub fn set(members: &[&[u8]]) -> Vec<u8> {
-    around(SET, members)
+/// A SET of these members, in ascending order.
+pub fn set(mut members: Vec<Vec<u8>>) -> Vec<u8> {
+    members.sort();
+    element(SET, &members.concat())
 }
 
 /// An INTEGER with these contents.

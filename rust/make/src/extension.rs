@@ -1,6 +1,6 @@
 //! Extensions of certificates and CRLs.
 
-use crate::der::{around, element, octet_string, oid, push_header, sequence, OCTET_STRING, OID, SEQUENCE};
+use crate::der::{around, element, octet_string, oid, push_header, sequence, set, OCTET_STRING, OID, SEQUENCE};
 use crate::random::Random;
 
 /// The OID 2.5.29.x.
@@ -122,7 +122,7 @@ pub const BAD_SHAPE: &[fn() -> Vec<u8>] = &[
     || sequence(&[&octet_string(b"x")]),
     || sequence(&[&[2, 1, 5], &octet_string(b"x")]),
     || sequence(&[]),
-    || around(0x31, &[&oid(&known(54)), &octet_string(b"x")]),
+    || set(vec![oid(&known(54)), octet_string(b"x")]),
     || vec![5, 0],
     || around(0xA0, &[&oid(&known(54)), &octet_string(b"x")]),
 ];

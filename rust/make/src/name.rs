@@ -1,6 +1,6 @@
 //! Names.
 
-use crate::der::{around, element, oid, sequence, OID, PRINTABLE_STRING, SEQUENCE, SET, UTF8_STRING};
+use crate::der::{around, element, oid, sequence, set, OID, PRINTABLE_STRING, SEQUENCE, SET, UTF8_STRING};
 use crate::random::Random;
 
 /// countryName, 2.5.4.6.
@@ -72,17 +72,15 @@ pub fn varied(random: &mut Random, letters: [u8; 2]) -> Vec<u8> {
     }
     if random.percent(10) {
         // The country inside a SET of several.
-        parts[0] = element(
-            SET,
-            &[attribute(COMMON, UTF8_STRING, b"x"), attribute(COUNTRY, PRINTABLE_STRING, &letters)].concat(),
-        );
+        let other = attribute(COMMON, UTF8_STRING, random.pick::<&[u8]>(&[b"x", b"xy", b"xyz"]));
+        parts[0] = set(vec![other, attribute(COUNTRY, PRINTABLE_STRING, &letters)]);
     }
     random.shuffle(&mut parts);
     element(SEQUENCE, &parts.concat())
 }
 
 fn set_of_two(kind: &[u8], text: &[u8]) -> Vec<u8> {
-    around(SET, &[&attribute(kind, UTF8_STRING, text), &attribute(COMMON, PRINTABLE_STRING, b"two")])
+    set(vec![attribute(kind, UTF8_STRING, text), attribute(COMMON, PRINTABLE_STRING, b"two")])
 }
 
 /// Names that keep the shape and have no good country.
@@ -121,11 +119,9 @@ pub const BAD_SHAPE: &[Way] = &[
     |letters| sequence(&[&country(letters), &element(SET, &sequence(&[&oid(COMMON)]))]),
     |letters| sequence(&[&country(letters), &element(SET, &[SEQUENCE, 0])]),
     |letters| sequence(&[&country(letters), &element(SET, &sequence(&[&oid(COMMON), &[5, 0], &[5, 0]]))]),
-    |letters| sequence(&[&country(letters), &element(SET, &around(SET, &[&oid(COMMON), &[5, 0]]))]),
+    |letters| sequence(&[&country(letters), &element(SET, &set(vec![oid(COMMON), vec![5, 0]]))]),
     |letters| sequence(&[&country(letters), &element(SET, &sequence(&[&[2, 1, 5], &[5, 0]]))]),
-    |letters| {
-        sequence(&[&country(letters), &element(SET, &[attribute(COMMON, UTF8_STRING, b"x"), vec![5, 0]].concat())])
-    },
+    |letters| sequence(&[&country(letters), &set(vec![attribute(COMMON, UTF8_STRING, b"x"), vec![5, 0]])]),
     |letters| sequence(&[&country(letters), &[5, 0]]),
     |letters| element(0xA0, &country(letters)),
     |letters| element(4, &country(letters)),

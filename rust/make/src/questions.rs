@@ -106,8 +106,9 @@ impl Source {
         match random.below(40) {
             0 => tree::many(random),
             1 => tree::big(random),
-            2..=6 => tree::deep(random),
-            7..=20 => tree::small(random),
+            2..=5 => tree::deep(random),
+            6..=8 => tree::alike(random),
+            9..=20 => tree::small(random),
             21..=24 => {
                 let length = random.below(12);
                 random.octets(length)

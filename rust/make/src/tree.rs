@@ -15,13 +15,58 @@ fn tree(random: &mut Random, depth: usize, room: &mut usize) -> Vec<u8> {
     if depth <= 1 || *room == 0 || random.percent(40) {
         return leaf(random);
     }
-    let mut contents = Vec::new();
-    for _ in 0..random.below(6) {
-        contents.extend(tree(random, depth - 1, room));
-    }
+    let mut members: Vec<_> = (0..random.below(6)).map(|_| tree(random, depth - 1, room)).collect();
     let id = *random.pick(&[SEQUENCE, SEQUENCE, SEQUENCE, SET, SET, 0xA0, 0xA3, 0x61, 0xFE]);
     let id = if random.percent(1) { random.octet() } else { id };
-    element(id, &contents)
+    if id == SET {
+        order(random, &mut members);
+    }
+    element(id, &members.concat())
+}
+
+/// The members of a SET: sometimes one that is near another among them, most
+/// often in ascending order.
+fn order(random: &mut Random, members: &mut Vec<Vec<u8>>) {
+    if !members.is_empty() && random.percent(30) {
+        let mut near = members[random.below(members.len())].clone();
+        if let (Some(last), true) = (near.last_mut(), random.percent(60)) {
+            *last ^= 1 << random.below(8);
+        }
+        members.push(near);
+    }
+    if random.percent(90) {
+        members.sort();
+    }
+    if members.len() > 1 && random.percent(15) {
+        let at = random.below(members.len() - 1);
+        members.swap(at, at + 1);
+    }
+}
+
+/// A SET of strings that differ in few octets, perhaps inside others; in about
+/// half of them two neighbours are exchanged.
+pub fn alike(random: &mut Random) -> Vec<u8> {
+    let (id, length, filling) = (*random.pick(&[4, 12, 0x80]), random.below(70), random.octet());
+    let mut members: Vec<_> = (0..random.between(2, 6))
+        .map(|_| {
+            let mut text = vec![filling; if random.percent(15) { random.below(70) } else { length }];
+            if !text.is_empty() && random.percent(80) {
+                let at = random.below(text.len());
+                text[at] = random.octet();
+            }
+            element(id, &text)
+        })
+        .collect();
+    members.sort();
+    if random.percent(50) {
+        let at = random.below(members.len() - 1);
+        members.swap(at, at + 1);
+    }
+    let mut tree = element(SET, &members.concat());
+    for _ in 0..random.below(3) {
+        tree = element(*random.pick(&[SEQUENCE, SET, 0xA0]), &tree);
+    }
+    tree
 }
 
 /// Good primitive elements.
@@ -136,7 +181,7 @@ pub fn many(random: &mut Random) -> Vec<u8> {
         let at = contents.len() - 2 * random.between(1, 3);
         contents[at] = *random.pick(&[6, 0x1F, 0x30, 2]);
     }
-    element(SEQUENCE, &contents)
+    element(*random.pick(&[SEQUENCE, SEQUENCE, SET]), &contents)
 }
 
 /// An item of 16,380 to 16,388 bytes.

@@ -306,5 +306,5 @@ fn document_types(value: &[u8]) -> Option<()> {
         count += 1;
         rest = string.after;
     }
-    (count <= der::COUNT_LIMIT).then_some(())
+    (count <= der::COUNT_LIMIT && der::unsorted(set.contents).is_none()).then_some(())
 }

@@ -1,6 +1,7 @@
 //! DER: one element's header and contents, and the walk over a tree.
 
 use crate::refusal::Refusal;
+use std::cmp::Ordering;
 
 /// The longest item that is read.
 pub(crate) const ITEM_LIMIT: usize = 16_384;
@@ -166,13 +167,75 @@ pub(crate) fn bit_string_good(contents: &[u8]) -> bool {
     }
 }
 
+/// Whether one encoding is smaller than another, octet by octet, the shorter
+/// padded with zero octets. Most differ in their headers.
+fn smaller(a: &[u8], b: &[u8]) -> bool {
+    if let ([a0, a1, ..], [b0, b1, ..]) = (a, b) {
+        if (a0, a1) != (b0, b1) {
+            return (a0, a1) < (b0, b1);
+        }
+    }
+    let common = a.len().min(b.len());
+    match a[..common].cmp(&b[..common]) {
+        Ordering::Less => true,
+        Ordering::Equal => b[common..].iter().any(|octet| *octet != 0),
+        Ordering::Greater => false,
+    }
+}
+
+/// Where the first member of a SET starts that is smaller than the one before
+/// it, as far as headers can be read: none in a SET of one member.
+#[inline(always)]
+pub(crate) fn unsorted(contents: &[u8]) -> Option<&[u8]> {
+    match contents {
+        [_, length @ 0..=0x7F, tail @ ..] if tail.len() <= *length as usize => None,
+        _ => descent(contents),
+    }
+}
+
+#[cold]
+fn descent(contents: &[u8]) -> Option<&[u8]> {
+    let mut last = contents;
+    let mut rest = split(contents)?.after;
+    while let Some(element) = split(rest) {
+        if smaller(&rest[..rest.len() - element.after.len()], &last[..last.len() - rest.len()]) {
+            return Some(rest);
+        }
+        (last, rest) = (rest, element.after);
+    }
+    None
+}
+
 /// Walks the first element of `rest`, which is at `depth`, and all below it,
 /// adding to `count`. Gives what stands after it, or the first fault, with
 /// offsets in `item`, of which `rest` is a part.
 pub(crate) fn tree<'a>(item: &'a [u8], rest: &'a [u8], depth: usize, count: &mut usize) -> Result<&'a [u8], Refusal> {
+    match elements::<false>(item, rest, depth, count) {
+        Err(Refusal::UNSORTED) => tree_unsorted(item, rest, depth, count),
+        read => read,
+    }
+}
+
+/// The same where a SET is out of order: the walk anew, up to the member that
+/// is too small or to a fault before it.
+#[cold]
+fn tree_unsorted<'a>(item: &'a [u8], rest: &'a [u8], depth: usize, count: &mut usize) -> Result<&'a [u8], Refusal> {
+    elements::<true>(item, rest, depth, count)
+}
+
+#[inline(always)]
+fn elements<'a, const UNSORTED: bool>(
+    item: &'a [u8],
+    rest: &'a [u8],
+    depth: usize,
+    count: &mut usize,
+) -> Result<&'a [u8], Refusal> {
     // What stands after each open element.
     let mut open: [&[u8]; DEPTH_LIMIT + 1] = [&[]; DEPTH_LIMIT + 1];
     let (mut rest, top, mut depth, mut read) = (rest, depth, depth, *count);
+    // Where the first member out of order stands, of those in the SETs that
+    // were opened: it is refused when the walk comes to it.
+    let mut fallen = usize::MAX;
     loop {
         let Some(Element { id, contents, after }) = split(rest) else {
             return Err(Refusal::der(offset(item, rest)));
@@ -183,8 +246,19 @@ pub(crate) fn tree<'a>(item: &'a [u8], rest: &'a [u8], depth: usize, count: &mut
         if depth > DEPTH_LIMIT || read >= COUNT_LIMIT {
             return Err(Refusal::limit(offset(item, rest)));
         }
+        if UNSORTED && offset(item, rest) == fallen {
+            return Err(Refusal::der(fallen));
+        }
         read += 1;
         if id & CONSTRUCTED != 0 && !contents.is_empty() {
+            if id == SET {
+                if let Some(member) = unsorted(contents) {
+                    if !UNSORTED {
+                        return Err(Refusal::UNSORTED);
+                    }
+                    fallen = fallen.min(offset(item, member));
+                }
+            }
             open[depth] = after;
             depth += 1;
             rest = contents;

@@ -1,12 +1,13 @@
 //! Names and their country.
 
-use crate::der::{split, PRINTABLE_STRING, SEQUENCE, SET};
+use crate::der::{split, unsorted, PRINTABLE_STRING, SEQUENCE, SET};
 use crate::reader::Reader;
 
 /// countryName, 2.5.4.6.
 const COUNTRY_NAME: [u8; 3] = [0x55, 0x04, 0x06];
 
-/// A name: a SEQUENCE of non-empty SETs of SEQUENCE {OID, one element}.
+/// A name: a SEQUENCE of non-empty SETs of SEQUENCE {OID, one element}, which
+/// ascend.
 #[derive(Clone, Copy)]
 pub(crate) struct Name<'a> {
     /// The whole element.
@@ -20,7 +21,7 @@ pub(crate) struct Name<'a> {
 #[inline]
 pub(crate) fn name<'a>(reader: &mut Reader<'a>) -> Option<Name<'a>> {
     let before = reader.rest();
-    let (mut countries, mut country) = (0, None);
+    let (mut countries, mut country, mut several) = (0, None, false);
     let outer = reader.enter(SEQUENCE)?;
     while !reader.at_end() {
         let in_name = reader.enter(SET)?;
@@ -37,12 +38,29 @@ pub(crate) fn name<'a>(reader: &mut Reader<'a>) -> Option<Name<'a>> {
             if reader.at_end() {
                 break;
             }
+            several = true;
         }
         reader.leave(in_name)?;
     }
     reader.leave(outer)?;
-    let country = if countries == 1 { country } else { None };
-    Some(Name { whole: reader.since(before), country })
+    let (country, whole) = (if countries == 1 { country } else { None }, reader.since(before));
+    if several && out_of_order(whole) {
+        return None;
+    }
+    Some(Name { whole, country })
+}
+
+/// Whether a SET of a name is out of order.
+#[cold]
+fn out_of_order(name: &[u8]) -> bool {
+    let mut rest = split(name).map_or(&[][..], |name| name.contents);
+    while let Some(set) = split(rest) {
+        if unsorted(set.contents).is_some() {
+            return true;
+        }
+        rest = set.after;
+    }
+    false
 }
 
 /// The letters of a PrintableString of two letters A to Z.

@@ -30,6 +30,9 @@ impl Refusal {
         Refusal::new(2, at as u64)
     }
 
+    /// No refusal: a SET is out of order, and the walk has to go anew.
+    pub const UNSORTED: Refusal = Refusal::new(0, 0);
+
     /// 3: the walk passes a limit at the element at this offset.
     pub const fn limit(at: usize) -> Refusal {
         Refusal::new(3, at as u64)

@@ -70,6 +70,37 @@ fn count() {
 }
 
 #[test]
+fn members_of_a_set() {
+    passes(&[0x31, 6, 0x13, 1, 0x44, 0x13, 1, 0x50], 3);
+    passes(&[0x31, 6, 0x13, 1, 0x44, 0x13, 1, 0x44], 3);
+    refused(&[0x31, 6, 0x13, 1, 0x50, 0x13, 1, 0x44], 2, 5);
+    passes(&[0x30, 6, 0x13, 1, 0x50, 0x13, 1, 0x44], 3);
+    passes(&[0xB1, 6, 0x13, 1, 0x50, 0x13, 1, 0x44], 3);
+    // Each against the one before it, not against the first.
+    refused(&[0x31, 6, 4, 0, 5, 0, 4, 0], 2, 6);
+    // A shorter member comes first by its length octet.
+    passes(&[0x31, 7, 0x13, 1, 0x50, 0x13, 2, 0x41, 0x41], 3);
+    refused(&[0x31, 7, 0x13, 2, 0x41, 0x41, 0x13, 1, 0x50], 2, 6);
+    // Told before its contents, and after its end.
+    refused(&[0x31, 5, 4, 0, 1, 1, 5], 2, 4);
+    refused(&[0x31, 4, 4, 0, 1, 1], 2, 4);
+    // A SET in a SET: the inner one first.
+    refused(&[0x31, 8, 0x31, 4, 5, 0, 4, 0, 5, 0], 2, 6);
+    refused(&[0x31, 6, 0x31, 2, 5, 0, 5, 0], 2, 6);
+    passes(&[0x31, 8, 0x31, 2, 5, 0, 0x31, 2, 5, 0], 5);
+}
+
+#[test]
+fn a_set_at_the_limits() {
+    let mut item = nulls(4_096);
+    item[0] = 0x31;
+    item[4 + 2 * 4_095] = 4;
+    refused(&item, 3, 4 + 2 * 4_095);
+    item[4 + 2 * 4_094] = 4;
+    refused(&item, 2, 4 + 2 * 4_094);
+}
+
+#[test]
 fn size() {
     let mut item = vec![0x04, 0x82, 0x3F, 0xFC];
     item.resize(16_384, 0);

@@ -3,6 +3,7 @@
 use crate::fault;
 use crate::files::Item;
 use crate::json::{object, Json};
+use crate::oids;
 use crate::text::wrapped;
 use crate::tree;
 use vrbolist::Refusal;
@@ -39,7 +40,7 @@ const CERTIFICATE: [&str; 14] = [
     "privateKeyUsagePeriod, subjectAltName, issuerAltName and cRLDistributionPoints (2.5.29.16, .17, .18, .31) are there \
      and not critical.",
     "Document type list (2.23.136.1.1.6.2): a document signer has it, not critical: a SEQUENCE of INTEGER 0 and a SET of \
-     PrintableStrings of one or two letters.",
+     PrintableStrings of one or two letters, which ascend.",
     "Critical: no extension is critical but keyUsage and basicConstraints.",
 ];
 
@@ -94,10 +95,16 @@ pub fn short(refusal: Refusal) -> String {
 pub fn paragraphs(judged: Judged, refusal: Refusal, bytes: &[u8]) -> Vec<String> {
     match refusal.number {
         2 | 3 => at_byte(refusal, bytes),
-        4 => vec![
-            format!("Broken is rule {} of the {} profile.", refusal.detail, profile(judged)),
-            said(judged, refusal),
-        ],
+        4 => {
+            let mut words = vec![
+                format!("Broken is rule {} of the {} profile.", refusal.detail, profile(judged)),
+                said(judged, refusal),
+            ];
+            if judged == Judged::Certificate && refusal.detail == 13 {
+                words.extend(types_out_of_order(bytes));
+            }
+            words
+        }
         5 => vec![format!("Broken is rule {} of the trust image.", refusal.detail), said(judged, refusal)],
         _ => vec![refusal.to_string()],
     }
@@ -108,6 +115,18 @@ pub fn of_item(judged: Judged, refusal: Refusal, item: &Item) -> Vec<String> {
     let mut words = paragraphs(judged, refusal, &item.bytes);
     words.extend(item.note.map(|note| format!("Note: {note}.")));
     words
+}
+
+/// Which two types of a document type list are out of order.
+fn types_out_of_order(bytes: &[u8]) -> Option<String> {
+    let nodes = tree::read(bytes, bytes.len()).nodes;
+    let named = nodes.iter().position(|node| node.tag == 6 && node.contents(bytes) == oids::DOCUMENT_TYPES)?;
+    let list = nodes.iter().skip(named).find(|node| node.tag == 4)?;
+    let inside = list.contents(bytes);
+    let start = list.at + list.header;
+    let sets = tree::read(inside, inside.len()).nodes;
+    let said = sets.iter().find_map(|set| fault::first_out_of_order(inside, set, start))?;
+    Some(format!("Here {said}."))
 }
 
 fn said(judged: Judged, refusal: Refusal) -> String {

@@ -1,10 +1,13 @@
 //! Words for a fault of DER at the byte that the library told.
 
 use crate::text::{counted, octets};
-use crate::tree::{tag_name, Reading};
+use crate::tree::{members, tag_name, Node, Reading};
 use vrbolist::Refusal;
 
+const SET: u8 = 0x31;
 const ITEM_MOST: usize = 16_384;
+/// As many octets of a member are shown.
+const FRONT: usize = 12;
 const DEEPEST: usize = 16;
 const ELEMENTS_MOST: usize = 4_096;
 
@@ -39,6 +42,7 @@ fn der(bytes: &[u8], at: usize, reading: &Reading) -> String {
     };
     identifier(tag)
         .or_else(|| length(held, reading.depth == 1))
+        .or_else(|| order(bytes, at, reading))
         .or_else(|| contents(tag, held))
         .unwrap_or_else(|| "this element is not DER".to_string())
 }
@@ -82,6 +86,46 @@ fn length(held: &[u8], outermost: bool) -> Option<String> {
         false => format!("what holds it has only {} left", counted(left, "byte")),
     };
     (length > left).then(|| format!("its length is {length}, but {left_words}"))
+}
+
+/// The element against the one before it, where both are members of a SET.
+fn order(bytes: &[u8], at: usize, reading: &Reading) -> Option<String> {
+    let holder = reading.nodes.iter().rev().find(|node| node.depth + 1 == reading.depth)?;
+    let place = members(bytes, holder).iter().position(|member| member.at == at)?;
+    out_of_order(bytes, holder, place, 0)
+}
+
+/// Words for the first member of a SET that is smaller than the one before it. Bytes are told as from `start` on.
+pub fn first_out_of_order(bytes: &[u8], holder: &Node, start: usize) -> Option<String> {
+    (1..members(bytes, holder).len()).find_map(|place| out_of_order(bytes, holder, place, start))
+}
+
+fn out_of_order(bytes: &[u8], holder: &Node, place: usize, start: usize) -> Option<String> {
+    let found = members(bytes, holder);
+    let (before, this) = (found.get(place.checked_sub(1)?)?, found.get(place)?);
+    let (high, low) = (before.whole(bytes), this.whole(bytes));
+    let differ = low.iter().zip(high).position(|(a, b)| a != b)?;
+    let smaller = holder.tag == SET && low.get(differ) < high.get(differ);
+    smaller.then(|| {
+        format!(
+            "the members of a SET ascend, but of the SET at byte {} member {}, {}, is below member {place} at byte {}, {}: \
+             octet {} differs first",
+            start + holder.at,
+            place + 1,
+            front(low),
+            start + before.at,
+            front(high),
+            differ + 1,
+        )
+    })
+}
+
+/// The first octets of an element.
+fn front(octets: &[u8]) -> String {
+    match octets.get(..FRONT) {
+        Some(first) if octets.len() > FRONT => format!("{} ..", crate::text::octets(first)),
+        _ => crate::text::octets(octets),
+    }
 }
 
 fn contents(tag: u8, held: &[u8]) -> Option<String> {

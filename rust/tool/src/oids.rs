@@ -2,6 +2,9 @@
 
 use crate::text::hex;
 
+/// 2.23.136.1.1.6.2, the document type list.
+pub const DOCUMENT_TYPES: [u8; 7] = [0x67, 0x81, 0x08, 0x01, 0x01, 0x06, 0x02];
+
 const KNOWN: &[(&str, &str)] = &[
     ("0.4.0.127.0.7.1.1.4.1.3", "ecdsa-plain-SHA256"),
     ("1.2.840.10040.4.1", "dsa"),

@@ -33,6 +33,15 @@ fn items() {
     held("item-cut.txt", &bench.line("item cut.der --as link"));
 }
 
+/// An item with the two types of its document type list exchanged.
+fn turned(item: &[u8]) -> Vec<u8> {
+    let types = b"\x13\x01P\x13\x02ID";
+    let at = item.windows(types.len()).position(|part| part == types).unwrap();
+    let mut item = item.to_vec();
+    item[at..at + types.len()].rotate_left(3);
+    item
+}
+
 #[test]
 fn trees() {
     let bench = Bench::new("expected-trees");
@@ -40,6 +49,12 @@ fn trees() {
     bench.write("fault.der", &[0x30, 0x0b, 0x30, 0x06, 0x01, 0x01, 0xff, 0x01, 0x01, 0x05, 0x02, 0x01, 0x07]);
     held("walk-fault.txt", &bench.line("walk fault.der"));
     held("walk-json.txt", &bench.line("walk fault.der --json"));
+    bench.write("set.der", &[0x31, 0x0d, 0x13, 0x01, 0x50, 0x13, 0x02, 0x49, 0x44, 0x13, 0x02, 0x41, 0x43, 0x05, 0x00]);
+    held("walk-set.txt", &bench.line("walk set.der"));
+    held("walk-set-json.txt", &bench.line("walk set.der --json"));
+    let signer = std::fs::read(common::root().join(MADE).join("ut-signer-5.der")).unwrap();
+    bench.write("types.der", &turned(&signer));
+    held("item-types.txt", &bench.line("item types.der --as signer"));
 }
 
 #[test]

@@ -82,6 +82,10 @@ fn refusals_2_and_3_of_bytes() {
         (&[0, 0], 2, 0, "universal tag 0"),
         (&[0x10, 0], 2, 0, "must be constructed"),
         (&[0x22, 0], 2, 0, "must be primitive"),
+        (&[0x31, 6, 0x13, 1, 0x50, 0x13, 1, 0x44], 2, 5, "below member 1 at byte 2, 13 01 50"),
+        (&[0x31, 6, 2, 1, 5, 1, 1, 5], 2, 5, "octet 1 differs first"),
+        (&[0x31, 6, 1, 1, 0, 1, 1, 5], 2, 5, "00 or FF"),
+        (&[0x30, 8, 0x31, 6, 5, 0, 5, 0, 4, 0], 2, 8, "SET at byte 2 member 3, 04 00"),
     ];
     for (bytes, number, at, words) in cases {
         bench.write("x.der", bytes);

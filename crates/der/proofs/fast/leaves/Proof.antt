@@ -1,5 +1,6 @@
 -- Each turn reads one leaf more, or goes into the last element; a leaf that ends too far ends the loop.
 use Prim.Native.Nat.{ℕ, _+_, _-_, _*_, _≤_, _<_}
+use mathlib.Core.Bool.{false}
 use mathlib.Core.List.{List}
 use mathlib.Core.Path.{_≡_, subst}
 use native.Mathlib.Omega.{arith}
@@ -15,7 +16,7 @@ use Rattle.der.proofs.fast.leaves.Tie as tie
 abbrev Left : List ℕ → ℕ → ℕ → ℕ → ℕ → ℕ → ℕ → ℕ → Type 0
 Left s from end left count i read deep =
     (forms : Forms) → count + 63 ≤ forms .elements → left ≤ forms .depth
-    → (m : ℕ) → Fills forms (stretch s i end) (forms .depth + 1 - deep) read m → Fills forms (stretch s from end) (forms .depth + 1 - left) count m
+    → (m : ℕ) → Fills forms false (stretch s i end) (forms .depth + 1 - deep) read m → Fills forms false (stretch s from end) (forms .depth + 1 - left) count m
 
 abbrev Inv-loop : tie.InvT-loop
 Inv-loop s from end left count i₀ read₀ deep₀ i read deep =
@@ -24,14 +25,23 @@ Inv-loop s from end left count i₀ read₀ deep₀ i read deep =
 abbrev μ-loop : tie.MeasureT-loop
 μ-loop s from end left count i₀ read₀ deep₀ i read deep = end - i
 
-module _ (s : List ℕ) (from end left count i read deep : ℕ) (inside : end ≤ length s) (two : i + 2 ≤ end) (few : read < count + 63) (above : deep ≤ left) (rest : Left s from end left count i read deep) where
-  one-more : (r : ℕ) → 1 ≤ deep → ((forms : Forms) (depth count : ℕ) → depth ≤ forms .depth → count < forms .elements → Reads forms (stretch s i end) depth count (r - i) (count + 1)) → Left s from end left count r (read + 1) deep
-  one-more r some f forms room levels m p = rest forms room levels m (reads-on forms s i end two inside (forms .depth + 1 - deep) read r (read + 1) m (f forms (forms .depth + 1 - deep) read (omega arith) (omega arith)) p)
+module _ (s : List ℕ) (from end left count i read deep : ℕ) (inside : end ≤ length s) (two : i + 2 ≤ end) (few : read < count + 63)
+    (above : deep ≤ left) (rest : Left s from end left count i read deep) where
+  one-more : (r : ℕ) → 1 ≤ deep → ((forms : Forms) (depth count : ℕ) → depth ≤ forms .depth → count < forms .elements → Reads forms
+      (stretch s i end) depth count (r - i) (count + 1)) → Left s from end left count r (read + 1) deep
+  one-more r some f forms room levels m p = rest forms room levels m (reads-on forms s i end two inside (forms .depth + 1 - deep) read r (read + 1) m
+      (f forms (forms .depth + 1 - deep) read (omega arith) (omega arith)) p)
 
   into : 2 ≤ deep → end ≤ i + 127 → Last s i end → Left s from end left count (i + 2) (read + 1) (deep - 1)
   into some short l forms room levels m p =
       let deeper : forms .depth + 1 - (deep - 1) ≡ forms .depth + 1 - deep + 1 = omega arith in
-      rest forms room levels m (last-fills forms s i end two inside (l .tag) (forms .depth + 1 - deep) read m (omega arith) (omega arith) (l .ends) (omega (arith, l .ends)) (subst (λ n. Fills forms (stretch s (i + 2) end) n (read + 1) m) deeper p))
+      rest forms room levels m
+      (last-fills forms s i end two inside (forms .depth + 1 - deep) read m (omega arith) (omega arith) l (omega (arith, l .ends))
+      (subst (λ n. Fills forms false (stretch s (i + 2) end) n (read + 1) m) deeper p) false)
+
+-- the turn in which the last element is looked for
+abbrev turn : tie.After-last Inv-loop μ-loop → tie.In-loop Inv-loop μ-loop
+turn c = c .before .before .before
 
 last-requires : tie.Need-last-requires Inv-loop μ-loop
 last-requires c κs = omega arith
@@ -41,12 +51,12 @@ sub-deep c = omega arith
 
 add-read : tie.Need-add-read Inv-loop μ-loop
 add-read c =
-    let here = c .before .before .before .before .before .before .loop in
+    let here = turn (c .before .before) .before .loop in
     omega (arith, here .inv .4 (omega arith) .0)
 
 loop-again : tie.Need-loop-again Inv-loop μ-loop
 loop-again c =
-    let test = c .before .before .before .before .before in
+    let test = turn (c .before .before) in
     let here = test .before .loop in
     let start = test .before .before .before in
     let so = here .inv .4 (omega arith) in
@@ -59,7 +69,8 @@ loop-again c =
       omega arith,
       λ h. (
         omega arith,
-        into _ (start .args .from) (start .args .end) (start .args .left) _ (here .i) (here .read) (here .deep) (start .pre .2) (test .loop-test .taken) few (here .inv .3) (so .1) (omega arith) (omega arith) l,
+        into _ (start .args .from) (start .args .end) (start .args .left) _ (here .i) (here .read) (here .deep) (start .pre .2)
+            (test .loop-test .taken) few (here .inv .3) (so .1) (omega arith) (omega arith) l,
       ),
     )
 
@@ -68,7 +79,8 @@ leaf-requires c κs = omega arith
 
 add-read-2 : tie.Need-add-read-2 Inv-loop μ-loop
 add-read-2 c =
-    let here = c .before .before .before .before .before .loop in
+    let test = c .before .before .before .before in
+    let here = test .before .loop in
     omega (arith, here .inv .4 (omega arith) .0)
 
 loop-less-2 : tie.Need-loop-less-2 Inv-loop μ-loop
@@ -91,7 +103,8 @@ loop-again-2 c =
       omega arith,
       λ h. (
         omega arith,
-        one-more _ (start .args .from) (start .args .end) (start .args .left) _ (here .i) (here .read) (here .deep) (start .pre .2) (test .loop-test .taken) few (here .inv .3) (so .1) r (here .inv .2) (far .1 h),
+        one-more _ (start .args .from) (start .args .end) (start .args .left) _ (here .i) (here .read) (here .deep) (start .pre .2)
+            (test .loop-test .taken) few (here .inv .3) (so .1) r (here .inv .2) (far .1 h),
       ),
     )
 
@@ -99,7 +112,8 @@ returns-4 : tie.Need-returns-4 Inv-loop μ-loop
 returns-4 c = λ some forms room levels.
     let here = c .before .before .loop in
     let start = c .before .before .before .before in
-    here .inv .4 (omega arith) .1 forms room levels _ (rw (c .if5 .taken) (fills-none forms _ (start .args .end) (forms .depth + 1 - here .deep) _ (start .pre .2)))
+    here .inv .4 (omega arith) .1 forms room levels _ (rw (c .if5 .taken) (fills-none forms _ (start .args .end) (forms .depth + 1 - here .deep) _
+    (start .pre .2)))
 
 pub leaves-spec : {M : Type 1} → statement M
 leaves-spec =
