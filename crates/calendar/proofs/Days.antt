@@ -1,5 +1,5 @@
 -- Laws of days and months: a day is its three parts, and a real day's parts lie in their bounds.
-use mathlib.Core.Path.{_≡_, refl, sym, subst}
+use mathlib.Core.Path.{_≡_, refl, sym, subst, _∙_}
 use mathlib.Core.Bool.{Bool, true, false, _&&_, _||_, and-eq-true-iff}
 use mathlib.Core.Logic.{⊎-elim}
 use Prim.Native.Nat.{ℕ, zero, suc, _+_, _/_, _%_, _≤_, _<_}
@@ -75,11 +75,11 @@ pub february-common : (y : ℕ) → leap y ≡ false → february y ≡ 28
 unfolding february
 february-common y e = rw e
 
-pub february-between : (y : ℕ) → (1 ≤ february y) × (february y ≤ 29)
+pub february-between : (y : ℕ) → (28 ≤ february y) × (february y ≤ 29)
 february-between y =
     by-test (leap y) (λ e. omega (arith, february-leap y e)) (λ e. omega (arith, february-common y e))
 
-pub length-least : (y m : ℕ) → 1 ≤ m → m ≤ 12 → 1 ≤ monthLength y m
+pub length-least : (y m : ℕ) → 1 ≤ m → m ≤ 12 → 28 ≤ monthLength y m
 length-least y m low high =
     by-test (eqb m 2) (λ e. omega (arith, length-two y m (eqb-true m 2 e), february-between y))
     (λ e. omega (arith, length-rule y m low high (eqb-false m 2 e)))
@@ -141,3 +141,20 @@ real-on from to y m d since until low high d₁ d₂ =
       le-leb _ _ d₁,
       le-leb _ _ d₂,
     )
+
+-- what breaks a bound is not real
+pub not-real : (from to day : ℕ) → (Real from to day → ⊥) → realDay from to day ≡ false
+not-real from to day never = by-test (realDay from to day) (λ t. absurd (never (real from to day t))) (λ f. f)
+
+-- of a year asked for, a day is real by the length of its month
+pub by-length : (from to day : ℕ) → from ≤ yearOf day → yearOf day ≤ to → 1 ≤ dayOf day
+    → realDay from to day ≡ leb (dayOf day) (monthLength (yearOf day) (monthOf day))
+unfolding realDay
+by-length from to day since until low = simp (le-leb _ _ since, le-leb _ _ until, le-leb _ _ low)
+
+-- every month has its first 28 days
+pub to-28 : (from to day : ℕ) → from ≤ yearOf day → yearOf day ≤ to → 1 ≤ monthOf day → monthOf day ≤ 12
+    → 1 ≤ dayOf day → dayOf day ≤ 28 → realDay from to day ≡ true
+to-28 from to day since until month-low month-high low high =
+    let least = length-least (yearOf day) (monthOf day) month-low month-high in
+    by-length from to day since until low ∙ le-leb (dayOf day) (monthLength (yearOf day) (monthOf day)) (omega arith)

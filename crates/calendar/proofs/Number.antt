@@ -1,67 +1,16 @@
--- Laws of the day number: it adds up whole years and whole months, and of 1950 to 2099 each fourth year is a leap year.
+-- Laws of the day number: it adds up whole years and whole months, so it grows with the day, by one from each day to the next.
 use mathlib.Core.Path.{_≡_, refl, sym, _∙_, ap}
-use mathlib.Core.Bool.{Bool, true, cond}
+use mathlib.Core.Bool.{true}
 use mathlib.Core.Logic.{⊎-elim}
-use Prim.Native.Nat.{ℕ, zero, suc, _+_, _-_, _*_, _/_, _%_, _≤_, _<_}
+use Prim.Native.Nat.{ℕ, zero, suc, _+_, _-_, _≤_, _<_}
 use native.Mathlib.Nat.{le-of-suc-le-suc, eq-or-lt-of-le, le-trans, le-refl}
 use native.Mathlib.Omega.{arith}
-use lib.Dec.{ltb, eqb}
-use borrow.Author.Tests.{ltb-true, ltb-false, eqb-true, eqb-false, eq-eqb, ne-eqb}
+use lib.Dec.{ltb}
+use borrow.Author.Tests.{ltb-true, ltb-false}
 use Rattle.calendar.specs.Days.{leap, february, monthLength, realDay, yearOf, monthOf, dayOf}
 use Rattle.calendar.specs.Number.{daysOfMonths, daysOfYears, dayNumber, dayOn, dayAfter}
-use Rattle.calendar.proofs.Days.{by-test, passes-at, year-on, month-on, day-on, Real, real, real-on}
-use Rattle.calendar.proofs.Days.{length-rule, length-least, length-most, february-between, february-leap, february-common}
-
--- of 1950 to 2099 each fourth year is a leap year, since 2000 is one
-pub leap-fourth : (y : ℕ) → 1950 ≤ y → y ≤ 2099 → leap y ≡ eqb (y % 4) 0
-unfolding leap
-leap-fourth y low high =
-    by-test (eqb (y % 4) 0)
-    (λ e. by-test (eqb (y % 100) 0)
-    (λ f. simp (e, f, eq-eqb (y % 400) 0 (omega (arith, eqb-true (y % 100) 0 f))))
-    (λ f. simp (e, f)))
-    (λ e. simp e)
-
-pub year-length : (y : ℕ) → daysOfMonths y 12 ≡ 337 + february y
-unfolding daysOfMonths monthLength
-year-length y = omega arith
-
--- the days of the first k years, without a sum
-pub years : (k : ℕ) → k ≤ 150 → daysOfYears k ≡ 365 * k + (k + 1) / 4
-unfolding daysOfYears
-years zero h = refl
-years (suc k) h =
-    let before : daysOfYears k ≡ 365 * k + (k + 1) / 4 = years k (omega arith) in
-    let fourth : leap (1950 + k) ≡ eqb ((1950 + k) % 4) 0 = leap-fourth (1950 + k) (omega arith) (omega arith) in
-    by-test (eqb ((1950 + k) % 4) 0)
-    (λ e. omega (arith, eqb-true ((1950 + k) % 4) 0 e, year-length (1950 + k), february-leap (1950 + k) (fourth ∙ e)))
-    (λ e. omega (arith, eqb-false ((1950 + k) % 4) 0 e, year-length (1950 + k), february-common (1950 + k) (fourth ∙ e)))
-
--- the days before a month of a year without a leap day: 367 shared evenly, but two less from March on
-even : ℕ → Bool
-even n = eqb (daysOfMonths 1951 n) ((367 * n + 5) / 12 - cond (ltb n 2) 0 2)
-
-pub months-rule : (n : ℕ) → n < 12 → daysOfMonths 1951 n ≡ (367 * n + 5) / 12 - cond (ltb n 2) 0 2
-unfolding even daysOfMonths monthLength february leap
-months-rule n h = eqb-true _ _ (passes-at even 12 refl n h)
-
-common : february 1951 ≡ 28
-unfolding february leap
-common = refl
-
--- a leap day counts from March on
-pub months-to-february : (y n : ℕ) → n < 2 → daysOfMonths y n ≡ daysOfMonths 1951 n
-unfolding daysOfMonths monthLength
-months-to-february y zero h = refl
-months-to-february y (suc zero) h = refl
-months-to-february y (suc (suc n)) h = absurd (omega arith)
-
-pub months-from-march : (y n : ℕ) → 2 ≤ n → daysOfMonths y n + 28 ≡ daysOfMonths 1951 n + february y
-unfolding daysOfMonths monthLength
-months-from-march y zero h = absurd (omega arith)
-months-from-march y (suc zero) h = absurd (omega arith)
-months-from-march y (suc (suc zero)) h = omega (arith, common)
-months-from-march y (suc (suc (suc n))) h = omega (arith, months-from-march y (suc (suc n)) (omega arith))
+use Rattle.calendar.proofs.Days.{by-test, year-on, month-on, day-on, Real, real, real-on}
+use Rattle.calendar.proofs.Days.{length-rule, length-least, length-most}
 
 -- what grows at each step grows over any
 grows : (f : ℕ → ℕ) → ((k : ℕ) → f k ≤ f (suc k)) → (j k : ℕ) → j ≤ k → f j ≤ f k
@@ -76,10 +25,6 @@ months-grow y = grows (daysOfMonths y) (λ k. omega arith)
 pub years-grow : (j k : ℕ) → j ≤ k → daysOfYears j ≤ daysOfYears k
 unfolding daysOfYears
 years-grow = grows daysOfYears (λ k. omega arith)
-
--- a part of a year is no longer than a leap year
-pub months-most : (y n : ℕ) → n ≤ 12 → daysOfMonths y n ≤ 366
-months-most y n h = omega (arith, months-grow y n 12 h, year-length y, february-between y)
 
 -- one month more, and one year more
 pub month-more : (y m : ℕ) → 1 ≤ m → daysOfMonths y m ≡ daysOfMonths y (m - 1) + monthLength y m
@@ -100,34 +45,11 @@ pub number-on : (y m d : ℕ) → m < 100 → d < 100
 unfolding dayNumber
 number-on y m d hm hd = rw (year-on y m d hm hd, month-on y m d hm hd, day-on y m d hm hd)
 
--- the number of a day, counted from 1, with the leap days of the years before but not that of its own
-abbrev pub byRule : ℕ → ℕ
-byRule day =
-    (yearOf day - 1950) * 365 + (yearOf day - 1950 + 1) / 4 + daysOfMonths 1951 (monthOf day - 1) + dayOf day
+all-years : daysOfYears 150 ≡ 54787
+unfolding daysOfYears daysOfMonths monthLength february leap
+all-years = refl
 
 module _ (day : ℕ) (r : Real 1950 2099 day) where
-  years-before : daysOfYears (yearOf day - 1950) ≡ 365 * (yearOf day - 1950) + (yearOf day - 1950 + 1) / 4
-  years-before = years (yearOf day - 1950) (omega (arith, r))
-
-  pub number-to-february : monthOf day < 3 → dayNumber day + 1 ≡ byRule day
-  unfolding dayNumber
-  number-to-february h =
-      omega (arith, r, years-before, months-to-february (yearOf day) (monthOf day - 1) (omega (arith, r)))
-
-  from-march : 3 ≤ monthOf day → dayNumber day + 29 ≡ byRule day + february (yearOf day)
-  unfolding dayNumber
-  from-march h =
-      omega (arith, r, years-before, months-from-march (yearOf day) (monthOf day - 1) (omega (arith, r)))
-
-  fourth : leap (yearOf day) ≡ eqb (yearOf day % 4) 0
-  fourth = leap-fourth (yearOf day) (r .since) (r .until)
-
-  pub number-common : 3 ≤ monthOf day → (yearOf day % 4 ≡ 0 → ⊥) → dayNumber day + 1 ≡ byRule day
-  number-common h e = omega (arith, from-march h, february-common (yearOf day) (fourth ∙ ne-eqb _ _ e))
-
-  pub number-leap : 3 ≤ monthOf day → yearOf day % 4 ≡ 0 → dayNumber day ≡ byRule day
-  number-leap h e = omega (arith, from-march h, february-leap (yearOf day) (fourth ∙ eq-eqb _ _ e))
-
   -- a real day lies before the next month, and so before the next year
   pub month-ends : daysOfMonths (yearOf day) (monthOf day - 1) + (dayOf day - 1) < daysOfMonths (yearOf day) (monthOf day)
   month-ends = omega (arith, month-more (yearOf day) (monthOf day) (r .month-low), r .day-low, r .day-high)
@@ -144,7 +66,7 @@ module _ (day : ℕ) (r : Real 1950 2099 day) where
 
   pub number-most : dayNumber day ≤ 54786
   number-most =
-      omega (arith, year-ends, years-grow (yearOf day + 1 - 1950) 150 (omega (arith, r .until)), years 150 (omega arith))
+      omega (arith, year-ends, years-grow (yearOf day + 1 - 1950) 150 (omega (arith, r .until)), all-years)
 
 -- a later real day has a greater number: it is of a later year, or of a later month of the year, or later in the month
 pub later : (a b : ℕ) → Real 1950 2099 a → Real 1950 2099 b → a < b → dayNumber a < dayNumber b
@@ -214,11 +136,11 @@ after-real day r h =
     (λ e. real-on 1950 2099 y m (d + 1) (r .since) (r .until) (r .month-low) (r .month-high) (omega arith) (omega arith))
     (λ e f.
     real-on 1950 2099 y (m + 1) 1 (r .since) (r .until) (omega arith) (omega arith) (omega arith)
-    (length-least y (m + 1) (omega arith) (omega arith)))
+    (omega (arith, length-least y (m + 1) (omega arith) (omega arith))))
     (λ e f.
     let long : monthLength y m ≡ 31 = length-rule y m (r .month-low) (r .month-high) (omega arith) ∙ rw f in
     real-on 1950 2099 (y + 1) 1 1 (omega (arith, r)) (omega (arith, r)) (omega arith) (omega arith) (omega arith)
-    (length-least (y + 1) 1 (omega arith) (omega arith)))
+    (omega (arith, length-least (y + 1) 1 (omega arith) (omega arith))))
 
 pub first-real : realDay 1950 2099 19500101 ≡ true
 unfolding realDay monthLength

@@ -1,6 +1,6 @@
 -- Laws of the signed difference of two numbers: it is the distance, negative when the first is the smaller.
 use mathlib.Core.Path.{_≡_, sym, _∙_, ap}
-use Prim.Native.Nat.{ℕ, zero, suc, _-_, _<_, _≤_, _^_}
+use Prim.Native.Nat.{ℕ, zero, suc, _+_, _-_, _<_, _≤_, _^_}
 use native.Mathlib.Omega.{arith}
 use lib.Dec.{ltb}
 use lib.IntN.{ℤ, pos, negsuc, negℤ, _+ℤ_, _-ℤ_, +ℤ-assoc, +ℤ-comm, +ℤ-invl, +ℤ-idl, negℤ-+ℤ, negℤ-negℤ}
@@ -17,6 +17,17 @@ less a (suc b) h = simp (lt-ltb a (suc b) h)
 pub more : (a b : ℕ) → b ≤ a → pos a -ℤ pos b ≡ pos (a - b)
 more a zero h = ap pos (omega arith)
 more a (suc b) h = simp (le-ltb a (suc b) h)
+
+-- numbers that are one more have the same difference
+pub both-more : (a b : ℕ) → pos (a + 1) -ℤ pos (b + 1) ≡ pos a -ℤ pos b
+both-more a b =
+    by-test (ltb a b)
+    (λ e.
+    let h : a < b = ltb-true a b e in
+    less (a + 1) (b + 1) (omega arith) ∙ sym (less a b h ∙ ap negsuc (omega arith)))
+    (λ e.
+    let h : b ≤ a = ltb-false a b e in
+    more (a + 1) (b + 1) (omega arith) ∙ sym (more a b h ∙ ap pos (omega arith)))
 
 -- the difference of two numbers that are read as signed ones fits
 pub fits : (a b : ℕ) → a < 2 ^ 63 → b < 2 ^ 63 → SFits w64 (toZ w64 a -ℤ toZ w64 b)

@@ -1,3 +1,4 @@
 pub mod Days
 pub mod Number
 pub mod Difference
+pub mod Table

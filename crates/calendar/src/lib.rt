@@ -1,10 +1,12 @@
 // Real days and moments, and the signed number of days from one day to another.
+mod months;
+
 use refusal::Refusal;
 ghost use mathlib.Core.Path.{_≡_};
-ghost use mathlib.Core.Bool.{true};
-ghost use Rattle.calendar.specs.Days.{leap, monthLength, realDay, realMoment};
-ghost use Rattle.calendar.specs.Number.{daysOfMonths, dayNumber};
-ghost use Prim.Native.Nat.{_≤_, _-_};
+ghost use mathlib.Core.Bool.{cond};
+ghost use Rattle.calendar.specs.Days.{leap, monthLength, monthOf, realDay, realMoment};
+ghost use Rattle.calendar.specs.Number.{dayNumber};
+ghost use Prim.Native.Nat.{_+_};
 ghost use Rattle.calendar.specs.Difference.{differenceOf};
 
 // The days from one day to another, or why there is no answer.
@@ -13,22 +15,31 @@ pub enum Difference {
     Refused(Refusal),
 }
 
-// Whether a number YYYYMMDD is a real day of 1950 to 2099.
+// Whether a number YYYYMMDD is a real day of 1950 to 2099. Every month has 28 days, so only a later day asks how many it has.
 pub fn real_day(day: u64) -> bool
     ensures { λ r. ⌜ r ≡ realDay 1950 2099 day ⌝ }
 {
-    let year = day / 10000;
-    if year < 1950 {
+    if day < 19500000 {
         return false;
     }
-    if 2099 < year {
+    if 20999999 < day {
+        return false;
+    }
+    let of_year = month_of(day);
+    if of_year < 1 {
+        return false;
+    }
+    if 12 < of_year {
         return false;
     }
     let of_month = day % 100;
     if of_month < 1 {
         return false;
     }
-    of_month <= month_length(year, day / 100 % 100)
+    if of_month <= 28 {
+        return true;
+    }
+    of_month <= month_length(day / 10000, of_year)
 }
 
 // Whether a number YYYYMMDDHHMMSS is a real moment of 1950 to 2099.
@@ -51,15 +62,33 @@ pub fn real_moment(moment: u64) -> bool
 pub fn day_difference(first: u64, second: u64) -> Difference
     ensures { λ r. ⌜ r ≡ differenceOf first second ⌝ }
 {
-    if !real_day(first) {
+    let from = ordinal(first);
+    if from == 0 {
         return Difference::Refused(Refusal::Argument);
     }
-    if !real_day(second) {
+    let to = ordinal(second);
+    if to == 0 {
         return Difference::Refused(Refusal::Argument);
     }
-    let from = day_number(first);
-    let to = day_number(second);
     Difference::Days(to as i64 - from as i64)
+}
+
+// The number of a real day, counted from 1 for 19500101, and 0 for any other number. One function tests the day and counts it, so
+// that its year and month are worked out once; what the tests leave tells the compiler which rows of the table there are.
+fn ordinal(day: u64) -> u64
+    ensures { λ r. ⌜ r ≡ cond (realDay 1950 2099 day) (dayNumber day + 1) 0 ⌝ }
+{
+    if !real_day(day) {
+        return 0;
+    }
+    months::days_before(day / 10000, month_of(day)) + day % 100
+}
+
+// The month of a day, by the division that gives its year.
+fn month_of(day: u64) -> u64
+    ensures { λ r. ⌜ r ≡ monthOf day ⌝ }
+{
+    day / 100 - day / 10000 * 100
 }
 
 fn leap_year(year: u64) -> bool
@@ -92,35 +121,4 @@ pub fn month_length(year: u64, month: u64) -> u64
         return 0;
     }
     30 + (month + month / 8) % 2
-}
-
-// The number of a day, from 0 for 19500101. Of 1950 to 2099 each fourth year is a leap year.
-fn day_number(day: u64) -> u64
-    requires { ⌜ realDay 1950 2099 day ≡ true ⌝ }
-    ensures { λ r. ⌜ r ≡ dayNumber day ⌝ }
-{
-    let year = day / 10000;
-    let month = day / 100 % 100;
-    let years = year - 1950;
-    let before = years * 365 + (years + 1) / 4 + days_before(month) + day % 100 - 1;
-    if month < 3 {
-        return before;
-    }
-    if year % 4 != 0 {
-        return before;
-    }
-    before + 1
-}
-
-// The days of a year without a leap day before a month of it: as if the months shared 367 days evenly, but February
-// has two days less.
-fn days_before(month: u64) -> u64
-    requires { ⌜ (1 ≤ month) × (month ≤ 12) ⌝ }
-    ensures { λ r. ⌜ r ≡ daysOfMonths 1951 (month - 1) ⌝ }
-{
-    let even = (367 * month - 362) / 12;
-    if 2 < month {
-        return even - 2;
-    }
-    even
 }

@@ -1,80 +1,86 @@
--- Both day numbers are at most 54786, so their signed difference is that of the numbers.
+-- Both days have a number or the question is refused, and the numbers are small, so their signed difference is that of the days.
 use mathlib.Core.Path.{_≡_, _∙_, sym, ap}
-use mathlib.Core.Bool.{true}
-use Prim.Native.Nat.{_<_, _^_}
+use mathlib.Core.Bool.{true, false, cond}
+use Prim.Native.Nat.{ℕ, _+_, _<_, _^_}
 use native.Mathlib.Omega.{arith}
+use lib.IntN.{pos, _-ℤ_}
 use borrow.Author.Needs.{needs}
-use borrow.Author.Tests.{not-true, not-false}
 use mir.Syntax.{w64}
 use mir.ValLaws.{toZ-pos, toZ-ofZ}
 use Rattle.calendar.specs.Days.{realDay}
+use Rattle.calendar.specs.Number.{dayNumber}
 use Rattle.calendar.specs.Difference.{differenceOf}
 use Rattle.calendar.specs.declared.Difference.the-variants.{Days}
-use Rattle.calendar.proofs.Days.{real}
+use Rattle.calendar.proofs.Days.{by-test, real}
 use Rattle.calendar.proofs.Number.{number-most}
-use Rattle.calendar.proofs.Signed.{fits}
+use Rattle.calendar.proofs.Signed.{fits, both-more}
+use Rattle.calendar.proofs.Between.{answer}
 use Rattle.calendar.proofs.day_difference.Statement.{statement}
 use Rattle.calendar.proofs.day_difference.Tie as tie
 
+-- what `ordinal` tells of a day
+module _ (day n : ℕ) (told : n ≡ cond (realDay 1950 2099 day) (dayNumber day + 1) 0) where
+  refused : n ≡ 0 → realDay 1950 2099 day ≡ false
+  refused e =
+      by-test (realDay 1950 2099 day) (λ t. let more : n ≡ dayNumber day + 1 = told ∙ simp t in absurd (omega arith)) (λ f. f)
+
+  is-real : (n ≡ 0 → ⊥) → realDay 1950 2099 day ≡ true
+  is-real some =
+      by-test (realDay 1950 2099 day) (λ t. t) (λ f. let none : n ≡ 0 = told ∙ simp f in absurd (some none))
+
+  counted : (n ≡ 0 → ⊥) → n ≡ dayNumber day + 1
+  counted some = told ∙ simp (is-real some)
+
+  small : n < 2 ^ 63
+  small =
+      by-test (realDay 1950 2099 day)
+      (λ t. let more : n ≡ dayNumber day + 1 = told ∙ simp t in omega (arith, number-most day (real 1950 2099 day t)))
+      (λ f. let none : n ≡ 0 = told ∙ simp f in omega arith)
+
+-- the difference of two that are told is that of the days
+between : (a b n m : ℕ)
+    → n ≡ cond (realDay 1950 2099 a) (dayNumber a + 1) 0
+    → m ≡ cond (realDay 1950 2099 b) (dayNumber b + 1) 0
+    → (n ≡ 0 → ⊥) → (m ≡ 0 → ⊥) → Days (pos m -ℤ pos n) ≡ differenceOf a b
+between a b n m p q some more =
+    rw (counted a n p some, counted b m q more)
+    (ap Days (both-more (dayNumber b) (dayNumber a)) ∙ sym (answer a b (is-real a n p some) (is-real b m q more)))
+
 returns : tie.Need-returns
 unfolding differenceOf
-returns c = simp (sym (c .before .real-day .ensures) ∙ not-true _ (c .if1 .taken))
-
-first-real : (c : tie.Else1) → realDay 1950 2099 (c .before .before .args .first) ≡ true
-first-real c = sym (c .before .real-day .ensures) ∙ not-false _ (c .if1 .left)
+returns c = simp (refused _ _ (c .before .ordinal .ensures) (c .if1 .taken))
 
 returns-2 : tie.Need-returns-2
 unfolding differenceOf
 returns-2 c =
-    simp (first-real (c .before .before), sym (c .before .real-day2 .ensures) ∙ not-true _ (c .if2 .taken))
+    simp (
+      is-real _ _ (c .before .before .before .ordinal .ensures) (c .before .before .if1 .left),
+      refused _ _ (c .before .ordinal2 .ensures) (c .if2 .taken),
+    )
 
-second-real : (c : tie.Else2) → realDay 1950 2099 (c .before .before .before .before .args .second) ≡ true
-second-real c = sym (c .before .real-day2 .ensures) ∙ not-false _ (c .if2 .left)
+from-small : (c : tie.Else2) → c .before .before .before .ordinal .result < 2 ^ 63
+from-small c = small _ _ (c .before .before .before .ordinal .ensures)
 
-day-number-requires : tie.Need-day-number-requires
-day-number-requires c κs = first-real (c .before .before)
+to-small : (c : tie.Else2) → c .before .ordinal2 .result < 2 ^ 63
+to-small c = small _ _ (c .before .ordinal2 .ensures)
 
-day-number-requires-2 : tie.Need-day-number-requires-2
-day-number-requires-2 c κs = second-real (c .before)
-
-small : (c : tie.After-day-number2) → (c .before .day-number .result < 2 ^ 63) × (c .day-number2 .result < 2 ^ 63)
-small c =
-    let from = number-most _ (real 1950 2099 _ (first-real (c .before .before .before .before))) in
-    let to = number-most _ (real 1950 2099 _ (second-real (c .before .before))) in
-    omega (arith, from, to, c .before .day-number .ensures, c .day-number2 .ensures)
+cast-t8 : tie.Need-cast-t8
+cast-t8 c = omega (arith, to-small c)
 
 cast-t9 : tie.Need-cast-t9
-cast-t9 c = omega (arith, small c)
+cast-t9 c = omega (arith, from-small c)
 
-cast-t10 : tie.Need-cast-t10
-cast-t10 c = omega (arith, small c)
-
-sub-t11 : tie.Need-sub-t11
-sub-t11 c = let (from, to) = small c in search fits
+sub-t10 : tie.Need-sub-t10
+sub-t10 c = fits _ _ (to-small c) (from-small c)
 
 returns-3 : tie.Need-returns-3
-unfolding differenceOf
 returns-3 c =
-    ap Days (toZ-ofZ w64 _ (sub-t11 c))
-    ∙ simp (toZ-pos w64 _ (small c .0), toZ-pos w64 _ (small c .1))
-    (simp (
-      first-real (c .before .before .before .before),
-      second-real (c .before .before),
-      c .before .day-number .ensures,
-      c .day-number2 .ensures,
-    ))
+    ap Days (toZ-ofZ w64 _ (sub-t10 c))
+    ∙ rw (toZ-pos w64 _ (to-small c), toZ-pos w64 _ (from-small c))
+    (between _ _ _ _ (c .before .before .before .ordinal .ensures) (c .before .ordinal2 .ensures)
+    (c .before .before .if1 .left) (c .if2 .left))
 
 pub day-difference-spec : {M : Type 1} → statement M
 day-difference-spec =
     tie.close
-    (tie.spec
-    (λ c κs. search needs)
-    returns
-    (λ c κs. search needs)
-    returns-2
-    day-number-requires
-    day-number-requires-2
-    cast-t9
-    cast-t10
-    sub-t11
-    returns-3)
+    (tie.spec (λ c κs. search needs) returns (λ c κs. search needs) returns-2 cast-t8 cast-t9 sub-t10 returns-3)
