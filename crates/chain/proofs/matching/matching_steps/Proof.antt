@@ -45,6 +45,9 @@ column : {places : ℕ} {table roles : List ℕ} {u : ℕ} {line : List ℕ} {v 
 column {places} {table} {roles} {u} l h = let k = line-short table places u (l .is) in omega (arith, k)
 
 -- the points of a turn and the start, each from a later one
+abbrev cell : tie.After-matched Inv-loop2 μ-loop2 Inv-loop μ-loop → tie.In-loop2 Inv-loop2 μ-loop2 Inv-loop μ-loop
+cell c = c .before .before .before
+
 abbrev leading : tie.At-loop2 Inv-loop2 μ-loop2 Inv-loop μ-loop → tie.After-leads Inv-loop2 μ-loop2 Inv-loop μ-loop
 leading c = c .before .before .before
 
@@ -78,13 +81,13 @@ mul-part c =
 loop2-holds : tie.Need-loop2-holds Inv-loop2 μ-loop2 Inv-loop μ-loop
 loop2-holds c = (
   record {
-    small = c .before .before .before .before .loop .inv .0;
+    small = turn (c .before .before) .loop .inv .0;
     place = c .before .before .before .loop-test .taken;
     leads = sym (c .before .before .leads .ensures) ∙ c .before .if1 .taken;
     is = c .part .ensures;
     read = omega arith;
   },
-  c .before .before .before .before .loop .inv .2,
+  turn (c .before .before) .loop .inv .2,
 )
 
 shared-slice-read-if2 : tie.Need-shared-slice-read-if2 Inv-loop2 μ-loop2 Inv-loop μ-loop
@@ -94,17 +97,19 @@ array-read-matched : tie.Need-array-read-matched Inv-loop2 μ-loop2 Inv-loop μ-
 array-read-matched c = let l = c .before .before .before .loop2 .inv .0 in omega (arith, column l (c .before .before .loop2-test .taken), l .small)
 
 mul-steps : tie.Need-mul-steps Inv-loop2 μ-loop2 Inv-loop μ-loop
-mul-steps c = let l = c .before .before .before .before .loop2 .inv .0 in omega (arith, l .small, l .place)
+mul-steps c = let l = cell c .before .loop2 .inv .0 in omega (arith, l .small, l .place)
 
 add-steps : tie.Need-add-steps Inv-loop2 μ-loop2 Inv-loop μ-loop
 add-steps c =
-    let l = c .before .before .before .before .loop2 .inv .0 in
-    omega (arith, l .small, l .place, column l (c .before .before .before .loop2-test .taken))
+    let n = cell c in
+    let l = n .before .loop2 .inv .0 in
+    omega (arith, l .small, l .place, column l (n .loop2-test .taken))
 
 array-write-steps : tie.Need-array-write-steps Inv-loop2 μ-loop2 Inv-loop μ-loop
 array-write-steps c =
-    let l = c .before .before .before .before .loop2 .inv .0 in
-    omega (arith, l .small, l .place, column l (c .before .before .before .loop2-test .taken))
+    let n = cell c in
+    let l = n .before .loop2 .inv .0 in
+    omega (arith, l .small, l .place, column l (n .loop2-test .taken))
 
 add-v : tie.Need-add-v Inv-loop2 μ-loop2 Inv-loop μ-loop
 add-v c = let l = c .before .before .before .loop2 .inv .0 in omega (arith, l .small, column l (c .before .before .loop2-test .taken))

@@ -38,8 +38,8 @@ marked c = c .before .before .before
 abbrev opened : tie.After-roles-of Inv-loop μ-loop → tie.After-rows2 Inv-loop μ-loop
 opened c = c .before .before .before
 
-abbrev known : tie.Else2 Inv-loop μ-loop → tie.After-roles-of Inv-loop μ-loop
-known c = c .before .before .before .before
+abbrev known : tie.After-direct-chain Inv-loop μ-loop → tie.After-roles-of Inv-loop μ-loop
+known c = c .before .before .before
 
 -- the points of a round, each from a later one
 abbrev turn : tie.After-unchanged Inv-loop μ-loop → tie.At-loop Inv-loop μ-loop
@@ -100,7 +100,7 @@ direct-chain-requires c κs = let s = start (marked (opened (c .before .before))
 
 returns-2 : tie.Need-returns-2 Inv-loop μ-loop
 returns-2 c =
-    let w = c .before .before .before .before in
+    let w = known (c .before) in
     let m = opened w in
     let n = marked m in
     let s = start n in
@@ -111,7 +111,7 @@ returns-2 c =
 
 loop-holds : tie.Need-loop-holds Inv-loop μ-loop
 loop-holds c =
-    let w = known c in
+    let w = known (c .before) in
     let m = opened w in
     let n = marked m in
     let s = start n in
@@ -136,7 +136,7 @@ unchanged-requires : tie.Need-unchanged-requires Inv-loop μ-loop
 unchanged-requires c κs = c .before .loop .inv .small
 
 searched-requires : tie.Need-searched-requires Inv-loop μ-loop
-searched-requires c κs = c .before .before .before .before .loop .inv .small
+searched-requires c κs = turn (c .before .before) .loop .inv .small
 
 returns-3 : tie.Need-returns-3 Inv-loop μ-loop
 returns-3 c =
@@ -146,7 +146,7 @@ returns-3 c =
     (u .unchanged .ensures (c .before .before .if3 .taken))
 
 open-items-requires-2 : tie.Need-open-items-requires-2 Inv-loop μ-loop
-open-items-requires-2 c κs = let i = c .before .before .before .before .loop .inv in (i .all, i .small, i .slots)
+open-items-requires-2 c κs = let i = turn (c .before .before) .loop .inv in (i .all, i .small, i .slots)
 
 led-to-requires : tie.Need-led-to-requires Inv-loop μ-loop
 led-to-requires c κs = let i = turn (wider (c .before .before .before)) .loop .inv in (i .small, i .there)
