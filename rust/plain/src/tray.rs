@@ -7,6 +7,12 @@ use crate::refusal::Refusal;
 const RECORD: usize = 8;
 /// The units of a tray.
 const UNITS: u8 = 40;
+/// The upper half of a record that opens a tray or loads an image, and the first byte of one that burns.
+const OPEN: u64 = 1 << 24;
+const LOAD: u64 = 2 << 24;
+const BURN: u64 = 3;
+/// Where a record has its unit.
+const UNIT: u64 = 0xFF << 48;
 
 /// The replay's answer.
 #[derive(Clone, Copy, Debug, Default, PartialEq, Eq)]
@@ -31,37 +37,32 @@ struct Bench {
 impl Bench {
     /// Does what the record says; false, and nothing done, if it is faulty.
     #[inline(always)]
-    fn take(&mut self, record: [u8; RECORD]) -> bool {
-        let [action, unit, 0, 0, day @ ..] = record else {
-            return false;
-        };
-        let day = u32::from_be_bytes(day);
-        match action {
-            3 => {
-                let bit = 1u64 << (unit & 63);
-                let known = unit.wrapping_sub(1) < UNITS;
-                let of_the_day = self.tray != 0 && self.image == self.tray;
-                if day != 0 || !known || !of_the_day || self.burnt & bit != 0 {
-                    return false;
-                }
+    fn take(&mut self, record: u64) -> bool {
+        let unit = (record >> 48) as u8;
+        // A burn has neither day nor anything in the two bytes.
+        if record & !UNIT == BURN << 56 {
+            let bit = 1 << (unit & 63);
+            let known = unit.wrapping_sub(1) < UNITS;
+            let good = known && self.tray != 0 && self.image == self.tray && self.burnt & bit == 0;
+            if good {
                 self.burnt |= bit;
             }
-            1 => {
-                if unit != 0 || day < self.tray || !day_real(day.into()) {
-                    return false;
-                }
+            return good;
+        }
+        let day = record as u32;
+        match record >> 32 {
+            // Unit and the two bytes are 0 in both.
+            OPEN if day >= self.tray && day_real(day.into()) => {
                 self.tray = day;
                 self.burnt = 0;
+                true
             }
-            2 => {
-                if unit != 0 || !day_real(day.into()) {
-                    return false;
-                }
+            LOAD if day_real(day.into()) => {
                 self.image = day;
+                true
             }
-            _ => return false,
+            _ => false,
         }
-        true
     }
 }
 
@@ -71,7 +72,7 @@ fn faulty(log: &[u8], mut each: impl FnMut(usize)) {
     let mut bench = Bench::default();
     for (number, record) in log.chunks_exact(RECORD).enumerate() {
         let record: [u8; RECORD] = record.try_into().expect("8 bytes");
-        if !bench.take(record) {
+        if !bench.take(u64::from_be_bytes(record)) {
             each(number);
         }
     }

@@ -79,7 +79,8 @@ fn tray_lines(trays: &[Tray]) -> String {
     let line = |tray: &Tray| {
         let image = tray.image.map_or("none".to_string(), |image| day(image.into()));
         let number = counted(tray.units.len(), "unit");
-        format!("{:>6}  {}  {:<10}  {number:<8}  {}\n", tray.record, day(tray.day.into()), image, ranges(&tray.units))
+        let units = format!("{number:<8}  {}", ranges(&tray.units));
+        format!("{:>6}  {}  {:<10}  {}\n", tray.record, day(tray.day.into()), image, units.trim_end())
     };
     "record  tray        image       burnt\n".to_string() + &trays.iter().map(line).collect::<String>()
 }
