@@ -152,14 +152,14 @@ stays-marked state (entry ∷ rest) u (no-opening n more) h =
     (λ bad. rw (faulty-keeps state entry bad) h))
 
 -- a unit is burnt at most once a tray: after a good burn of it any burn of it is faulty, until a good opening
-pub once :
+pub burnt-once :
     (before : List Entry) (first : Entry) (log : List Entry) (again : Entry)
     → goodRecord (replayed atFirst before) first ≡ true → first .action ≡ 3
     → NoOpening (stepped (replayed atFirst before) first) log
     → again .action ≡ 3 → again .unit ≡ first .unit
     → goodRecord (replayed (stepped (replayed atFirst before) first) log) again ≡ false
 unfolding atFirst
-once before first log again good three none three₂ same =
+burnt-once before first log again good three none three₂ same =
     let state = replayed atFirst before in
     let n : first .action ≡ 1 → ⊥ = λ z. omega (arith, z, three) in
     let m : first .action ≡ 2 → ⊥ = λ z. omega (arith, z, three) in

@@ -56,7 +56,10 @@ loop-less c = omega (arith, c .before .before .before .before .before .before .b
 
 loop-again : tie.Need-loop-again Inv-loop μ-loop
 loop-again c =
-    went-well (c .before .before .before .before .before .before .before .before .before .loop .inv) (c .before .before .before .before .before .before .before .before .loop-test .taken) (c .before .before .before .before .before .two .ensures .0) (c .before .before .before .before .four .ensures .0) _ (sym (c .before .before .good2 .ensures) ∙ c .before .if1 .taken)
+    let back4 = c .before .before .before .before in
+    let back8 = back4 .before .before .before .before in
+    went-well (back8 .before .loop .inv) (back8 .loop-test .taken) (back4 .before .two .ensures .0) (back4 .four .ensures .0) _
+    (sym (c .before .before .good2 .ensures) ∙ c .before .if1 .taken)
     (opening _ _ _ _ _ _ _ (c .if2 .taken))
 
 loop-less-2 : tie.Need-loop-less-2 Inv-loop μ-loop
@@ -64,32 +67,48 @@ loop-less-2 c = omega (arith, c .before .before .before .before .before .before 
 
 loop-again-2 : tie.Need-loop-again-2 Inv-loop μ-loop
 loop-again-2 c =
-    went-well (c .before .before .before .before .before .before .before .before .before .before .loop .inv) (c .before .before .before .before .before .before .before .before .before .loop-test .taken) (c .before .before .before .before .before .before .two .ensures .0) (c .before .before .before .before .before .four .ensures .0) _ (sym (c .before .before .before .good2 .ensures) ∙ c .before .before .if1 .taken)
+    let back4 = c .before .before .before .before in
+    let back8 = back4 .before .before .before .before in
+    went-well (back8 .before .before .loop .inv) (back8 .before .loop-test .taken) (back4 .before .before .two .ensures .0) (back4 .before .four .ensures .0) _
+    (sym (c .before .before .before .good2 .ensures) ∙ c .before .before .if1 .taken)
     (loading _ _ _ _ _ _ _ (c .before .if2 .left) (c .if3 .taken))
 
 array-write-marks : tie.Need-array-write-marks Inv-loop μ-loop
-array-write-marks c = burnt-unit _ _ _ _ _ _ _ (c .before .if2 .left) (c .if3 .left) (sym (c .before .before .before .good2 .ensures) ∙ c .before .before .if1 .taken)
+array-write-marks c =
+    burnt-unit _ _ _ _ _ _ _ (c .before .if2 .left) (c .if3 .left) (sym (c .before .before .before .good2 .ensures) ∙ c .before .before .if1 .taken)
 
 loop-less-3 : tie.Need-loop-less-3 Inv-loop μ-loop
 loop-less-3 c = omega (arith, c .before .before .before .before .before .before .before .before .before .loop-test .taken)
 
 loop-again-3 : tie.Need-loop-again-3 Inv-loop μ-loop
 loop-again-3 c =
-    went-well (c .before .before .before .before .before .before .before .before .before .before .loop .inv) (c .before .before .before .before .before .before .before .before .before .loop-test .taken) (c .before .before .before .before .before .before .two .ensures .0) (c .before .before .before .before .before .four .ensures .0) _ (sym (c .before .before .before .good2 .ensures) ∙ c .before .before .if1 .taken)
+    let back4 = c .before .before .before .before in
+    let back8 = back4 .before .before .before .before in
+    went-well (back8 .before .before .loop .inv) (back8 .before .loop-test .taken) (back4 .before .before .two .ensures .0) (back4 .before .four .ensures .0) _
+    (sym (c .before .before .before .good2 .ensures) ∙ c .before .before .if1 .taken)
     (burning _ _ _ _ _ _ _ (c .before .if2 .left) (c .if3 .left))
 
 sub-list : tie.Need-sub-list Inv-loop μ-loop
 sub-list c = omega arith
 
 mul-list : tie.Need-mul-list Inv-loop μ-loop
-mul-list c = omega (arith, c .before .before .before .before .before .before .before .before .before .loop .inv .fewer, c .before .before .before .before .before .before .before .before .before .loop .inv .all, c .before .before .before .before .before .before .before .before .loop-test .taken)
+mul-list c =
+    let back4 = c .before .before .before .before in
+    let back8 = back4 .before .before .before .before in
+    omega (arith, back8 .before .loop .inv .fewer, back8 .before .loop .inv .all, back8 .loop-test .taken)
 
 slice-write-list : tie.Need-slice-write-list Inv-loop μ-loop
 slice-write-list c =
-    here (c .before .before .before .before .before .before .before .before .before .loop .inv) (c .before .before .before .before .before .before .before .before .loop-test .taken) (c .before .before .before .before .before .two .ensures .0) (c .before .before .before .before .four .ensures .0) (sym (c .before .before .good2 .ensures) ∙ c .before .if1 .left) (c .if4 .taken)
+    let back4 = c .before .before .before .before in
+    let back8 = back4 .before .before .before .before in
+    here (back8 .before .loop .inv) (back8 .loop-test .taken) (back4 .before .two .ensures .0) (back4 .four .ensures .0)
+    (sym (c .before .before .good2 .ensures) ∙ c .before .if1 .left) (c .if4 .taken)
 
 add-faulty : tie.Need-add-faulty Inv-loop μ-loop
-add-faulty c = omega (arith, c .before .before .before .before .before .before .before .before .before .loop .inv .fewer, c .before .before .before .before .before .before .before .before .before .loop .inv .all, c .before .before .before .before .before .before .before .before .loop-test .taken)
+add-faulty c =
+    let back4 = c .before .before .before .before in
+    let back8 = back4 .before .before .before .before in
+    omega (arith, back8 .before .loop .inv .fewer, back8 .before .loop .inv .all, back8 .loop-test .taken)
 
 loop-less-4 : tie.Need-loop-less-4 Inv-loop μ-loop
 loop-less-4 c = omega (arith, c .before .before .before .before .before .before .before .before .loop-test .taken)

@@ -17,12 +17,12 @@ pub const COMMAND: Command = Command {
 vrbolist tray LOG [--json]
 vrbolist tray LOG --append [--open DAY] [--load DAY] [--burn UNIT|FIRST-LAST] .. [--json]
 
-Replays a tray log, records of 8 bytes: a line for each tray that was opened, with its day, the day of
-the image that was loaded last while it was open, and the units burnt; then a line for each faulty
-record, with its number, its fields and the reason. Exit status 65 where a record is faulty.
+Replays a tray log, records of 8 bytes: a line for each tray that was opened, with its day, the day
+of the image that was loaded last while it was open, and the units burnt; then a line for each
+faulty record, with its number, its fields and the reason. Exit status 65 where one is faulty.
 
-With --append the records of the options are added at the end of the log, in their order; a log that
-is not there is begun. It is written whole or not at all. Records are not judged when they are added.
+With --append the records of the options are added at the end of the log, in their order; a log
+that is not there is begun. It is written whole or not at all. What is added is not judged.
 
 Example:
   vrbolist tray night.log --append --open 20261115 --load 20261115 --burn 1-40
