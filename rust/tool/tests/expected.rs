@@ -93,9 +93,8 @@ fn trays() {
 /// A log with each fault, in the order of the rules.
 fn every_fault() -> Vec<u8> {
     let day = |number: u32| number.to_be_bytes();
-    let record = |action: u8, unit: u8, zeros: [u8; 2], [a, b, c, d]: [u8; 4]| {
-        [action, unit, zeros[0], zeros[1], a, b, c, d]
-    };
+    let record =
+        |action: u8, unit: u8, zeros: [u8; 2], [a, b, c, d]: [u8; 4]| [action, unit, zeros[0], zeros[1], a, b, c, d];
     [
         record(3, 1, [0, 0], day(0)),
         record(3, 1, [0, 0], day(20261115)),
