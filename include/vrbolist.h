@@ -45,6 +45,14 @@ extern "C" {
 #define VRBOLIST_PLACES 96          /* most entries of an image, and places of a chain */
 #define VRBOLIST_NO_PLACE 255       /* in a slot that is not used */
 
+#define VRBOLIST_RECORD 8           /* bytes of a record of a tray log */
+
+/* A record of a tray log: its action, a unit, two zero bytes, and a day, big-endian in four bytes. */
+#define VRBOLIST_ACTION_OPEN 1 /* opens a tray for the day */
+#define VRBOLIST_ACTION_LOAD 2 /* loads an image of the day */
+#define VRBOLIST_ACTION_BURN 3 /* burns the unit, 1 to VRBOLIST_UNITS; the day is 0 */
+#define VRBOLIST_UNITS 40      /* units of a tray */
+
 typedef struct {
     uint64_t number;
     uint64_t detail;
@@ -125,6 +133,12 @@ typedef struct {
     uint8_t places[VRBOLIST_PLACES];
 } vrbolist_chain_answer;
 
+typedef struct {
+    uint64_t number;
+    uint64_t detail;
+    uint64_t faulty; /* how many records are faulty, and listed */
+} vrbolist_replay_answer;
+
 /* Walks an item and counts its elements.
  * Refusals: 3 at 0 for more than VRBOLIST_ITEM_LIMIT bytes, then 2 and 3 as the walk meets them. */
 vrbolist_walk_answer vrbolist_walk(const uint8_t *item, size_t item_len);
@@ -176,6 +190,11 @@ vrbolist_write_answer vrbolist_write(const uint8_t *items, size_t items_len, con
  * or a place that has no document signer, then 7. */
 vrbolist_chain_answer vrbolist_chain(const uint8_t *image, size_t image_len, const uint8_t *table, size_t table_len,
                                      uint64_t moment, uint64_t target);
+
+/* Replays a tray log, records of VRBOLIST_RECORD bytes, and lists the numbers of the faulty records, from 0 and ascending, at
+ * the front of `list`; its other numbers stay. A list with a number for each record is always long enough, and the quickest.
+ * Refusals: 1 for a log that is not of whole records, then 9 for a list that is shorter than the faulty records. */
+vrbolist_replay_answer vrbolist_replay(const uint8_t *log, size_t log_len, uint64_t *list, size_t list_len);
 
 #ifdef __cplusplus
 }

@@ -160,6 +160,7 @@ static const struct field entry_fields[] = {
 };
 static const struct field write_fields[] = {HEAD_AT(write), AT(write, length, 16, 8)};
 static const struct field chain_fields[] = {HEAD_AT(chain), AT(chain, length, 16, 8), AT(chain, places, 24, 96)};
+static const struct field replay_fields[] = {HEAD_AT(replay), AT(replay, faulty, 16, 8)};
 
 /* The functions as the convention of x86-64 calls them: an answer of more than 16 bytes is written where a first argument
  * points. So the answer can be lent a buffer of its size that ends at a page that may not be touched. */
@@ -177,6 +178,7 @@ void write_to(void *answer, const uint8_t *items, size_t items_len, const uint8_
               size_t out_len) __asm__("vrbolist_write");
 void chain_to(void *answer, const uint8_t *image, size_t image_len, const uint8_t *table, size_t table_len, uint64_t moment,
               uint64_t target) __asm__("vrbolist_chain");
+void replay_to(void *answer, const uint8_t *log, size_t log_len, uint64_t *list, size_t list_len) __asm__("vrbolist_replay");
 
 /* The header has these sizes and offsets, and the library wrote each field. */
 static void laid_out(int line, const uint8_t *answer, size_t in_header, size_t size, const struct field *fields, size_t count) {
@@ -206,6 +208,7 @@ static void layout(void) {
     LAID_OUT(entry, 48, entry_to(to, NULL, 0, 0));
     LAID_OUT(write, 24, write_to(to, NULL, 0, NULL, 0, NULL, 0, NULL, 0, DAY, NULL, 0));
     LAID_OUT(chain, 120, chain_to(to, NULL, 0, NULL, 0, MOMENT, 0));
+    LAID_OUT(replay, 24, replay_to(to, NULL, 0, NULL, 0));
 }
 
 /* Walk. */
@@ -576,6 +579,68 @@ static void chains(struct item image) {
     CHAIN(NULL, 0, NULL, 0, 0, 0, VRBOLIST_IMAGE, 1, 0);
 }
 
+/* Tray logs. */
+
+static void replay_is(int line, vrbolist_replay_answer answer, uint64_t number, uint64_t detail, uint64_t faulty) {
+    HEAD(answer, number, detail);
+    FIELD(answer, faulty, faulty);
+}
+
+static void record(uint8_t *at, unsigned action, unsigned unit, uint32_t day) {
+    at[0] = (uint8_t)action;
+    at[1] = (uint8_t)unit;
+    at[2] = at[3] = 0;
+    at[4] = (uint8_t)(day >> 24);
+    at[5] = (uint8_t)(day >> 16);
+    at[6] = (uint8_t)(day >> 8);
+    at[7] = (uint8_t)day;
+}
+
+/* A lent list that ends where a page begins that may not be touched. */
+static uint64_t *list_of(size_t count) {
+    return (uint64_t *)(void *)output(count * sizeof(uint64_t));
+}
+
+static int untouched(const uint64_t *from, size_t count) {
+    return filled((const uint8_t *)from, count * sizeof *from);
+}
+
+#define NIGHT (VRBOLIST_UNITS + 2) /* records of a night */
+
+/* The night with yesterday's image: every burn is faulty. Then the same with the image of the day. */
+static void replays(void) {
+    uint8_t bytes[(NIGHT + 1) * VRBOLIST_RECORD];
+    const uint8_t *log;
+    uint64_t *list, i;
+    record(bytes, VRBOLIST_ACTION_OPEN, 0, DAY);
+    record(bytes + VRBOLIST_RECORD, VRBOLIST_ACTION_LOAD, 0, DAY - 1);
+    for (i = 1; i <= VRBOLIST_UNITS; i++) {
+        record(bytes + (i + 1) * VRBOLIST_RECORD, VRBOLIST_ACTION_BURN, (unsigned)i, 0);
+    }
+    log = lend(bytes, NIGHT * VRBOLIST_RECORD);
+    list = list_of(VRBOLIST_UNITS);
+    replay_is(__LINE__, vrbolist_replay(log, NIGHT * VRBOLIST_RECORD, list, VRBOLIST_UNITS), 0, 0, VRBOLIST_UNITS);
+    for (i = 0; i < VRBOLIST_UNITS; i++) {
+        CHECK(list[i] == i + 2);
+    }
+    list = list_of(NIGHT);
+    replay_is(__LINE__, vrbolist_replay(log, NIGHT * VRBOLIST_RECORD, list, NIGHT), 0, 0, VRBOLIST_UNITS);
+    CHECK(list[0] == 2 && list[VRBOLIST_UNITS - 1] == NIGHT - 1 && untouched(list + VRBOLIST_UNITS, 2));
+    list = list_of(VRBOLIST_UNITS - 1);
+    replay_is(__LINE__, vrbolist_replay(log, NIGHT * VRBOLIST_RECORD, list, VRBOLIST_UNITS - 1), VRBOLIST_SHORT, 0, 0);
+    CHECK(untouched(list, VRBOLIST_UNITS - 1));
+    replay_is(__LINE__, vrbolist_replay(log, NIGHT * VRBOLIST_RECORD - 7, list, 0), VRBOLIST_ARGUMENT, 0, 0);
+    replay_is(__LINE__, vrbolist_replay(NULL, 0, NULL, 0), 0, 0, 0);
+
+    record(bytes + VRBOLIST_RECORD, VRBOLIST_ACTION_LOAD, 0, DAY);
+    record(bytes + NIGHT * VRBOLIST_RECORD, VRBOLIST_ACTION_BURN, VRBOLIST_UNITS, 0);
+    log = lend(bytes, sizeof bytes);
+    replay_is(__LINE__, vrbolist_replay(log, NIGHT * VRBOLIST_RECORD, NULL, 0), 0, 0, 0);
+    list = list_of(3);
+    replay_is(__LINE__, vrbolist_replay(log, sizeof bytes, list, 3), 0, 0, 1);
+    CHECK(list[0] == NIGHT && untouched(list + 1, 2));
+}
+
 int main(int argc, char **argv) {
     struct item anchor, signer, crl, image;
     if (argc != 2) {
@@ -596,6 +661,7 @@ int main(int argc, char **argv) {
     image = three(anchor, signer, crl);
     entries(image, anchor, signer, crl);
     chains(image);
+    replays();
     CHECK(all_kept());
     printf("%lu passed, %lu failed\n", passed, failed);
     return failed > 0;

@@ -7,6 +7,7 @@ use crate::items;
 use crate::lists;
 use crate::record::Question;
 use crate::say;
+use crate::trays;
 use crate::writing;
 
 pub(crate) fn answer(question: Question, bytes: &[u8]) {
@@ -32,6 +33,7 @@ pub(crate) fn answer(question: Question, bytes: &[u8]) {
         15 => writing::write(bytes, first, second, third),
         16 => writing::write_filled(bytes, first, second, third),
         17 => chains::best(bytes, first, second, third),
+        18 => trays::replay(bytes, first),
         _ => say::text(b"no such question"),
     }
 }

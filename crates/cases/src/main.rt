@@ -9,6 +9,7 @@ mod lists;
 mod record;
 mod say;
 mod sums;
+mod trays;
 mod writing;
 
 use libc::STDIN_FILENO;

@@ -21,6 +21,8 @@ use Rattle.image.specs.declared.Place.{Place}
 use Rattle.image.specs.declared.Place.the-variants as placed
 use Rattle.writer.specs.declared.Written.{Written}
 use Rattle.writer.specs.declared.Written.the-variants as written
+use Rattle.tray.specs.declared.Replayed.{Replayed}
+use Rattle.tray.specs.declared.Replayed.the-variants as replayed
 use Rattle.vrbolist.specs.declared.items.WalkAnswer.{WalkAnswer}
 use Rattle.vrbolist.specs.declared.items.IntegerAnswer.{IntegerAnswer}
 use Rattle.vrbolist.specs.declared.items.DaysAnswer.{DaysAnswer}
@@ -29,6 +31,7 @@ use Rattle.vrbolist.specs.declared.lists.CrlAnswer.{CrlAnswer}
 use Rattle.vrbolist.specs.declared.images.ImageAnswer.{ImageAnswer}
 use Rattle.vrbolist.specs.declared.images.EntryAnswer.{EntryAnswer}
 use Rattle.vrbolist.specs.declared.images.WriteAnswer.{WriteAnswer}
+use Rattle.vrbolist.specs.declared.trays.ReplayAnswer.{ReplayAnswer}
 
 unfoldable pub walkTold : Walked → WalkAnswer
 walkTold (walked.Passed count) = record { number = 0; detail = 0; count = count }
@@ -127,3 +130,7 @@ entryTold (placed.Refused why) =
 unfoldable pub writeTold : Written → WriteAnswer
 writeTold (written.Length size) = record { number = 0; detail = 0; length = size }
 writeTold (written.Refused why) = record { number = numberOf why; detail = detailOf why; length = 0 }
+
+unfoldable pub replayTold : Replayed → ReplayAnswer
+replayTold (replayed.Faulty count) = record { number = 0; detail = 0; faulty = count }
+replayTold (replayed.Refused why) = record { number = numberOf why; detail = detailOf why; faulty = 0 }

@@ -4,3 +4,4 @@ mod chains;
 mod images;
 mod items;
 mod lists;
+mod trays;

@@ -2,19 +2,23 @@
 
 use std::hint::black_box;
 
-use differ::{compare, Library, Plain, Reader};
+use differ::{compare, Lent, Library, Plain, Reader};
 use make::questions::Question;
 
 /// Questions, with room for what is written.
 pub struct Asker {
     questions: Vec<Question>,
-    output: Vec<u8>,
+    output: Lent,
 }
 
 impl Asker {
     pub fn new(questions: Vec<Question>) -> Asker {
-        let room = |question: &Question| if let Question::Write { room, .. } = question { *room } else { 0 };
-        let output = vec![0; questions.iter().map(room).max().unwrap_or(0)];
+        let octets = |question: &Question| if let Question::Write { room, .. } = question { *room } else { 0 };
+        let numbers = |question: &Question| if let Question::Replay { room, .. } = question { *room } else { 0 };
+        let output = Lent {
+            octets: vec![0; questions.iter().map(octets).max().unwrap_or(0)],
+            list: vec![0; questions.iter().map(numbers).max().unwrap_or(0)],
+        };
         Asker { questions, output }
     }
 

@@ -4,6 +4,7 @@ use make::certificate::{Certificate, ANCHOR, LINK, SIGNER};
 use make::crl::Crl;
 use make::image::Image;
 use make::questions::Question;
+use make::tray::{nights, record, BURN, RECORD};
 use make::world::World;
 
 use crate::images::{self, chain, realistic, DAY};
@@ -49,6 +50,9 @@ pub const QUESTIONS: &[&str] = &[
     "signers-dense",
     "signers-sparse",
     "signers-line",
+    "replay-good",
+    "replay-faulty",
+    "replay-short-list",
 ];
 
 /// The dearest that a search found, with the most instructions that they may cost.
@@ -82,6 +86,18 @@ pub const GROWTH: &[&str] = &[
     "chain-line-entries-340",
     "chain-line-entries-680",
 ];
+
+/// The records of a log.
+const RECORDS: usize = 1_000_000;
+
+/// A log in which every eighth record is faulty: a burn of a unit that was burnt.
+fn yesterday() -> Vec<u8> {
+    let mut log = nights(RECORDS, 19500101);
+    for number in (7..RECORDS).step_by(8) {
+        log[number * RECORD..][..RECORD].copy_from_slice(&record(BURN, 1, 0));
+    }
+    log
+}
 
 /// The most bytes of an image.
 const ROOM: usize = 262_144;
@@ -144,6 +160,9 @@ fn item(name: &str) -> Option<Question> {
             written(image)
         }
         "days" => Question::Days(19500101, 20240301),
+        "replay-good" => Question::Replay { log: nights(RECORDS, 19500101), room: RECORDS },
+        "replay-faulty" => Question::Replay { log: yesterday(), room: RECORDS },
+        "replay-short-list" => Question::Replay { log: yesterday(), room: RECORDS - 1 },
         _ => return None,
     })
 }

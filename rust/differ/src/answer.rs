@@ -14,6 +14,7 @@ pub enum Answer {
     Entry(plain::Entry),
     Write(plain::Written),
     Chain(plain::Chain),
+    Replay(plain::Replayed),
 }
 
 impl Answer {
@@ -29,6 +30,7 @@ impl Answer {
             Answer::Entry(told) => (told.number, told.detail),
             Answer::Write(told) => (told.number, told.detail),
             Answer::Chain(told) => (told.number, told.detail),
+            Answer::Replay(told) => (told.number, told.detail),
         }
     }
 }
@@ -80,3 +82,4 @@ same_fields!(Image, Image, Image { entries, day });
 same_fields!(Entry, Entry, Entry { kind, flags, length, offset });
 same_fields!(Write, Write, Written { length });
 same_fields!(Chain, Chain, Chain { length, places });
+same_fields!(Replay, Replay, Replayed { faulty });

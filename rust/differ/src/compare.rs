@@ -7,7 +7,7 @@ use std::time::{Duration, Instant};
 use make::questions::{Question, Source};
 
 use crate::answer::Answer;
-use crate::reader::Reader;
+use crate::reader::{Lent, Reader};
 use crate::show::{hex, kind, show};
 
 /// What one reader did with a question.
@@ -15,7 +15,7 @@ use crate::show::{hex, kind, show};
 struct Told {
     answer: Answer,
     /// The whole lent output after the call.
-    output: Vec<u8>,
+    output: Lent,
     /// Whether the lent bytes are as before.
     kept: bool,
 }
@@ -40,7 +40,7 @@ impl fmt::Display for Difference {
                 writeln!(to, "{which} changed the lent bytes")?;
             }
             if !same_output {
-                writeln!(to, "{which} output {}", hex(&told.output))?;
+                writeln!(to, "{which} output {}, list {:?}", hex(&told.output.octets), told.output.list)?;
             }
         }
         write!(to, "{}", show(&self.question))
@@ -58,12 +58,24 @@ pub fn compare(first: &dyn Reader, second: &dyn Reader, question: &Question) -> 
 
 fn ask(reader: &dyn Reader, question: &Question) -> Told {
     let mut lent = question.clone();
-    let room = if let Question::Write { room, .. } = question { *room } else { 0 };
-    let mut output: Vec<u8> = (0..room).map(|at| (at * 7 + 0xA5) as u8).collect();
+    let mut output = lend(question);
     let answer = reader.answer(&mut lent, &mut output);
     // A call may have written where the compiler does not expect it.
     let kept = *black_box(&lent) == *question;
     Told { answer, output: black_box(output), kept }
+}
+
+/// What the question says is lent, each element with contents of its own.
+fn lend(question: &Question) -> Lent {
+    match question {
+        Question::Write { room, .. } => {
+            Lent { octets: (0..*room).map(|at| (at * 7 + 0xA5) as u8).collect(), ..Lent::default() }
+        }
+        Question::Replay { room, .. } => {
+            Lent { list: (0..*room).map(|at| u64::MAX - at as u64).collect(), ..Lent::default() }
+        }
+        _ => Lent::default(),
+    }
 }
 
 /// When to stop: after this many questions or this much time.

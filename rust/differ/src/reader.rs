@@ -5,10 +5,17 @@ use vrbolist::answers;
 
 use crate::answer::Answer;
 
-/// Answers a question. `output` is what is lent to the writer, of the length that
+/// What is lent to be written: octets for an image, numbers for faulty records.
+#[derive(Clone, Debug, Default, PartialEq, Eq)]
+pub struct Lent {
+    pub octets: Vec<u8>,
+    pub list: Vec<u64>,
+}
+
+/// Answers a question. `output` is what is lent to be written, of the length that
 /// the question says. A reader keeps the question as it is.
 pub trait Reader {
-    fn answer(&self, question: &mut Question, output: &mut [u8]) -> Answer;
+    fn answer(&self, question: &mut Question, output: &mut Lent) -> Answer;
 }
 
 /// The proved library.
@@ -20,7 +27,7 @@ pub struct Plain;
 macro_rules! reader {
     ($name:ident, $of:ident) => {
         impl Reader for $name {
-            fn answer(&self, question: &mut Question, output: &mut [u8]) -> Answer {
+            fn answer(&self, question: &mut Question, output: &mut Lent) -> Answer {
                 match question {
                     Question::Walk(item) => $of::walk(item).into(),
                     Question::Integer(item) => $of::integer(item).into(),
@@ -32,11 +39,12 @@ macro_rules! reader {
                     Question::ImageForDay(image, wanted) => $of::image_for_day(image, *wanted).into(),
                     Question::Entry(image, place) => $of::entry(image, *place).into(),
                     Question::Write { items, kinds, flags, lengths, day, .. } => {
-                        $of::write(items, kinds, flags, lengths, *day, output).into()
+                        $of::write(items, kinds, flags, lengths, *day, &mut output.octets).into()
                     }
                     Question::Chain { image, table, moment, target } => {
                         $of::chain(image, table, *moment, *target).into()
                     }
+                    Question::Replay { log, .. } => $of::replay(log, &mut output.list).into(),
                 }
             }
         }

@@ -18,6 +18,7 @@ pub fn kind(question: &Question) -> &'static str {
         Question::Entry(..) => "entry",
         Question::Write { .. } => "write",
         Question::Chain { .. } => "chain",
+        Question::Replay { .. } => "replay",
     }
 }
 
@@ -49,5 +50,6 @@ pub fn show(question: &Question) -> String {
         Question::Chain { image, table, moment, target } => {
             format!("moment {moment}, target {target}, table {}, image {}", hex(table), hex(image))
         }
+        Question::Replay { log, room } => format!("room {room}, log {}", hex(log)),
     }
 }

@@ -3,7 +3,7 @@
 
 #![forbid(unsafe_code)]
 
-use differ::{compare, run, Answer, Library, Limits, Plain, Reader};
+use differ::{compare, run, Answer, Lent, Library, Limits, Plain, Reader};
 use make::questions::Question;
 use make::time::second_after;
 
@@ -11,20 +11,20 @@ const SEED: u64 = 1;
 const COUNT: u64 = 60_000;
 
 /// The plain reader with a mistake.
-struct Planted(fn(&mut Question, &mut [u8]) -> Answer);
+struct Planted(fn(&mut Question, &mut Lent) -> Answer);
 
 impl Reader for Planted {
-    fn answer(&self, question: &mut Question, output: &mut [u8]) -> Answer {
+    fn answer(&self, question: &mut Question, output: &mut Lent) -> Answer {
         (self.0)(question, output)
     }
 }
 
-fn plain(question: &mut Question, output: &mut [u8]) -> Answer {
+fn plain(question: &mut Question, output: &mut Lent) -> Answer {
     Plain.answer(question, output)
 }
 
 /// The library has to differ from the reader, in a question that `fits`.
-fn found(mistake: fn(&mut Question, &mut [u8]) -> Answer, fits: fn(&Question) -> bool) {
+fn found(mistake: fn(&mut Question, &mut Lent) -> Answer, fits: fn(&Question) -> bool) {
     let limits = Limits { count: Some(COUNT), time: None };
     let difference = run(&Library, &Planted(mistake), SEED, limits, |_, _| {}).expect_err("the mistake is not found");
     assert!(fits(&difference.question), "{difference}");
@@ -281,7 +281,7 @@ fn writing_touches_a_byte_beyond() {
         |question, output| {
             let told = plain(question, output);
             if let Answer::Write(plain::Written { number: 0, length, .. }) = told {
-                if let Some(beyond) = output.get_mut(length as usize) {
+                if let Some(beyond) = output.octets.get_mut(length as usize) {
                     *beyond ^= 1;
                 }
             }
@@ -297,7 +297,7 @@ fn a_refused_writer_writes_what_fits() {
         |question, output| {
             let told = plain(question, output);
             if let (Answer::Write(plain::Written { number: 9, .. }), Question::Write { items, .. }) = (told, question) {
-                for (to, from) in output.iter_mut().zip(items) {
+                for (to, from) in output.octets.iter_mut().zip(items) {
                     *to = *from;
                 }
             }
@@ -332,4 +332,55 @@ fn a_difference_is_told_in_full() {
     for part in ["seed 0, question 0: integer", "value: -123", "value: 5", "item 020185"] {
         assert!(text.contains(part), "{part} is missing in {text}");
     }
+}
+
+#[test]
+fn an_image_of_another_day_is_burnt() {
+    found(
+        |question, output| match question {
+            // Each load of another day than the last opening's is made one of its day.
+            Question::Replay { log, .. } => {
+                let mut changed = log.clone();
+                let mut day = [0; 4];
+                for record in changed.chunks_exact_mut(8) {
+                    match record[0] {
+                        1 => day.copy_from_slice(&record[4..]),
+                        2 => record[4..].copy_from_slice(&day),
+                        _ => {}
+                    }
+                }
+                plain::replay(&changed, &mut output.list).into()
+            }
+            _ => plain(question, output),
+        },
+        |question| matches!(question, Question::Replay { .. }),
+    );
+}
+
+#[test]
+fn the_list_is_written_where_it_is_too_short() {
+    found(
+        |question, output| {
+            let told = plain(question, output);
+            if let (Question::Replay { .. }, (9, 0), Some(first)) = (question, told.head(), output.list.first_mut()) {
+                *first = 0;
+            }
+            told
+        },
+        |question| matches!(question, Question::Replay { .. }),
+    );
+}
+
+#[test]
+fn the_rest_of_the_list_is_cleared() {
+    found(
+        |question, output| {
+            let told = plain(question, output);
+            if let Answer::Replay(replayed) = told {
+                output.list.iter_mut().skip(replayed.faulty as usize).for_each(|number| *number = 0);
+            }
+            told
+        },
+        |question| matches!(question, Question::Replay { .. }),
+    );
 }

@@ -1,5 +1,5 @@
-//! Makes DER items, certificates, CRLs, trust images, verdict tables and
-//! questions, for tests and benchmarks. All of it follows from a seed.
+//! Makes DER items, certificates, CRLs, trust images, verdict tables, tray
+//! logs and questions, for tests and benchmarks. All of it follows from a seed.
 
 #![forbid(unsafe_code)]
 
@@ -17,6 +17,7 @@ pub mod questions;
 pub mod random;
 pub mod table;
 pub mod time;
+pub mod tray;
 pub mod tree;
 pub mod world;
 

@@ -10,6 +10,7 @@ use crate::image::{self, Image, BAD_DAYS};
 use crate::random::Random;
 use crate::table;
 use crate::time::{second_after, second_before, BAD_MOMENTS};
+use crate::tray;
 use crate::tree;
 use crate::world::{World, MOMENT, SIGNER};
 use crate::Break;
@@ -45,6 +46,11 @@ pub enum Question {
         table: Vec<u8>,
         moment: u64,
         target: u64,
+    },
+    /// A tray log; `room` is how many numbers the lent list has.
+    Replay {
+        log: Vec<u8>,
+        room: usize,
     },
 }
 
@@ -95,7 +101,8 @@ impl Source {
             71..=74 => Question::Image(self.image()),
             75..=77 => self.image_for_day(),
             78..=80 => self.entry(),
-            81..=84 => self.write(),
+            81..=83 => self.write(),
+            84..=86 => self.replay(),
             _ => self.chain(),
         }
     }
@@ -318,6 +325,19 @@ impl Source {
             _ => needed,
         };
         Question::Write { items, kinds, flags, lengths, day, room }
+    }
+
+    fn replay(&mut self) -> Question {
+        let random = &mut self.random;
+        let log = tray::varied(random);
+        let records = log.len() / tray::RECORD;
+        let room = match random.below(8) {
+            0 => 0,
+            1..=4 => random.below(records / 3 + 2),
+            5 => records,
+            _ => records + random.below(4),
+        };
+        Question::Replay { log, room }
     }
 
     fn chain(&mut self) -> Question {

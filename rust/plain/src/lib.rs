@@ -19,6 +19,7 @@ mod name;
 mod reader;
 mod refusal;
 mod time;
+mod tray;
 
 pub use calendar::{day_difference, Days};
 pub use certificate::{certificate, Certificate};
@@ -27,3 +28,4 @@ pub use crl::{crl, crl_age, Crl};
 pub use der::{walk, Walk};
 pub use image::{entry, image, image_for_day, write, Entry, Image, Written};
 pub use integer::{integer, Integer};
+pub use tray::{replay, Replayed};

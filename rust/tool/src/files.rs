@@ -15,12 +15,21 @@ pub fn shown(path: &OsStr) -> String {
     printable(&path.to_string_lossy())
 }
 
-/// A whole file; `-` is standard input.
+/// A file; `-` is standard input. Of a long one no more is read than tells that it is too long.
 pub fn read(path: &OsStr) -> Result<Vec<u8>, Stop> {
+    read_to(path, MOST)
+}
+
+/// A whole file, however long it is.
+pub fn read_all(path: &OsStr) -> Result<Vec<u8>, Stop> {
+    read_to(path, u64::MAX)
+}
+
+fn read_to(path: &OsStr, most: u64) -> Result<Vec<u8>, Stop> {
     let mut bytes = Vec::new();
     let done = match path == "-" {
-        true => io::stdin().lock().take(MOST).read_to_end(&mut bytes),
-        false => File::open(path).and_then(|file| file.take(MOST).read_to_end(&mut bytes)),
+        true => io::stdin().lock().take(most).read_to_end(&mut bytes),
+        false => File::open(path).and_then(|file| file.take(most).read_to_end(&mut bytes)),
     };
     match done {
         Ok(_) => Ok(bytes),

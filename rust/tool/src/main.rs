@@ -21,6 +21,7 @@ mod stop;
 mod strings;
 mod table;
 mod text;
+mod tray;
 mod tree;
 
 use std::ffi::OsString;

@@ -89,6 +89,53 @@ fn chains() {
 }
 
 #[test]
+fn trays() {
+    let bench = Bench::new("expected-trays");
+    held("tray-append.txt", &bench.line("tray night.log --append --open 20261115 --load 20261114 --burn 1-40"));
+    held("tray-stale.txt", &bench.line("tray night.log"));
+    let more = "--load 20261115 --burn 1-20 --burn 7 --open 20261114 --open 20261231 --burn 1 --burn 41";
+    held("tray-more-json.txt", &bench.line(&format!("tray night.log --append {more} --json")));
+    held("tray-json.txt", &bench.line("tray night.log --json"));
+    let good = "--open 20261115 --load 20261115 --burn 1-3 --burn 7 --open 20261115 --burn 3";
+    bench.line(&format!("tray good.log --append {good}"));
+    held("tray-good.txt", &bench.line("tray good.log"));
+    bench.write("cut.log", &[1, 0, 0, 0, 1]);
+    held("tray-cut.txt", &bench.line("tray cut.log"));
+    bench.write("every.log", &every_fault());
+    held("tray-every-fault.txt", &bench.line("tray every.log"));
+}
+
+/// A log with each fault, in the order of the rules.
+fn every_fault() -> Vec<u8> {
+    let day = |number: u32| number.to_be_bytes();
+    let record =
+        |action: u8, unit: u8, zeros: [u8; 2], [a, b, c, d]: [u8; 4]| [action, unit, zeros[0], zeros[1], a, b, c, d];
+    [
+        record(3, 1, [0, 0], day(0)),
+        record(3, 1, [0, 0], day(20261115)),
+        record(1, 1, [0, 0], day(20261115)),
+        record(1, 0, [0, 1], day(20261115)),
+        record(1, 0, [0, 0], day(20260229)),
+        record(1, 0, [0, 0], day(20261115)),
+        record(3, 1, [0, 0], day(0)),
+        record(2, 0, [0, 0], day(19491231)),
+        record(2, 9, [0, 0], day(20261115)),
+        record(2, 0, [0, 0], day(20261114)),
+        record(3, 1, [0, 0], day(0)),
+        record(2, 0, [0, 0], day(20261115)),
+        record(3, 0, [0, 0], day(0)),
+        record(3, 41, [0, 0], day(0)),
+        record(3, 40, [0, 0], day(0)),
+        record(3, 40, [0, 0], day(0)),
+        record(3, 1, [0, 0], day(1)),
+        record(1, 0, [0, 0], day(20261114)),
+        record(4, 0, [0, 0], day(0)),
+        record(0, 0, [0, 0], day(0)),
+    ]
+    .concat()
+}
+
+#[test]
 fn days_and_demo() {
     let bench = Bench::new("expected-days");
     held("days.txt", &bench.line("days 20210101 20201231"));

@@ -363,3 +363,34 @@ fn standard_input_and_a_closed_pipe() {
     drop(child.stdout.take());
     assert_eq!(child.wait().unwrap().code(), Some(0));
 }
+
+#[test]
+fn status_65_faulty_records() {
+    let bench = Bench::new("faulty");
+    bench.status("tray night.log", 66);
+    bench.status("tray night.log --append --open 20261115 --load 20261115 --burn 1-40", 0);
+    bench.status("tray night.log", 0);
+    bench.status("tray night.log --append --burn 41", 0);
+    bench.status("tray night.log", 65);
+    let all = bench.read("night.log");
+    assert_eq!(all.len(), 43 * 8);
+    for line in [
+        "tray night.log --open 20261115",
+        "tray night.log --append",
+        "tray night.log --append --burn 256",
+        "tray night.log --append --burn 3-2",
+        "tray night.log --append --burn x",
+        "tray night.log --append --open 4294967296",
+        "tray night.log --append --burn 1 --load day",
+        "tray - --append --burn 1",
+        "tray",
+    ] {
+        bench.status(line, 64);
+    }
+    assert_eq!(bench.read("night.log"), all, "the log was changed");
+    bench.status("tray none/night.log --append --burn 1", 73);
+    bench.write("cut.log", &all[..9]);
+    bench.status("tray cut.log", 1);
+    bench.status("tray cut.log --append --burn 1", 1);
+    assert_eq!(bench.read("cut.log"), all[..9], "a log that is cut was changed");
+}

@@ -4,7 +4,7 @@
 #![allow(unsafe_code)]
 
 use crate::raw;
-pub use crate::raw::{Certificate, Chain, Crl, Days, Entry, Image, Integer, Walk, Write};
+pub use crate::raw::{Certificate, Chain, Crl, Days, Entry, Image, Integer, Replay, Walk, Write};
 
 // Each call lends slices for its own time only, and a slice's pointer and length are what the archive asks for: not null,
 // and none of them overlaps the one that is written, which Rust's borrows see to.
@@ -65,4 +65,8 @@ pub fn write(items: &[u8], kinds: &[u8], flags: &[u8], lengths: &[u32], day: u64
 
 pub fn chain(image: &[u8], table: &[u8], moment: u64, target: u64) -> Chain {
     unsafe { raw::vrbolist_chain(image.as_ptr(), image.len(), table.as_ptr(), table.len(), moment, target) }
+}
+
+pub fn replay(log: &[u8], list: &mut [u64]) -> Replay {
+    unsafe { raw::vrbolist_replay(log.as_ptr(), log.len(), list.as_mut_ptr(), list.len()) }
 }

@@ -143,6 +143,13 @@ pub fn chain(image: &[u8], table: &[u8], moment: u64, target: u64) -> Result<Vec
     passed(told.number, told.detail, ()).map(|()| part(&told.places, 0, told.length).to_vec())
 }
 
+/// Replays a tray log, records of 8 bytes, and gives the numbers of the faulty records, from 0. The list is lent: it has to
+/// have room for them, and its rest stays.
+pub fn replay<'a>(log: &[u8], list: &'a mut [u64]) -> Result<&'a [u64], Refusal> {
+    let told = answers::replay(log, list);
+    passed(told.number, told.detail, ()).map(|()| list.get(..told.faulty as usize).unwrap_or_default())
+}
+
 fn passed<T>(number: u64, detail: u64, fields: T) -> Result<T, Refusal> {
     match number {
         0 => Ok(fields),

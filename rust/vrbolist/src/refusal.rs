@@ -21,7 +21,7 @@ impl fmt::Display for Refusal {
             6 => write!(to, "refusal 6: the image is of another day than the wanted one"),
             7 => write!(to, "refusal 7: there is no good chain"),
             8 => write!(to, "refusal 8: the INTEGER has more than 8 octets"),
-            9 => write!(to, "refusal 9: the output is shorter than the image"),
+            9 => write!(to, "refusal 9: the output is shorter than what would be written"),
             number => write!(to, "refusal {number}, detail {detail}"),
         }
     }

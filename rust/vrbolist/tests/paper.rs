@@ -1,6 +1,6 @@
 //! The wrapper on a few worked cases: passes, refusals, and parts as slices.
 
-use vrbolist::{day_difference, image, integer, walk, Refusal};
+use vrbolist::{day_difference, image, integer, replay, walk, Refusal};
 
 #[test]
 fn walks() {
@@ -30,4 +30,15 @@ fn smallest_image() {
 fn a_refusal_says_what_it_means() {
     let told = Refusal { number: 4, detail: 12 }.to_string();
     assert!(told.contains("rule 12"), "{}", told);
+}
+
+#[test]
+fn burnt_before_any_opening() {
+    let log = [3, 1, 0, 0, 0, 0, 0, 0];
+    let mut list = [7; 2];
+    assert_eq!(replay(&log, &mut list), Ok(&[0][..]));
+    assert_eq!(list, [0, 7]);
+    assert_eq!(replay(&log, &mut []), Err(Refusal { number: 9, detail: 0 }));
+    assert_eq!(replay(&log[1..], &mut []), Err(Refusal { number: 1, detail: 0 }));
+    assert_eq!(replay(&[], &mut []), Ok(&[][..]));
 }

@@ -7,6 +7,7 @@ pub mod demo;
 pub mod image;
 pub mod item;
 pub mod pack;
+pub mod tray;
 pub mod unpack;
 pub mod walk;
 
@@ -23,7 +24,7 @@ pub struct Command {
     pub run: fn(&Given) -> Result<Answer, Stop>,
 }
 
-const COMMANDS: [&Command; 9] = [
+const COMMANDS: [&Command; 10] = [
     &item::COMMAND,
     &walk::COMMAND,
     &image::COMMAND,
@@ -32,6 +33,7 @@ const COMMANDS: [&Command; 9] = [
     &chain::COMMAND,
     &days::COMMAND,
     &age::COMMAND,
+    &tray::COMMAND,
     &demo::COMMAND,
 ];
 
@@ -47,11 +49,12 @@ vrbolist: judges passport-signing certificates, CRLs, trust images and chains
                                                    the chain to a signer, or why there is none
   vrbolist days A B                                days from one day to another
   vrbolist age CRL DAY                             how old a CRL is on a day
+  vrbolist tray LOG [--append ..]                  replays a tray log, or adds to it
   vrbolist demo                                    a first look, with the items of the repository
 
 Items are DER or PEM; of a PEM file the first block is taken. FILE - is standard input. Every
 command takes --json and --help. Exit status: 0 passed, 1 to 9 the number of the refusal, 64 wrong
-usage, 66 no such input, 73 cannot write.
+usage, 65 a log with a faulty record, 66 no such input, 73 cannot write.
 
 Example:
   vrbolist item tests/data/made/ut-signer-1.der --as signer

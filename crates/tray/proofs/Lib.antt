@@ -1,0 +1,5 @@
+pub mod Told
+pub mod Fields
+pub mod Turns
+pub mod Answers
+pub mod Theorems

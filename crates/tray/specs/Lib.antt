@@ -1,0 +1,4 @@
+pub mod Machine
+pub mod Records
+pub mod Answer
+pub mod Listing
