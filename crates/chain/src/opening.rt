@@ -82,18 +82,17 @@ fn wanted(
     of_country(item, kind, first, second)
 }
 
-// Whether the place has verdict 1 for some other.
+// Whether the place has verdict 1 for some other, with no exit before the last octet of its line.
 fn speaks_up(table: &[u8], places: usize, place: usize) -> bool
     requires { ⌜ (places ≤ 96) × (place < places) ⌝ }
     ensures { λ r. ⌜ r ≡ speaksUp places (now (table .entry)) place ⌝ }
 {
     let line = part(table, place * places, places);
+    let mut speaks = false;
     let mut v = 0;
     while v < line.len() {
-        if line[v] == 1 {
-            return true;
-        }
+        speaks = speaks | (line[v] == 1);
         v += 1;
     }
-    false
+    speaks
 }
