@@ -22,7 +22,7 @@ use Rattle.chain.specs.declared.asking.Asked.the-variants as asked
 use Rattle.chain.specs.declared.Answer.{Answer}
 use Rattle.chain.specs.Answer.{onImage, askedOf, goodChains, Shows, nothing, something, Answered, none, found}
 use Rattle.usable.specs.Table.{tableGood}
-use Rattle.image.proofs.Opened.{opened-image}
+use Rattle.image.proofs.Few.{opened-image}
 
 not-over : {why : Refusal} {n : ℕ} → _≡_ {A = Asked} (asked.Refused why) (asked.Over n) → ⊥
 not-over e = let z : _≡_ {A = ℕ} 0 1 = cc in omega arith

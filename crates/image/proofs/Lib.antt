@@ -1,5 +1,5 @@
 pub mod Widths
 pub mod Fields
 pub mod Opening
-pub mod Opened
+pub mod Few
 pub mod Places

@@ -54,4 +54,4 @@ letters-length version first second = behind (eqb version 2) first second
 pub entry-length :
     (version kind flags size offset first second : ℕ) → length (entryBytes version kind flags size offset first second) ≡ width version
 unfolding entryBytes big
-entry-length version kind flags size offset first second = letters-length version first second
+entry-length version kind flags size offset first second = omega (arith, letters-length version first second)

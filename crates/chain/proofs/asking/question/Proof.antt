@@ -2,7 +2,7 @@
 use mathlib.Core.Path.{sym, _∙_}
 use borrow.Author.Tests.{lt-ltb, le-ltb, eq-eqb, ne-eqb, not-true, not-false}
 use Rattle.chain.specs.Answer.{onImage, askedOf}
-use Rattle.image.proofs.Opened.{opened-image}
+use Rattle.image.proofs.Few.{opened-image}
 use borrow.Author.Needs.{needs}
 use Rattle.chain.proofs.asking.question.Statement.{statement}
 use Rattle.chain.proofs.asking.question.Tie as tie
