@@ -19,9 +19,9 @@ use Rattle.graph.proofs.Theorems as graph
 use Rattle.image.specs.declared.Opened.{Opened}
 use Rattle.image.specs.declared.Opened.the-variants as opened
 use Rattle.image.specs.Items.{Item}
-use Rattle.image.specs.Index.{entryCount, dayIn, entryIn}
+use Rattle.image.specs.Index.{entryCount, versionIn, dayIn, entryIn}
 use Rattle.image.specs.Rules.{rules}
-use Rattle.image.specs.Answer.{graded, openedOf}
+use Rattle.image.specs.Answer.{graded, openedWithin, openedOf}
 use Rattle.chain.specs.declared.asking.Asked.the-variants as asked
 use Rattle.chain.specs.declared.Answer.{Answer}
 use Rattle.chain.specs.declared.Outcome.the-variants.{Shown, Refused}
