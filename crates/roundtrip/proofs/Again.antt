@@ -2,7 +2,7 @@
 use mathlib.Core.Path.{_≡_, refl, sym, _∙_, ap, ap₂}
 use mathlib.Core.Bool.{Bool, true, false, cond, _&&_, and-eq-true-iff}
 use mathlib.Core.List.{List, [], _∷_, _++_, append-assoc}
-use Prim.Native.Nat.{ℕ, zero, suc, _+_, _-_, _*_, _≤_}
+use Prim.Native.Nat.{ℕ, zero, suc, _+_, _-_, _*_, _≤_, _<_}
 use native.Mathlib.Omega.{arith}
 use borrow.Author.Tests.{eqb-true, le-leb}
 use lib.Dec.{eqb}
@@ -58,7 +58,7 @@ letters-read :
     (version : ℕ) {s : List ℕ} → Octets s → (at : ℕ)
     → Octets (entryAt version s at .first ∷ entryAt version s at .second ∷ [])
     × (lettersGood version (entryAt version s at .first ∷ entryAt version s at .second ∷ []) ≡ true)
-unfolding entryAt letterAt lettersGood
+unfolding entryAt letterAt lettersGood zeros
 letters-read version {s} o at = go (eqb version 2)
   where
     go :
@@ -66,7 +66,7 @@ letters-read version {s} o at = go (eqb version 2)
         → Octets (cond b (field s (at + 8) 1) 0 ∷ cond b (field s (at + 9) 1) 0 ∷ [])
         × (cond b true (zeros (cond b (field s (at + 8) 1) 0 ∷ cond b (field s (at + 9) 1) 0 ∷ [])) ≡ true)
     go true = (octet (field-octet o (at + 8)) (octet (field-octet o (at + 9)) no-octet), refl)
-    go false = (octet (omega arith) (octet (omega arith) no-octet), refl)
+    go false = let small : 0 < 256 = omega arith in (octet {o = 0} small (octet {o = 0} small no-octet), refl)
 
 pub record Again (version : ℕ) (s : List ℕ) (items : List Item) (at left sum total : ℕ) : Type 0 where
   pub many : length items ≡ left
@@ -117,7 +117,7 @@ items-again version s o (suc left) at sum total room limit e =
     }
 
 pub image-again :
-    (s : List ℕ) → Octets s → Holds s
+    (s : List ℕ) → Octets s → Holds 1 2 s
     → (imageBytes (versionIn s) (itemsIn s) (dayIn s) ≡ s) × Fits (versionIn s) (itemsIn s) (dayIn s)
 unfolding imageBytes itemsIn totalOf trailerOf versionGood
 image-again s o h =

@@ -9,15 +9,14 @@ use lib.Dec.{leb, eqb}
 use lib.ListN.{length, getD, take, drop, length-drop, take-append-drop, drop-of-length-le}
 use lib.Seq.{length-take-le}
 use Rattle.octets.specs.Octets.{Octets, no-octet, octet}
-use Rattle.calendar.specs.Days.{realDay}
 use Rattle.tree.proofs.Cases.{cond-by}
 use Rattle.tree.proofs.Numbers.{octets-take, octets-drop}
 use Rattle.image.specs.Items.{Item, packed, imageBytes}
 use Rattle.image.specs.Rules.{fieldsGood}
 use Rattle.writer.specs.declared.Written.{Written}
 use Rattle.writer.specs.declared.Written.the-variants.{Length, Refused}
-use Rattle.writer.specs.Writing.{rowsGood, sumAll, versionGood, countsGood, zeros, lettersGood, argumentsGood, sizeOf, writtenOf, itemsOf}
-use Rattle.writer.proofs.Columns.{Told as Counted, arguments-tell}
+use Rattle.writer.specs.Writing.{rowsGood, sumAll, zeros, lettersGood, argumentsGood, sizeOf, writtenOf, itemsOf}
+use Rattle.writer.proofs.Columns.{arguments-tell}
 use Rattle.roundtrip.specs.Good.{GoodItems, no-item, good-item, Fits}
 use Rattle.roundtrip.proofs.Sizes.{length-image}
 
@@ -67,36 +66,13 @@ items-cut version (kind ∷ kinds) flags (size ∷ lengths) _ octets o (octet {o
     }
 
 module _ (version : ℕ) (octets kinds flags lengths letters : List ℕ) (day : ℕ) where
-  record Arguments : Type 0 where
-    known : versionGood version ≡ true
-    real : realDay 1950 2099 day ≡ true
-    rows : rowsGood kinds flags lengths ≡ true
-    free : lettersGood version letters ≡ true
-    counted : Counted octets kinds flags lengths letters
-
-  arguments : argumentsGood version octets kinds flags lengths letters day ≡ true → Arguments
-  unfolding argumentsGood
-  arguments e =
-      let a = and-eq-true-iff (versionGood version) _ .0 e in
-      let b = and-eq-true-iff (realDay 1950 2099 day) _ .0 (a .1) in
-      let c = and-eq-true-iff (countsGood kinds flags lengths letters) _ .0 (b .1) in
-      let d = and-eq-true-iff (rowsGood kinds flags lengths) _ .0 (c .1) in
-      let f = and-eq-true-iff (eqb (sumAll lengths) (length octets)) _ .0 (d .1) in
-      record {
-        known = a .0;
-        real = b .0;
-        rows = d .0;
-        free = f .1;
-        counted = arguments-tell version octets kinds flags lengths letters day e;
-      }
-
   pub columns-cut :
       Octets octets → Octets letters → argumentsGood version octets kinds flags lengths letters day ≡ true
       → Cut version (itemsOf kinds flags lengths letters octets) octets (length kinds)
   columns-cut o p e =
-      let a = arguments e in
+      let a = arguments-tell version octets kinds flags lengths letters day e in
       let t = a .counted in
-      items-cut version kinds flags lengths letters octets o p (t .long) (t .lettered) (a .rows) (a .free) (t .sums)
+      items-cut version kinds flags lengths letters octets o p (t .long) (t .lettered) (a .rows) (a .free) (a .sums)
 
   pub columns-long :
       Octets octets → Octets letters → argumentsGood version octets kinds flags lengths letters day ≡ true
@@ -135,7 +111,7 @@ module _ (version : ℕ) (octets kinds flags lengths letters : List ℕ) (day : 
   pub columns-fit :
       (room size : ℕ) → Octets octets → Octets letters → Wrote room size → Fits version (itemsOf kinds flags lengths letters octets) day
   columns-fit room size o p w =
-      let a = arguments (w .good) in
+      let a = arguments-tell version octets kinds flags lengths letters day (w .good) in
       let c = columns-cut o p (w .good) in
       record {
         known = a .known;

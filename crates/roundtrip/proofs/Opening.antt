@@ -107,7 +107,7 @@ module _ (least most : ℕ) (s : List ℕ) where
           (a : Opened) → a ≡ Image n day version → Answer a
           → Holds least most s × (n ≡ entryCount s) × (day ≡ dayIn s) × (version ≡ versionIn s)
       told a e (good g h) = (h, cc, cc, cc)
-      told a e (broken k g least) = let z : _≡_ {A = ℕ} 0 1 = cc in absurd (omega arith)
+      told a e (broken k g first) = let z : _≡_ {A = ℕ} 0 1 = cc in absurd (omega arith)
 
   pub opened-refused :
       (r : Refusal) → openedWithin least most s ≡ Refused r → (k : ℕ) × (r ≡ refusal.Image k) × Smallest 1 (rules least most s) k
@@ -115,16 +115,16 @@ module _ (least most : ℕ) (s : List ℕ) where
     where
       told : (a : Opened) → a ≡ Refused r → Answer a → (k : ℕ) × (r ≡ refusal.Image k) × Smallest 1 (rules least most s) k
       told a e (good g h) = let z : _≡_ {A = ℕ} 0 1 = cc in absurd (omega arith)
-      told a e (broken k g least) = (k, cc, least)
+      told a e (broken k g first) = (k, cc, first)
 
   pub refused-smallest : (k : ℕ) → openedWithin least most s ≡ Refused (refusal.Image k) → Smallest 1 (rules least most s) k
   refused-smallest k e =
-      let (n, same, least) = opened-refused (refusal.Image k) e in
+      let (n, same, first) = opened-refused (refusal.Image k) e in
       let number : n ≡ k = cc in
-      rw number at least
+      rw number at first
 
   pub smallest-refused : (k : ℕ) → Smallest 1 (rules least most s) k → openedWithin least most s ≡ Refused (refusal.Image k)
   unfolding openedWithin graded
-  smallest-refused k least =
-      let same : firstBroken 1 (rules least most s) ≡ k = smallest-told 1 (rules least most s) least in
-      rw (same, ne-eqb k 0 (λ z. omega (arith, least .numbered)))
+  smallest-refused k first =
+      let same : firstBroken 1 (rules least most s) ≡ k = smallest-told 1 (rules least most s) first in
+      rw (same, ne-eqb k 0 (λ z. omega (arith, first .numbered)))

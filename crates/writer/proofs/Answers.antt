@@ -49,4 +49,4 @@ module _ (version : ℕ) (octets kinds flags lengths letters : List ℕ) (day : 
         unfolding outputOf onWritten
         output-written =
             let tell = arguments-tell version octets kinds flags lengths letters day good in
-            simp (all-written, image-of version octets kinds flags lengths letters day (tell .long) (tell .sums), append-assoc)
+            simp (all-written, image-of version octets kinds flags lengths letters day (tell .counted .long) (tell .sums), append-assoc)

@@ -1,7 +1,7 @@
 -- The columns item by item, and the image that they make: each entry has the octets of its version, and lengths that sum to
 -- the packed octets cut those into items that are all of them.
 use Prim.Native.Nat.{ℕ, suc, _+_, _*_, _≤_, _<_}
-use mathlib.Core.Path.{_≡_, refl, ap, _∙_}
+use mathlib.Core.Path.{_≡_, refl, ap, sym, _∙_}
 use mathlib.Core.Bool.{Bool, true, false, _&&_}
 use mathlib.Core.List.{List, [], _∷_, _++_}
 use native.Mathlib.Nat.{add-zero}
@@ -9,7 +9,7 @@ use native.Mathlib.Numerals.{add-one}
 use native.Mathlib.Omega.{arith}
 use borrow.Author.Tests.{leb-true, eqb-true}
 use lib.Dec.{leb, eqb}
-use lib.ListN.{length, getD, take, drop, length-append, length-drop, take-append-drop}
+use lib.ListN.{length, getD, take, drop, length-append, length-drop, take-append-drop, drop-of-length-le}
 use lib.Seq.{drop-cons, drop-drop, getD-drop, length-take-le}
 use Rattle.calendar.specs.Days.{realDay}
 use Rattle.image.specs.Items.{packed, entryBytes, indexBytes, trailerBytes, imageBytes}
@@ -17,7 +17,7 @@ use Rattle.image.specs.Index.{width}
 use Rattle.image.specs.Rules.{fieldsGood}
 use Rattle.image.proofs.Widths.{entry-length}
 use Rattle.writer.specs.Rows.{rowsBytes}
-use Rattle.writer.specs.Writing.{rowsGood, sumAll, versionGood, countsGood, zeros, argumentsGood, itemsOf}
+use Rattle.writer.specs.Writing.{rowsGood, sumAll, versionGood, countsGood, zeros, lettersGood, argumentsGood, itemsOf}
 
 head-at : (l : List ℕ) (i : ℕ) → getD (drop i l) 0 0 ≡ getD l i 0
 head-at l i = getD-drop i l 0 0 ∙ ap (λ (n : ℕ). getD l n 0) (add-zero i)
@@ -71,27 +71,29 @@ rows-length version (kind ∷ rest) flags lengths letters offset =
     )
     (omega (arith, rows-length version rest (drop 1 flags) (drop 1 lengths) (drop 2 letters) (offset + size)))
 
+and-assoc : (a b c : Bool) → ((a && b) && c) ≡ (a && (b && c))
+and-assoc true b c = refl
+and-assoc false b c = refl
+
+and-true-right : (a : Bool) → (a && true) ≡ a
+and-true-right true = refl
+and-true-right false = refl
+
 and-true : (a b : Bool) → (a && b) ≡ true → (a ≡ true) × (b ≡ true)
 and-true true b e = (refl, e)
 and-true false b e = let z : _≡_ {A = ℕ} 0 1 = cc in absurd (omega arith)
 
--- what arguments tell that are good
-pub record Told (octets kinds flags lengths letters : List ℕ) : Type 0 where
+-- what columns tell that are equally many
+pub record Counted (kinds flags lengths letters : List ℕ) : Type 0 where
   pub few : length kinds ≤ 96
   pub flagged : length flags ≡ length kinds
   pub long : length lengths ≡ length kinds
   pub lettered : length letters ≡ 2 * length kinds
-  pub sums : sumAll lengths ≡ length octets
 
-pub arguments-tell :
-    (version : ℕ) (octets kinds flags lengths letters : List ℕ) (day : ℕ)
-    → argumentsGood version octets kinds flags lengths letters day ≡ true → Told octets kinds flags lengths letters
-unfolding argumentsGood countsGood
-arguments-tell version octets kinds flags lengths letters day e =
-    let a = and-true (realDay 1950 2099 day) _ (and-true (versionGood version) _ e .1) in
-    let b = and-true (countsGood kinds flags lengths letters) _ (a .1) in
-    let c = and-true (eqb (sumAll lengths) (length octets)) _ (and-true (rowsGood kinds flags lengths) _ (b .1) .1) in
-    let few = and-true (leb (length kinds) 96) _ (b .0) in
+pub counts-tell : (kinds flags lengths letters : List ℕ) → countsGood kinds flags lengths letters ≡ true → Counted kinds flags lengths letters
+unfolding countsGood
+counts-tell kinds flags lengths letters e =
+    let few = and-true (leb (length kinds) 96) _ e in
     let flagged = and-true (eqb (length flags) (length kinds)) _ (few .1) in
     let long = and-true (eqb (length lengths) (length kinds)) _ (flagged .1) in
     record {
@@ -99,7 +101,34 @@ arguments-tell version octets kinds flags lengths letters day e =
       flagged = eqb-true _ _ (flagged .0);
       long = eqb-true _ _ (long .0);
       lettered = eqb-true _ _ (long .1);
-      sums = eqb-true _ _ (c .0);
+    }
+
+-- what arguments tell that are good
+pub record Told (version : ℕ) (octets kinds flags lengths letters : List ℕ) (day : ℕ) : Type 0 where
+  pub known : versionGood version ≡ true
+  pub real : realDay 1950 2099 day ≡ true
+  pub counted : Counted kinds flags lengths letters
+  pub rows : rowsGood kinds flags lengths ≡ true
+  pub sums : sumAll lengths ≡ length octets
+  pub free : lettersGood version letters ≡ true
+
+pub arguments-tell :
+    (version : ℕ) (octets kinds flags lengths letters : List ℕ) (day : ℕ)
+    → argumentsGood version octets kinds flags lengths letters day ≡ true → Told version octets kinds flags lengths letters day
+unfolding argumentsGood
+arguments-tell version octets kinds flags lengths letters day e =
+    let a = and-true (versionGood version) _ e in
+    let b = and-true (realDay 1950 2099 day) _ (a .1) in
+    let c = and-true (countsGood kinds flags lengths letters) _ (b .1) in
+    let d = and-true (rowsGood kinds flags lengths) _ (c .1) in
+    let f = and-true (eqb (sumAll lengths) (length octets)) _ (d .1) in
+    record {
+      known = a .0;
+      real = b .0;
+      counted = counts-tell kinds flags lengths letters (c .0);
+      rows = d .0;
+      sums = eqb-true _ _ (f .0);
+      free = f .1;
     }
 
 packed-items :
@@ -145,6 +174,13 @@ image-of version octets kinds flags lengths letters day n s =
       count-items kinds flags lengths letters octets,
     )
 
-pub zeros-next : (letters : List ℕ) (i : ℕ) → i < length letters → zeros (drop i letters) ≡ (eqb (getD letters i 0) 0 && zeros (drop (i + 1) letters))
+-- one octet more, and none
+pub zeros-kept :
+    (letters : List ℕ) (i : ℕ) (good : Bool) → i < length letters
+    → (good && zeros (drop i letters)) ≡ ((good && eqb (getD letters i 0) 0) && zeros (drop (i + 1) letters))
 unfolding zeros
-zeros-next letters i h = rw (add-one i, drop-cons letters i 0 h)
+zeros-kept letters i good h = rw (add-one i, drop-cons letters i 0 h) (sym (and-assoc good (eqb (getD letters i 0) 0) (zeros (drop (suc i) letters))))
+
+pub zeros-all : (letters : List ℕ) (i : ℕ) (good : Bool) → length letters ≤ i → (good && zeros (drop i letters)) ≡ good
+unfolding zeros
+zeros-all letters i good h = rw (drop-of-length-le letters h) (and-true-right good)

@@ -24,7 +24,7 @@ abbrev called : tie.After-shared-slice-known4 → tie.Start
 called c = c .before .before .before .before
 
 abbrev asked : tie.After-arguments-good → tie.Start
-asked c = called (c .before .before)
+asked c = called (c .before .before .before)
 
 abbrev measured : tie.After-copy → tie.After-width
 measured c = c .before .before .before .before
@@ -49,7 +49,7 @@ good c = sym (c .before .arguments-good .ensures) ∙ not-false _ (c .if1 .left)
 few : (c : tie.Else1) → length (asked (c .before) .args .kinds .now) ≤ 96
 few c =
     let a = asked (c .before) .args in
-    arguments-tell (a .version) (a .packed .now) (a .kinds .now) (a .flags .now) (a .lengths .now) (a .letters .now) (a .day) (good c) .few
+    arguments-tell (a .version) (a .packed .now) (a .kinds .now) (a .flags .now) (a .lengths .now) (a .letters .now) (a .day) (good c) .counted .few
 
 -- the octets of the index are few, and the image has as many as are said
 index-few : (c : tie.After-width) → c .width .result * length (asked (c .before .before) .args .kinds .now) ≤ 65536
@@ -95,10 +95,10 @@ put-index-requires c κs =
     let sized = measured copies in
     let a = asked (sized .before .before) .args in
     let tell = arguments-tell (a .version) (a .packed .now) (a .kinds .now) (a .flags .now) (a .lengths .now) (a .letters .now) (a .day) (good (sized .before)) in (
-      tell .flagged,
-      tell .long,
-      tell .lettered,
-      tell .few,
+      tell .counted .flagged,
+      tell .counted .long,
+      tell .counted .lettered,
+      tell .counted .few,
       simp (length-take, length-drop) (omega (arith, size sized, copies .before .before .if3 .left, c .before .before .out .given, copies .copy .kept)),
     )
 
