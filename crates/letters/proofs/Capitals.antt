@@ -114,14 +114,18 @@ unfolding lists.onWalk
 list-walk (walked.Refused r) j p = list-refused r
 list-walk (walked.Passed count) j p = p
 
-shape-of-list : (shape : list-shape.Shape) (next : list-layout.Layout → list-answer.Judged) → ((l : list-layout.Layout) → Low (ofList (next l))) → Low (ofList (lists.onShape shape next))
+shape-of-list :
+    (shape : list-shape.Shape) (next : list-layout.Layout → list-answer.Judged) → ((l : list-layout.Layout) → Low (ofList (next l)))
+    → Low (ofList (lists.onShape shape next))
 unfolding lists.onShape
 shape-of-list list-shaped.Broken next p = list-refused (refusal.Profile 1)
 shape-of-list (list-shaped.Parts l) next p = p l
 
 list-graded : (s : List ℕ) (l : list-layout.Layout) (rule : ℕ) → Low (ofList (lists.graded rule (lists.fieldsOf l (list-rules.readingsOf s l))))
 unfolding ofList lists.graded lists.fieldsOf list-rules.readingsOf
-list-graded s l rule = list-pick (eqb rule 0) (list-judged.Passed (lists.fieldsOf l (list-rules.readingsOf s l))) (list-judged.Refused (refusal.Profile rule)) (letters-low s _) none-low
+list-graded s l rule =
+    let passed : list-answer.Judged = list-judged.Passed (lists.fieldsOf l (list-rules.readingsOf s l)) in
+    list-pick (eqb rule 0) passed (list-judged.Refused (refusal.Profile rule)) (letters-low s _) none-low
 
 list-low : (s : List ℕ) → Low (ofList (lists.judgedOf paper s))
 unfolding lists.judgedOf lists.profileOf

@@ -1,3 +1,4 @@
 pub mod Filled
 pub mod Moves
 pub mod Ready
+pub mod Theorems

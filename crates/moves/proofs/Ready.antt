@@ -119,13 +119,14 @@ module _ {version : ℕ} {s : List ℕ} {n day from : ℕ} (r : Ready version s 
   items = itemsIn s
 
   -- the writer is given octets and columns that are those of the moved items
-  module _ {octets kinds flags sizes letters : List ℕ} (front : octets ≡ packed items) (k : kinds ≡ kindsOf items) (f : flags ≡ flagsOf items) (z : sizes ≡ lengthsOf items) (l : letters ≡ lettersOf (movedItems version items)) where
+  module _ {octets kinds flags sizes letters : List ℕ} (front : octets ≡ packed items) (k : kinds ≡ kindsOf items) where
     -- it answers for them by their size
     pub moved-sized :
-        1 ≤ version → version ≤ 2 → openedAs (other version) s ≡ Image n day from → (room : ℕ)
+        flags ≡ flagsOf items → sizes ≡ lengthsOf items → letters ≡ lettersOf (movedItems version items)
+        → 1 ≤ version → version ≤ 2 → openedAs (other version) s ≡ Image n day from → (room : ℕ)
         → writer.writtenOf version octets kinds flags sizes letters day room ≡ movedOf version s room
     unfolding movedOf onMoved movedBytes versionGood
-    moved-sized low high e room =
+    moved-sized f z l low high e room =
         let good : versionGood version ≡ true = rw (le-leb 1 version low, le-leb version 2 high) in
         let sized =
         columns-sized version (movedItems version items) day room good (moved-good version (r .fits .good))
@@ -136,11 +137,12 @@ module _ {version : ℕ} {s : List ℕ} {n day from : ℕ} (r : Ready version s 
 
     -- and writes their image
     pub moved-output :
-        1 ≤ version → version ≤ 2 → openedAs (other version) s ≡ Image n day from → (old : List ℕ)
+        flags ≡ flagsOf items → sizes ≡ lengthsOf items → letters ≡ lettersOf (movedItems version items)
+        → 1 ≤ version → version ≤ 2 → openedAs (other version) s ≡ Image n day from → (old : List ℕ)
         → writer.outputOf version octets kinds flags sizes letters day old ≡ outputOf version s old
     unfolding writer.outputOf outputOf movedBytes
-    moved-output low high e old =
+    moved-output f z l low high e old =
         let back =
         rw (moved-packed version items, moved-kinds version items, moved-flags version items, moved-lengths version items)
         at (columns-back (movedItems version items)) in
-        rw (moved-sized low high e (length old)) (rw (front, k, f, z, l) (rw (back, r .told)))
+        rw (moved-sized f z l low high e (length old)) (rw (front, k, f, z, l) (rw (back, r .told)))
