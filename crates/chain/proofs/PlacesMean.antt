@@ -1,27 +1,17 @@
 -- The item of a place is what its index entry tells, since the item list is made entry by entry; and it is held where a row of it says.
-use Prim.Native.Nat.{ℕ, zero, suc, _+_, _<_}
+use Prim.Native.Nat.{ℕ, zero, suc, _<_}
 use mathlib.Core.Path.{_≡_, refl, ap, _∙_}
 use mathlib.Core.List.{List, [], _∷_}
 use lib.ListN.{length, take, drop}
 use Rattle.image.specs.declared.IndexEntry.{IndexEntry}
 use Rattle.image.specs.Index as image
-use Rattle.image.specs.Index.{entryIn, itemsFrom, itemsIn, indexStart, entryCount, versionIn, width}
-use Rattle.image.proofs.Places.{item-from}
+use Rattle.image.specs.Index.{entryIn, itemsIn, indexStart, entryCount, versionIn}
+use Rattle.image.proofs.Places.{item-from, length-items}
 use Rattle.usable.specs.declared.opened.Row.{Row}
 use Rattle.usable.specs.Items.{itemAt}
 use Rattle.usable.specs.Rows.{heldIn, rowOf}
 use Rattle.usable.proofs.Scope.{Placed}
 use Rattle.chain.specs.Rounds.{startsIn}
-
-length-from : (version : ℕ) (s : List ℕ) (at left : ℕ) → length (itemsFrom version s at left) ≡ left
-unfolding itemsFrom
-length-from version s at zero = refl
-length-from version s at (suc left) = ap suc (length-from version s (at + width version) left)
-
--- there are as many items as entries
-pub length-items : (s : List ℕ) → length (itemsIn s) ≡ entryCount s
-unfolding itemsIn
-length-items s = length-from (versionIn s) s (indexStart s) (entryCount s)
 
 -- kind, flags, octets and letters of a place are those that its entry tells
 pub item-told :

@@ -4,25 +4,22 @@ use letters::Country;
 use letters::true_letters;
 use octets::part;
 ghost use mathlib.Core.Path.{_≡_};
-ghost use Prim.Native.Nat.{ℕ, _*_};
-ghost use lib.ListN.{take};
-ghost use Rattle.image.specs.declared.Opened.the-variants.{Image};
-ghost use Rattle.image.specs.Answer.{openedOf};
-ghost use Rattle.image.specs.Index.{entryCount, itemsIn};
-ghost use Rattle.roundtrip.specs.Columns.{kindsOf, flagsOf, lengthsOf, lettersOf};
-ghost use Rattle.moves.specs.Moving.{countryFor, movedItems};
+ghost use Prim.Native.Nat.{ℕ, _≤_, _<_};
+ghost use Rattle.image.specs.Index.{entryCount, entryIn};
+ghost use Rattle.moves.specs.Moving.{countryFor};
+ghost use Rattle.moves.specs.Rows.{Small, Tabled};
 
-pub struct Columns {
-    kinds: [u8; 96],
-    flags: [u8; 96],
-    lengths: [u32; 96],
-    letters: [u8; 192],
+pub(crate) struct Columns {
+    pub kinds: [u8; 96],
+    pub flags: [u8; 96],
+    pub lengths: [u32; 96],
+    pub letters: [u8; 192],
 }
 
 // Kinds, flags and lengths as the index tells them, letters as they stand in a version.
 pub(crate) fn columns_for(image: &[u8], entries: usize, version: usize) -> Columns
-    requires { ⌜ (entries ≡ entryCount (now image)) × (day : ℕ) × (from : ℕ) × (openedOf (now image) ≡ Image entries day from) ⌝ }
-    ensures { λ r. ⌜ (take entries (r .kinds) ≡ kindsOf (itemsIn (now (image .entry)))) × (take entries (r .flags) ≡ flagsOf (itemsIn (now (image .entry)))) × (take entries (r .lengths) ≡ lengthsOf (itemsIn (now (image .entry)))) × (take (2 * entries) (r .letters) ≡ lettersOf (movedItems version (itemsIn (now (image .entry))))) ⌝ }
+    requires { ⌜ (entries ≡ entryCount (now image)) × (entries ≤ 96) × ((place : ℕ) → place < entries → Small (now image) (entryIn (now image) place)) ⌝ }
+    ensures { λ r. ⌜ Tabled version (now (image .entry)) entries (r .kinds) (r .flags) (r .lengths) (r .letters) ⌝ }
 {
     let mut kinds = [0u8; 96];
     let mut flags = [0u8; 96];

@@ -5,13 +5,16 @@ use mathlib.Core.List.{List, [], _∷_, _++_}
 use Prim.Native.Nat.{ℕ, suc, _+_, _*_, _≤_}
 use native.Mathlib.Omega.{arith}
 use borrow.Author.Tests.{le-leb, eq-eqb}
-use lib.Dec.{eqb}
+use lib.Dec.{leb, eqb}
 use lib.ListN.{length, take, drop, length-append}
 use lib.Seq.{take-at, drop-at}
 use Rattle.image.specs.Items.{Item, packed, imageBytes}
 use Rattle.image.specs.Index.{width}
-use Rattle.writer.specs.declared.Written.the-variants.{Length}
-use Rattle.writer.specs.Writing.{rowsGood, sumAll, countsGood, zeros, lettersGood, argumentsGood, sizeOf, writtenOf, itemsOf}
+use Rattle.refusal.specs.declared.Refusal.the-variants.{Limit, Short}
+use Rattle.calendar.specs.Days.{realDay}
+use Rattle.writer.specs.declared.Written.{Written}
+use Rattle.writer.specs.declared.Written.the-variants.{Length, Refused}
+use Rattle.writer.specs.Writing.{rowsGood, sumAll, versionGood, countsGood, zeros, lettersGood, argumentsGood, sizeOf, writtenOf, itemsOf}
 use Rattle.roundtrip.specs.Good.{GoodItems, no-item, good-item, Fits}
 use Rattle.roundtrip.specs.Columns.{kindsOf, flagsOf, lengthsOf, lettersOf}
 use Rattle.roundtrip.proofs.Sizes.{length-image}
@@ -78,21 +81,32 @@ columns {version} (good-item {item} {rest} fields o pair letters good) =
       free = letters-join version (item .first) (item .second) (lettersOf rest) letters (c .free);
     }
 
+-- what the writer answers where nothing but the size may be refused
+abbrev pub sizedOf : ℕ → ℕ → Written
+sizedOf size room = cond (leb size 262144) (cond (leb size room) (Length size) (Refused Short)) (Refused (Limit 0))
+
+-- the columns of good items are refused for their size only
+pub columns-sized :
+    (version : ℕ) (items : List Item) (day room : ℕ) → versionGood version ≡ true → GoodItems version items → length items ≤ 96
+    → realDay 1950 2099 day ≡ true
+    → writtenOf version (packed items) (kindsOf items) (flagsOf items) (lengthsOf items) (lettersOf items) day room
+    ≡ sizedOf (length (imageBytes version items day)) room
+unfolding writtenOf argumentsGood countsGood sizeOf
+columns-sized version items day room known good few real =
+    let c = columns good in
+    let size : length (packed items) + width version * length items + 12 ≡ length (imageBytes version items day) =
+    sym (length-image version items day) in
+    rw (c .kinds, c .flags, c .lengths, c .letters, known, real, c .rows, c .sums, c .free, size)
+    (simp (
+      le-leb _ _ few,
+      eq-eqb (length items) _ refl,
+      eq-eqb (2 * length items) _ refl,
+      eq-eqb (length (packed items)) _ refl,
+    ))
+
 pub columns-written :
     (version : ℕ) (items : List Item) (day room : ℕ) → Fits version items day → length (imageBytes version items day) ≤ room
     → writtenOf version (packed items) (kindsOf items) (flagsOf items) (lengthsOf items) (lettersOf items) day room
     ≡ Length (length (imageBytes version items day))
-unfolding writtenOf argumentsGood countsGood sizeOf
 columns-written version items day room f h =
-    let c = columns (f .good) in
-    let size : length (packed items) + width version * length items + 12 ≡ length (imageBytes version items day) =
-    sym (length-image version items day) in
-    rw (c .kinds, c .flags, c .lengths, c .letters, f .known, f .real, c .rows, c .sums, c .free, size)
-    (simp (
-      le-leb _ _ (f .few),
-      eq-eqb (length items) _ refl,
-      eq-eqb (2 * length items) _ refl,
-      eq-eqb (length (packed items)) _ refl,
-      le-leb _ _ (f .small),
-      le-leb _ _ h,
-    ))
+    columns-sized version items day room (f .known) (f .good) (f .few) (f .real) ∙ rw (le-leb _ _ (f .small), le-leb _ _ h)
