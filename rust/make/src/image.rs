@@ -272,12 +272,21 @@ pub fn confuse(image: &mut [u8]) {
 
 /// Other letters for one item of an image of version 2.
 pub fn mislead(image: &mut [u8], random: &mut Random) {
-    if let Some(back) = some_entry(image, random).filter(|_| width(image) == 12) {
-        let at = image.len() - back + 8 + random.below(2);
-        image[at] = match random.below(3) {
-            0 => 0,
-            1 => b'A' + random.below(26) as u8,
-            _ => image[at] ^ 1 << random.below(8),
-        };
+    let found = some_entry(image, random).zip(some_entry(image, random)).filter(|_| width(image) == 12);
+    let Some((here, there)) = found else { return };
+    let (here, there) = (image.len() - here + 8, image.len() - there + 8);
+    let at = here + random.below(2);
+    match random.below(4) {
+        0 => image[here..here + 2].fill(0),
+        1 => image.copy_within(there..there + 2, here),
+        2 => image[at] = b'A' + random.below(26) as u8,
+        _ => image[at] ^= 1 << random.below(8),
+    }
+}
+
+/// Another kind for one item.
+pub fn rename(image: &mut [u8], random: &mut Random) {
+    if let Some(back) = some_entry(image, random) {
+        put(image, back, &[random.between(1, 4) as u8, 0]);
     }
 }

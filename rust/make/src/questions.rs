@@ -295,6 +295,7 @@ impl Source {
             3 => damage(&mut image, random),
             4 => change(&mut image, random),
             5 => image::confuse(&mut image),
+            6 => image::rename(&mut image, random),
             _ => {}
         }
         image
@@ -338,7 +339,7 @@ impl Source {
 
     fn write(&mut self) -> Question {
         let random = &mut self.random;
-        let made = if random.percent(1) { around_the_limit(random) } else { Image::varied(random) };
+        let made = if random.percent(3) { around_the_limit(random) } else { Image::varied(random) };
         let mut columns = Columns::of(&made);
         columns.spoil(random);
         let room = around(random, columns.needed());
