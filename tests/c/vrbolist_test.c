@@ -503,7 +503,7 @@ static void no_images(void) {
 
 #define LONG (VRBOLIST_IMAGE_LIMIT + 1024) /* room for an image that is too long */
 
-/* Images with about 262,144 bytes, by the octets of an index entry, and their move to version 2. */
+/* Images with about 262,144 bytes, by the octets of an index entry. */
 static void long_image(uint64_t version, size_t width) {
     static uint8_t bytes[16 * VRBOLIST_ITEM_LIMIT];
     static const uint8_t none[32];
