@@ -204,7 +204,8 @@ fn read_of(image: &[u8], version_good: impl Fn(u16) -> bool) -> Result<Open<'_>,
     }
     let index = &before[start as usize..];
     // 6: each entry; 7: all lengths sum to the index start.
-    match summed(index, width(version)) {
+    let sum = if version == 2 { summed::<12>(index) } else { summed::<8>(index) };
+    match sum {
         None => broken(6),
         Some(sum) if sum as u64 != start => broken(7),
         Some(_) => Ok(Open { image, entries, day, version, index }),
@@ -213,10 +214,9 @@ fn read_of(image: &[u8], version_good: impl Fn(u16) -> bool) -> Result<Open<'_>,
 
 /// The sum of all lengths, where every entry is good: its offset is the sum of the lengths before it, and behind the
 /// letters stand zeros. The letters themselves are free.
-#[inline(always)]
-fn summed(index: &[u8], width: usize) -> Option<usize> {
+fn summed<const WIDTH: usize>(index: &[u8]) -> Option<usize> {
     let mut sum = 0;
-    for octets in index.chunks_exact(width) {
+    for octets in index.chunks_exact(WIDTH) {
         let line = Line::of(octets);
         let length_good = line.length >= 1 && line.length <= ITEM_LIMIT;
         let fields_good = kind_and_flags_good(line.kind, line.flags) && length_good;

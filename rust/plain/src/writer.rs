@@ -67,7 +67,8 @@ impl Columns<'_> {
             }
             sum += length as usize;
         }
-        sum == self.items.len() && (version == 2 || self.letters.iter().all(|&letter| letter == 0))
+        // One OR over all letters: zero exactly when each is.
+        sum == self.items.len() && (version == 2 || self.letters.iter().fold(0, |all, letter| all | letter) == 0)
     }
 
     /// Writes good columns: the image's length, or 3, or 9.
@@ -86,20 +87,31 @@ impl Columns<'_> {
         let (packed, rest) = out.split_at_mut(self.items.len());
         packed.copy_from_slice(self.items);
         let (index, trailer) = rest.split_at_mut(width(version) * self.kinds.len());
-        let mut offset = 0u32;
-        for (place, line) in index.chunks_exact_mut(width(version)).enumerate() {
-            line[0] = self.kinds[place];
-            line[1] = self.flags[place];
-            line[2..4].copy_from_slice(&(self.lengths[place] as u16).to_be_bytes());
-            line[4..8].copy_from_slice(&offset.to_be_bytes());
-            if version == 2 {
-                line[8..12].copy_from_slice(&[self.letters[2 * place], self.letters[2 * place + 1], 0, 0]);
-            }
-            offset += self.lengths[place];
+        match version {
+            2 => self.fill_index::<12>(index),
+            _ => self.fill_index::<8>(index),
         }
         trailer[0..4].copy_from_slice(&(self.items.len() as u32).to_be_bytes());
         trailer[4..6].copy_from_slice(&(self.kinds.len() as u16).to_be_bytes());
         trailer[6..8].copy_from_slice(&version.to_be_bytes());
         trailer[8..12].copy_from_slice(&(day as u32).to_be_bytes());
+    }
+
+    /// Fills the index, whose entries have this many octets.
+    #[inline(always)]
+    fn fill_index<const WIDTH: usize>(&self, index: &mut [u8]) {
+        let columns = self.kinds.iter().zip(self.flags).zip(self.lengths).zip(self.letters.chunks_exact(2));
+        let mut offset = 0u32;
+        for (line, (((&kind, &flags), &length), letters)) in index.chunks_exact_mut(WIDTH).zip(columns) {
+            line[0] = kind;
+            line[1] = flags;
+            line[2..4].copy_from_slice(&(length as u16).to_be_bytes());
+            line[4..8].copy_from_slice(&offset.to_be_bytes());
+            if WIDTH == 12 {
+                line[8..10].copy_from_slice(letters);
+                line[10..12].fill(0);
+            }
+            offset += length;
+        }
     }
 }
