@@ -61,7 +61,8 @@ returns-4 c =
 
 returns-5 : tie.Need-returns-5
 returns-5 c =
-    let room = c .before .before .before .before .before in
+    let some = c .before .before .before .before in
+    let room = some .before in
     let run = counted room in
     let start = called (whole run) in
     let log = start .args .log .now in
