@@ -1,6 +1,7 @@
 // The issuer's country of an item, read without the walk and without anything behind the issuer.
 use elements::Element;
 use elements::Found;
+use elements::any_tagged;
 use elements::element_tagged;
 use names::Letters;
 use names::country_in;
@@ -11,10 +12,10 @@ ghost use Rattle.certificate.specs.Country.{issuerOf, countryOf};
 pub fn country(item: &[u8]) -> Letters
     ensures { λ r. ⌜ r ≡ countryOf (now (item .entry)) ⌝ }
 {
-    let Found::One(outermost) = element_tagged(item, 0, item.len(), 0x30) else {
+    let Found::One(outermost) = any_tagged(item, 0, item.len(), 0x30) else {
         return Letters::Unfit;
     };
-    let Found::One(tbs) = element_tagged(item, outermost.contents, outermost.end, 0x30) else {
+    let Found::One(tbs) = any_tagged(item, outermost.contents, outermost.end, 0x30) else {
         return Letters::Unfit;
     };
     let Found::One(issuer) = issuer_of(item, tbs) else {

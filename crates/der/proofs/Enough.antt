@@ -20,6 +20,7 @@ use Rattle.der.specs.Contents.{contentsGood}
 use Rattle.der.specs.Order.{smaller, isSet, handed}
 use Rattle.der.specs.Walk.{opened, filled, elementAt, listAt}
 use Rattle.der.specs.Fast.{stretch}
+use Rattle.der.specs.Onward.{Goes}
 use Rattle.der.specs.Falling.{Falls, Stands}
 use Rattle.der.proofs.Ascending.{smaller-none}
 use Rattle.der.proofs.Laws.{element-bad, element-deep, element-many, element-fallen, element-node}
@@ -106,12 +107,12 @@ module _ (forms : Forms) (prior s : List ℕ) (depth count : ℕ) where
       pub falls : count < forms .elements → smaller (take (skip + size) s) prior ≡ true → Falls forms prior s depth count
       falls few h base = spend _ (2 * length s) λ fuel _. sym (element-fallen forms fuel prior s base depth count tag skip size e shallow few h)
 
--- a list of which the elements before `at` have been read, the last of them from `prior` on
-abbrev pub ListLeft : Forms → Bool → List ℕ → ℕ → ℕ → ℕ → ℕ → ℕ → ℕ → Type 0
-ListLeft forms set s base depth count prior at read =
+-- a list of which the elements before `at` have been read, the last of them from `prior` on; what is left of it stands at depth `deep`
+abbrev pub ListLeft : Forms → Bool → List ℕ → ℕ → ℕ → ℕ → ℕ → ℕ → ℕ → ℕ → Type 0
+ListLeft forms set s base depth count prior at deep read =
     (fuel : ℕ) → 2 * length s + 2 ≤ fuel
     → (rest : ℕ) × (2 * (length s - at) + 2 ≤ rest)
-    × (listAt fuel forms set [] s base depth count ≡ listAt rest forms set (handed set (stretch s prior at)) (drop at s) (base + at) depth read)
+    × (listAt fuel forms set [] s base depth count ≡ listAt rest forms set (handed set (stretch s prior at)) (drop at s) (base + at) deep read)
 
 pub handed-none : (set : Bool) → handed set [] ≡ []
 unfolding handed
@@ -119,20 +120,20 @@ handed-none true = refl
 handed-none false = refl
 
 module _ (forms : Forms) (set : Bool) (s : List ℕ) (base depth count : ℕ) where
-  pub left-first : ListLeft forms set s base depth count 0 0 count
+  pub left-first : ListLeft forms set s base depth count 0 0 depth count
   left-first fuel h = (fuel, omega arith, rw (handed-none set, add-zero) refl)
 
-  module _ (prior at read : ℕ) (f : ListLeft forms set s base depth count prior at read) where
+  module _ (prior at deep read : ℕ) (f : ListLeft forms set s base depth count prior at deep read) where
     abbrev member : List ℕ
     member = handed set (stretch s prior at)
 
     go-on : (P : Walked → Type 0)
-        → ((rest : ℕ) → 2 * (length s - at) + 1 ≤ rest → P (listAt (suc rest) forms set member (drop at s) (base + at) depth read))
+        → ((rest : ℕ) → 2 * (length s - at) + 1 ≤ rest → P (listAt (suc rest) forms set member (drop at s) (base + at) deep read))
         → (fuel : ℕ) → 2 * length s + 2 ≤ fuel → P (listAt fuel forms set [] s base depth count)
     go-on P g fuel enough = go (f fuel enough .0) (f fuel enough .1) (f fuel enough .2)
       where
         go : (rest : ℕ) → 2 * (length s - at) + 2 ≤ rest
-            → listAt fuel forms set [] s base depth count ≡ listAt rest forms set member (drop at s) (base + at) depth read → P
+            → listAt fuel forms set [] s base depth count ≡ listAt rest forms set member (drop at s) (base + at) deep read → P
             (listAt fuel forms set [] s base depth count)
         go zero h e = absurd (omega arith)
         go (suc rest) h e = subst P (sym e) (g rest (omega arith))
@@ -140,7 +141,7 @@ module _ (forms : Forms) (set : Bool) (s : List ℕ) (base depth count : ℕ) wh
     pub left-none : length s ≤ at → ListIs forms set s base depth count (Passed read)
     left-none h =
         let empty : length (drop at s) ≡ 0 = omega (arith, length-drop at s) in
-        go-on (λ w. Passed read ≡ w) λ rest enough. sym (list-done forms rest set member (drop at s) (base + at) depth read empty)
+        go-on (λ w. Passed read ≡ w) λ rest enough. sym (list-done forms rest set member (drop at s) (base + at) deep read empty)
 
     module _ (more : at < length s) where
       whole : take (length s - at) (drop at s) ≡ drop at s
@@ -149,28 +150,38 @@ module _ (forms : Forms) (set : Bool) (s : List ℕ) (base depth count : ℕ) wh
       some : length (drop at s) ≡ 0 → ⊥
       some e = omega (arith, length-drop at s)
 
-      element-left : {r : Read} → ElementIs forms member (take (length s - at) (drop at s)) (base + at) depth read r
-          → (rest : ℕ) → 2 * (length s - at) + 1 ≤ rest → elementAt rest forms member (drop at s) (base + at) depth read ≡ r
-      element-left {r} g rest h = sym (subst (λ (l : List ℕ). ElementIs forms member l (base + at) depth read r) whole g rest (omega (arith, length-drop at s)))
+      element-left : {r : Read} → ElementIs forms member (take (length s - at) (drop at s)) (base + at) deep read r
+          → (rest : ℕ) → 2 * (length s - at) + 1 ≤ rest → elementAt rest forms member (drop at s) (base + at) deep read ≡ r
+      element-left {r} g rest h = sym (subst (λ (l : List ℕ). ElementIs forms member l (base + at) deep read r) whole g rest (omega (arith, length-drop at s)))
 
-      pub left-fault : {refusal : Refusal} → ElementIs forms member (take (length s - at) (drop at s)) (base + at) depth read (Fault refusal)
+      pub left-fault : {refusal : Refusal} → ElementIs forms member (take (length s - at) (drop at s)) (base + at) deep read (Fault refusal)
           → ListIs forms set s base depth count (Refused refusal)
       left-fault {refusal} g = go-on (λ w. Refused refusal ≡ w) λ rest enough.
-          sym (list-fault forms rest set member (drop at s) (base + at) depth read some refusal (element-left g rest enough))
+          sym (list-fault forms rest set member (drop at s) (base + at) deep read some refusal (element-left g rest enough))
 
-      module _ {used n : ℕ} (g : ElementIs forms member (take (length s - at) (drop at s)) (base + at) depth read (Past used n)) where
+      module _ {used n : ℕ} (g : ElementIs forms member (take (length s - at) (drop at s)) (base + at) deep read (Past used n)) where
         pub read-within : (2 ≤ used) × (at + used ≤ length s) × (n ≤ forms .elements)
         read-within =
             let e = element-left g (2 * (length s - at) + 1) (omega arith) in
-            let b = element-within forms (2 * (length s - at) + 1) member (drop at s) (base + at) depth read used n e in
+            let b = element-within forms (2 * (length s - at) + 1) member (drop at s) (base + at) deep read used n e in
             (b .0, omega (arith, b .1, length-drop at s), b .2)
 
-        pub left-next : ListLeft forms set s base depth count at (at + used) n
+        pub left-next : ListLeft forms set s base depth count at (at + used) deep n
         left-next = go-on (λ w. (rest : ℕ) × (2 * (length s - (at + used)) + 2 ≤ rest) × (w ≡ listAt rest forms set
-            (handed set (stretch s at (at + used))) (drop (at + used) s) (base + (at + used)) depth n)) λ rest enough.
+            (handed set (stretch s at (at + used))) (drop (at + used) s) (base + (at + used)) deep n)) λ rest enough.
             let span : at + used - at ≡ used = omega arith in (
               rest,
               omega (arith, read-within),
-              list-more forms rest set member (drop at s) (base + at) depth read some used n (element-left g rest enough)
+              list-more forms rest set member (drop at s) (base + at) deep read some used n (element-left g rest enough)
                   ∙ rw (drop-drop used at s, add-assoc base at used, span) refl,
             )
+
+-- where no order is asked, a list that goes on from elsewhere is left from there
+pub left-on : (forms : Forms) (s : List ℕ) (base depth count prior at deep read other to deeper more : ℕ)
+    → ListLeft forms false s base depth count prior at deep read → Goes forms s at deep read to deeper more
+    → ListLeft forms false s base depth count other to deeper more
+unfolding handed
+left-on forms s base depth count prior at deep read other to deeper more f g fuel enough =
+    let (rest, bound, first) = f fuel enough in
+    let (last, limit, second) = g base rest bound in
+    (last, limit, first ∙ second)

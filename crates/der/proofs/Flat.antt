@@ -51,54 +51,6 @@ module _ {tag : ℕ} {c : List ℕ} where
 pub getD-part : (s : List ℕ) (i e k : ℕ) → i + k < e → getD (stretch s i e) k 0 ≡ getD s (i + k) 0
 getD-part s i e k h = getD-take (e - i) (drop i s) k 0 (omega arith) ∙ getD-drop i s k 0
 
--- the forms without tags of two octets
-abbrev pub narrow : Forms → Forms
-narrow forms = record {
-  itemSize = forms .itemSize;
-  depth = forms .depth;
-  elements = forms .elements;
-  lengthOctets = forms .lengthOctets;
-  wideTags = false;
-}
-
-passed-not : {m : ℕ} {refusal : Refusal} → Passed m ≡ Refused refusal → ⊥
-passed-not e = let w : _≡_ {A = ℕ} 0 1 = cc in omega arith
-
-module _ (s : List ℕ) (two : 2 ≤ length s) (short : getD s 1 0 < 128) (all : 2 + getD s 1 0 ≡ length s) where
-  -- a list that is read without tags of two octets starts with a tag of one
-  first-known : (forms : Forms) (depth count m : ℕ) → Fills (narrow forms) false s depth count m → identifierGood (getD s 0 0) ≡ true
-  unfolding headingOf wideHeading
-  first-known forms depth count m f = go (identifierGood (getD s 0 0)) refl
-    where
-      go : (b : Bool) → identifierGood (getD s 0 0) ≡ b → b ≡ true
-      go true e = refl
-      go false e =
-          let bad : headingOf (narrow forms) s ≡ Bad = simp (le-ltb _ _ two, e) in
-          absurd (passed-not (f 0 (suc (suc (2 * length s))) (omega arith)
-          ∙ list-fault (narrow forms) (suc (2 * length s)) false [] s 0 depth count (λ z. omega arith) (Der 0)
-          (element-bad (narrow forms) (2 * length s) [] s 0 depth count bad)))
-
-  -- its first element fills it, so it is the only one, and the members of a SET may be read so
-  pub alone-fills : (forms : Forms) (depth count m : ℕ) → Fills (narrow forms) false s depth count m → Fills forms false s depth count m
-      → Fills forms true s depth count m
-  alone-fills forms depth count m f g base zero enough = absurd (omega arith)
-  alone-fills forms depth count m f g base (suc zero) enough = absurd (omega arith)
-  alone-fills forms depth count m f g base (suc (suc fuel)) enough = go (elementAt (suc fuel) forms [] s base depth count) refl
-    where
-      heads : headingOf forms s ≡ Header (getD s 0 0) 2 (getD s 1 0)
-      heads = short-header forms s two (first-known forms depth count m f) short (omega arith)
-
-      go : (r : Read) → elementAt (suc fuel) forms [] s base depth count ≡ r → Passed m ≡ listAt (suc (suc fuel)) forms true [] s base depth count
-      go (Fault refusal) e =
-          absurd (passed-not (g base (suc (suc fuel)) enough ∙ list-fault forms (suc fuel) false [] s base depth count (λ z. omega arith) refusal e))
-      go (Past used n) e =
-          let takes : used ≡ 2 + getD s 1 0 = element-takes forms (suc fuel) [] s base depth count (getD s 0 0) 2 (getD s 1 0) heads used n e in
-          let none : length (drop used s) ≡ 0 = omega (arith, length-drop used s) in
-          let ends : (set : Bool) → listAt (suc (suc fuel)) forms set [] s base depth count ≡ Passed n = λ set.
-          list-more forms (suc fuel) set [] s base depth count (λ z. omega arith) used n e
-          ∙ list-done forms fuel set (handed set (take used s)) (drop used s) (base + used) depth n none in
-          g base (suc (suc fuel)) enough ∙ ends false ∙ sym (ends true)
-
 module _ (forms : Forms) (s : List ℕ) (i e : ℕ) (two : i + 2 ≤ e) (inside : e ≤ length s) where
   long : length (stretch s i e) ≡ e - i
   long = part-length s i e inside
@@ -151,11 +103,11 @@ module _ (forms : Forms) (s : List ℕ) (i e : ℕ) (two : i + 2 ≤ e) (inside 
 pub fills-none : (forms : Forms) (s : List ℕ) (e depth count : ℕ) → e ≤ length s → Fills forms false (stretch s e e) depth count count
 fills-none forms s e depth count inside = passes-none forms false (stretch s e e) depth count (omega (arith, part-length s e e inside))
 
--- the identifier of a SEQUENCE, or of a SET
+-- the identifier of a SET, or of another element with members
 pub record Listed (set : Bool) (tag : ℕ) : Type 0 where
-  known : identifierGood tag ≡ true
-  node : constructed tag ≡ true
-  kind : isSet tag ≡ set
+  pub known : identifierGood tag ≡ true
+  pub node : constructed tag ≡ true
+  pub kind : isSet tag ≡ set
 
 pub sequence : (tag : ℕ) → tag ≡ 48 → Listed false tag
 unfolding identifierGood constructed isSet

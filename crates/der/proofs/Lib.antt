@@ -6,3 +6,4 @@ pub mod LengthOctets
 pub mod Faults
 pub mod Parts
 pub mod Flat
+pub mod Going

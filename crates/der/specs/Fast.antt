@@ -10,6 +10,7 @@ use Rattle.der.specs.declared.walking.Walked.the-variants.{Passed}
 use Rattle.der.specs.Forms.{Forms}
 use Rattle.der.specs.Heading.{identifierGood, constructed}
 use Rattle.der.specs.Contents.{contentsGood}
+use Rattle.der.specs.Order.{isSet}
 use Rattle.der.specs.Walk.{elementAt, listAt}
 
 -- the octets from one offset to another
@@ -29,10 +30,10 @@ pub record Last (s : List ℕ) (i e : ℕ) : Type 0 where
   pub tag : getD s i 0 ≡ 48
   pub ends : i + 2 + getD s (i + 1) 0 ≡ e
 
--- an element at i, with a header of two octets, that ends at e
-pub record Alone (s : List ℕ) (i e : ℕ) : Type 0 where
-  pub two : i + 2 ≤ e
-  pub ends : i + 2 + getD s (i + 1) 0 ≡ e
+-- where the leaves of an element that ends at e start: behind its own header, or behind that of a SET and that of the SEQUENCE which fills it
+pub data Headed (s : List ℕ) (i e left count : ℕ) : ℕ → ℕ → ℕ → Type 0 where
+  one : identifierGood (getD s i 0) ≡ true → isSet (getD s i 0) ≡ false → Headed s i e left count (i + 2) (left - 1) (count + 1)
+  two : getD s i 0 ≡ 49 → 3 ≤ left → i + 4 ≤ e → Last s (i + 2) e → Headed s i e left count (i + 4) (left - 2) (count + 2)
 
 -- an identifier of a primitive whose contents are not judged
 pub record Unjudged (tag : ℕ) : Type 0 where

@@ -7,4 +7,5 @@ pub mod Walk
 pub mod Integer
 pub mod Member
 pub mod Fast
+pub mod Onward
 pub mod Falling

@@ -4,13 +4,15 @@ use crate::contents::bit_string_good;
 use crate::contents::boolean_good;
 use crate::contents::integer_good;
 use crate::contents::oid_good;
+use crate::place::Place;
+use crate::place::nowhere;
 ghost use mathlib.Core.Path.{_≡_};
 ghost use mathlib.Core.Bool.{true, false};
-ghost use Prim.Native.Nat.{ℕ, _+_, _-_, _^_, _≤_, _<_};
+ghost use Prim.Native.Nat.{ℕ, _+_, _-_, _*_, _^_, _≤_, _<_};
 ghost use lib.ListN.{length, getD};
 ghost use Rattle.der.specs.Forms.{Forms};
 ghost use Rattle.der.specs.Heading.{constructed};
-ghost use Rattle.der.specs.Fast.{stretch, Reads, Fills, Last, Alone, Unjudged, Leaf};
+ghost use Rattle.der.specs.Fast.{stretch, Reads, Fills, Headed, Last, Unjudged, Leaf};
 
 // The count of elements when the one at `at` has been read, if nothing is wrong with it and it is a primitive with a header of two
 // octets, or holds nothing but such; else 0.
@@ -89,49 +91,75 @@ fn judged(tag: u8, c: &[u8]) -> bool
     false
 }
 
-// The count of elements when the one at `i` has been read, if it is a SEQUENCE or SET of leaves, but that the last one may be a SEQUENCE
-// of them again; else 0. A SET has one member: of more the order is asked.
+// The count of elements when the one at `i` has been read, if it holds leaves, but that the last one may be a SEQUENCE of them again, or if
+// it is a SET of one such SEQUENCE; else 0.
 fn flat(s: &[u8], i: usize, end: usize, left: usize, count: usize) -> usize
-    requires { ⌜ (i + 2 ≤ end) × (end ≤ length (now s)) × (length (now s) < 2 ^ 32) × (2 ≤ left) × (count < 2 ^ 32) ⌝ }
+    requires { ⌜ (i + 2 ≤ end) × (end ≤ length (now s)) × (length (now s) < 2 ^ 32) × (2 ≤ left) × (count < 2 ^ 32) × (constructed (getD (now s) i 0) ≡ true) ⌝ }
     ensures { λ r. ⌜ (0 < r → (forms : Forms) → count + 64 ≤ forms .elements → left ≤ forms .depth → Reads forms (stretch (now (s .entry)) i end) (forms .depth + 1 - left) count (2 + getD (now (s .entry)) (i + 1) 0) r) ⌝ }
 {
-    if s[i] / 2 != 24 {
-        return 0;
-    }
     let size = s[i + 1] as usize;
     if 128 <= size {
         return 0;
     }
-    let from = i + 2;
-    let after = from + size;
+    let after = i + 2 + size;
     if end < after {
         return 0;
     }
-    if several(s, i, after) {
-        return 0;
+    let mut from = i + 2;
+    let mut deep = left - 1;
+    let mut read = count + 1;
+    if s[i] != 48 {
+        let start = behind(s, i, after, left, count);
+        if start.at == 0 {
+            return 0;
+        }
+        from = start.at;
+        deep = start.left;
+        read = start.count;
     }
-    leaves(s, from, after, left - 1, count + 1)
+    leaves(s, from, after, deep, read)
 }
 
-// Whether the element at `i` that ends at `after` is a SET, and its first member does not fill it.
-fn several(s: &[u8], i: usize, after: usize) -> bool
-    requires { ⌜ (i + 2 ≤ after) × (after ≤ length (now s)) × (length (now s) < 2 ^ 32) ⌝ }
-    ensures { λ r. ⌜ (r ≡ false → getD (now (s .entry)) i 0 ≡ 49 → Alone (now (s .entry)) (i + 2) after) ⌝ }
+// Where the leaves of the element at `i` start, which ends at `after` and is no SEQUENCE: behind its header, or behind two where it is a
+// SET that one SEQUENCE fills. Of another SET the order is asked.
+fn behind(s: &[u8], i: usize, after: usize, left: usize, count: usize) -> Place
+    requires { ⌜ (i + 2 ≤ after) × (after ≤ i + 129) × (after ≤ length (now s)) × (length (now s) < 2 ^ 32) × (2 ≤ left) × (count < 2 ^ 32) ⌝ }
+    ensures { λ r. ⌜ (0 < r .at → Headed (now (s .entry)) i after left count (r .at) (r .left) (r .count)) ⌝ }
 {
-    if s[i] != 49 {
-        return false;
+    if s[i] == 49 {
+        if left < 3 {
+            return nowhere();
+        }
+        if after < i + 4 {
+            return nowhere();
+        }
+        if last(s, i + 2, after) {
+            return Place {
+                at: i + 4,
+                left: left - 2,
+                count: count + 2,
+            };
+        }
+        return nowhere();
     }
-    if after < i + 4 {
-        return true;
+    if s[i] < 64 {
+        return nowhere();
     }
-    i + 4 + s[i + 3] as usize != after
+    if s[i] % 32 == 31 {
+        return nowhere();
+    }
+    Place {
+        at: i + 2,
+        left: left - 1,
+        count: count + 1,
+    }
 }
 
 // The count of elements when those from `from` to `end` have been read, if each is a leaf, but the last; else 0. A SEQUENCE that
 // ends where the list ends is read as the rest of the list, one deeper.
 fn leaves(s: &[u8], from: usize, end: usize, left: usize, count: usize) -> usize
-    requires { ⌜ (from ≤ end) × (end ≤ from + 127) × (end ≤ length (now s)) × (length (now s) < 2 ^ 32) × (1 ≤ left) × (count ≤ 2 ^ 32) ⌝ }
-    ensures { λ r. ⌜ (0 < r → (forms : Forms) → count + 63 ≤ forms .elements → left ≤ forms .depth → Fills forms false (stretch (now (s .entry)) from end) (forms .depth + 1 - left) count r) ⌝ }
+    requires { ⌜ (from ≤ end) × (end ≤ from + 127) × (end ≤ length (now s)) × (length (now s) < 2 ^ 32) × (1 ≤ left) × (count ≤ 2 ^ 32 + 1) ⌝ }
+    ensures { λ r. ⌜ (0 < r → (forms : Forms) → 2 * count + (end - from) ≤ 2 * forms .elements + 1 → left ≤ forms .depth → Fills forms false (stretch (now (s .entry)) from end) (forms .depth + 1 - left) count r) ⌝ }
 {
     let mut i = from;
     let mut read = count;

@@ -3,7 +3,9 @@ mod contents;
 mod fast;
 mod heading;
 mod numbers;
+mod onward;
 mod order;
+mod place;
 mod stepping;
 mod walking;
 

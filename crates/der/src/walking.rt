@@ -3,6 +3,7 @@ use crate::contents::contents_good;
 use crate::fast::fast_path;
 use crate::heading::Heading;
 use crate::heading::header;
+use crate::onward::onward;
 use crate::order::fallen;
 use refusal::Refusal;
 ghost use mathlib.Core.Path.{_≡_};
@@ -112,15 +113,23 @@ fn list(
         return set_list(digits, wide, most, s, base, left, count);
     }
     let mut at = 0;
+    let mut deep = left;
     let mut read = count;
     while at < s.len() {
-        let more = fast_path(s, at, left, most, read);
+        let more = fast_path(s, at, deep, most, read);
         if 0 < more {
             at = at + 2 + s[at + 1] as usize;
             read = more;
             continue;
         }
-        match element(digits, wide, most, &s[at..], base + at, left, read) {
+        let on = onward(digits, wide, most, s, at, deep, read);
+        if 0 < on.at {
+            at = on.at;
+            deep = on.left;
+            read = on.count;
+            continue;
+        }
+        match element(digits, wide, most, &s[at..], base + at, deep, read) {
             Read::Fault(refusal) => return Walked::Refused(refusal),
             Read::Past { used, count } => {
                 at += used;

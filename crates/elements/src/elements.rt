@@ -77,8 +77,9 @@ fn usual(tag: usize) -> bool
     }
 }
 
-// The same with a header of any kind, which is not read where the first octet is another.
-fn any_tagged(item: &[u8], from: usize, end: usize, tag: usize) -> Found
+// The same with a header of any kind, which is not read where the first octet is another. It costs less than the fast path and then
+// this, so it is asked for what mostly has a long header.
+pub fn any_tagged(item: &[u8], from: usize, end: usize, tag: usize) -> Found
     ensures { λ r. ⌜ r ≡ foundTagged paper (now (item .entry)) from end tag ⌝ }
 {
     if from < item.len() {

@@ -1,6 +1,7 @@
 // What certificates and CRLs have around them.
 use crate::elements::Element;
 use crate::elements::Found;
+use crate::elements::any_tagged;
 use crate::elements::element_tagged;
 ghost use mathlib.Core.Path.{_≡_};
 ghost use Rattle.der.specs.Forms.{paper};
@@ -15,10 +16,10 @@ pub enum Envelope {
 pub fn envelope_of(item: &[u8]) -> Envelope
     ensures { λ r. ⌜ r ≡ envelopeOf paper (now (item .entry)) ⌝ }
 {
-    let Found::One(outermost) = element_tagged(item, 0, item.len(), 0x30) else {
+    let Found::One(outermost) = any_tagged(item, 0, item.len(), 0x30) else {
         return Envelope::Formless;
     };
-    let Found::One(tbs) = element_tagged(item, outermost.contents, outermost.end, 0x30) else {
+    let Found::One(tbs) = any_tagged(item, outermost.contents, outermost.end, 0x30) else {
         return Envelope::Formless;
     };
     let Found::One(algorithm) = element_tagged(item, tbs.end, outermost.end, 0x30) else {

@@ -6,6 +6,7 @@ mod steps;
 
 pub use elements::Element;
 pub use elements::Found;
+pub use elements::any_tagged;
 pub use elements::contents;
 pub use elements::element_at;
 pub use elements::element_tagged;

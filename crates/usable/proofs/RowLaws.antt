@@ -276,6 +276,12 @@ module _ (held : Row → List ℕ) (n : ℕ) (rows : List (List ℕ)) (counting 
   unfolding roleOf
   role-unsaid unsigned h = rw (← e, unsigned) h
 
+-- of a place that is not open
+pub role-shut : (held : Row → List ℕ) (n : ℕ) (rows : List (List ℕ)) (counting : List ℕ) (row : Row) → row .standing ≡ 0
+    → 0 ≡ roleOf held n rows counting row
+unfolding roleOf roleBy signedOf
+role-shut held n rows counting row e = simp e
+
 module _ (held : Row → List ℕ) (n : ℕ) (table : List ℕ) (rows : List (List ℕ)) (roles : List ℕ) (u v : ℕ) where
   pub step-asked :
       {a b : Row} {role lead octet value : ℕ} → a ≡ rowAt rows u → b ≡ rowAt rows v → role ≡ getD roles v 0

@@ -2,6 +2,7 @@
 use crate::counting::same_letters;
 use crate::opened::Row;
 use crate::opened::row_at;
+use crate::opened::standing_at;
 use crl::listed;
 use octets::part;
 ghost use mathlib.Core.Path.{_≡_};
@@ -38,7 +39,7 @@ pub fn roles_of(
     more
 }
 
-// The role of a place; no CRL before `first` counts.
+// The role of a place, 0 at once where nothing is open; no CRL before `first` counts.
 fn role_at(
     octets: &[u8],
     places: usize,
@@ -50,6 +51,9 @@ fn role_at(
     requires { ⌜ (places ≤ 96) × (place < 96) × (first ≤ places) × ((c : ℕ) → c < first → getD counting c 0 ≡ 1 → ⊥) ⌝ }
     ensures { λ r. ⌜ r ≡ roleOf (heldIn (now (octets .entry))) places (now (rows .entry)) counting (rowAt (now (rows .entry)) place) ⌝ }
 {
+    if standing_at(rows, place) == 0 {
+        return 0;
+    }
     let own = row_at(rows, place);
     if !signed(own) {
         return role_of(own, 0);

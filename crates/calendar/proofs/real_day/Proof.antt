@@ -8,6 +8,10 @@ use Rattle.calendar.proofs.Days.{not-real, by-length, to-28}
 use Rattle.calendar.proofs.real_day.Statement.{statement}
 use Rattle.calendar.proofs.real_day.Tie as tie
 
+-- Where the month was found.
+abbrev dated : tie.Else5 → tie.After-month-of
+dated c = c .before .before .before
+
 returns : tie.Need-returns
 returns c = sym (not-real 1950 2099 _ (λ r. omega (arith, r .since, c .if1 .taken)))
 
@@ -25,7 +29,7 @@ returns-5 c = sym (not-real 1950 2099 _ (λ r. omega (arith, r .day-low, c .if5 
 
 returns-6 : tie.Need-returns-6
 returns-6 c =
-    let month = c .before .before .before .before .month-of .ensures in
+    let month = dated (c .before) .month-of .ensures in
     sym
     (to-28 1950 2099 _ (omega arith) (omega arith) (omega (arith, month)) (omega (arith, month)) (c .before .if5 .left) (c .if6 .taken))
 
@@ -33,7 +37,7 @@ returns-7 : tie.Need-returns-7
 returns-7 c =
     sym
     (by-length 1950 2099 _ (omega arith) (omega arith) (c .before .before .if5 .left)
-    ∙ ap (leb _) (sym (c .month-length .ensures ∙ ap (monthLength _) (c .before .before .before .before .before .month-of .ensures))))
+    ∙ ap (leb _) (sym (c .month-length .ensures ∙ ap (monthLength _) (dated (c .before .before) .month-of .ensures))))
 
 pub real-day-spec : {M : Type 1} → statement M
 real-day-spec =

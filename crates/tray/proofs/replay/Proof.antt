@@ -13,19 +13,29 @@ use Rattle.tray.proofs.Answers.{no-more, kept, refused-argument, refuse
 use Rattle.tray.proofs.replay.Statement.{statement}
 use Rattle.tray.proofs.replay.Tie as tie
 
+-- Points passed before: the call; where the records were whole; where they were counted.
+abbrev called : tie.Else1 → tie.Start
+called c = c .before .before .before
+
+abbrev whole : tie.After-run2 → tie.Else1
+whole c = c .before .before .before
+
+abbrev counted : tie.Else3 → tie.After-run2
+counted c = c .before .before .before
+
 returns : tie.Need-returns
 returns c = refused-argument (c .before .before .before .args .log .now) (c .before .before .before .args .list .now) (c .if1 .taken)
 
 run-requires : tie.Need-run-requires
-run-requires c κs = λ z. omega (arith, no-more (c .before .before .before .before .before .args .log .now), c .before .if2 .taken)
+run-requires c κs = λ z. omega (arith, no-more (called (c .before .before) .args .log .now), c .before .if2 .taken)
 
 returns-2 : tie.Need-returns-2
 returns-2 c =
-    let back4 = c .before .before .before .before in
-    let back8 = back4 .before .before .before .before in
-    let log = back8 .args .log .now in
-    let old = back8 .args .list .now in
-    let told = all-listed log old (back4 .before .if1 .left) (omega (arith, no-more log, back4 .if2 .taken)) in
+    let room = c .before .before .before .before in
+    let start = called (room .before) in
+    let log = start .args .log .now in
+    let old = start .args .list .now in
+    let told = all-listed log old (room .before .if1 .left) (omega (arith, no-more log, room .if2 .taken)) in
     (ap Faulty (c .before .before .run .ensures .0) ∙ told .0, c .before .before .run .ensures .1 ∙ told .1)
 
 run-requires-2 : tie.Need-run-requires-2
@@ -33,31 +43,32 @@ run-requires-2 c κs = λ z. absurd (false≢true z)
 
 returns-3 : tie.Need-returns-3
 returns-3 c =
-    let back4 = c .before .before .before .before in
-    let back8 = back4 .before .before .before .before in
-    let log = back8 .before .args .log .now in
-    let old = back8 .before .args .list .now in
-    let told = refused-short log old (back4 .before .before .if1 .left) (omega (arith, c .before .before .before .run2 .ensures .0, c .if3 .taken)) in
-    (told .0, c .before .before .before .run2 .ensures .1 ∙ kept old (faultyOf log) ∙ told .1)
+    let run = c .before .before .before in
+    let start = called (whole run) in
+    let log = start .args .log .now in
+    let old = start .args .list .now in
+    let told = refused-short log old (whole run .if1 .left) (omega (arith, run .run2 .ensures .0, c .if3 .taken)) in
+    (told .0, run .run2 .ensures .1 ∙ kept old (faultyOf log) ∙ told .1)
 
 returns-4 : tie.Need-returns-4
 returns-4 c =
-    let back4 = c .before .before .before .before in
-    let back8 = back4 .before .before .before .before in
-    let log = back8 .before .before .args .log .now in
-    let old = back8 .before .before .args .list .now in
-    let told = none-listed log old (back4 .before .before .before .if1 .left) (omega (arith, back4 .run2 .ensures .0, c .if4 .taken)) in
-    (told .0, back4 .run2 .ensures .1 ∙ kept old (faultyOf log) ∙ told .1)
+    let run = counted (c .before) in
+    let start = called (whole run) in
+    let log = start .args .log .now in
+    let old = start .args .list .now in
+    let told = none-listed log old (whole run .if1 .left) (omega (arith, run .run2 .ensures .0, c .if4 .taken)) in
+    (told .0, run .run2 .ensures .1 ∙ kept old (faultyOf log) ∙ told .1)
 
 returns-5 : tie.Need-returns-5
 returns-5 c =
-    let back4 = c .before .before .before .before in
-    let back8 = back4 .before .before .before .before in
-    let back12 = back8 .before .before .before .before in
-    let log = back12 .before .before .args .log .now in
-    let old = back12 .before .before .args .list .now in
-    let told = all-listed log old (back8 .before .before .before .if1 .left) (omega (arith, back8 .run2 .ensures .0, back4 .before .if3 .left)) in
-    let same = back8 .run2 .ensures .1 ∙ kept old (faultyOf log) in
+    let some = c .before .before .before .before in
+    let room = some .before in
+    let run = counted room in
+    let start = called (whole run) in
+    let log = start .args .log .now in
+    let old = start .args .list .now in
+    let told = all-listed log old (whole run .if1 .left) (omega (arith, run .run2 .ensures .0, room .if3 .left)) in
+    let same = run .run2 .ensures .1 ∙ kept old (faultyOf log) in
     let listed = ap (λ (l : List ℕ). listedIf true 0 l (faultyOf log)) same in
     (ap Faulty (c .before .before .run3 .ensures .0) ∙ told .0, c .before .before .run3 .ensures .1 ∙ listed ∙ told .1)
 

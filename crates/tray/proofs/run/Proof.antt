@@ -18,6 +18,16 @@ Inv-loop log list₀ lists count tray₀ image₀ marks₀ faulty₀ next₀ lis
 abbrev μ-loop : tie.MeasureT-loop
 μ-loop log list₀ lists count tray₀ image₀ marks₀ faulty₀ next₀ list tray image marks faulty next = count - next
 
+-- Points passed before: where the record was judged, its day was read, and its turn began.
+abbrev dated : tie.After-good2 Inv-loop μ-loop → tie.After-four Inv-loop μ-loop
+dated c = c .before .before
+
+abbrev turned : tie.After-four Inv-loop μ-loop → tie.In-loop Inv-loop μ-loop
+turned c = c .before .before .before .before
+
+abbrev begun : tie.After-good2 Inv-loop μ-loop → tie.In-loop Inv-loop μ-loop
+begun c = turned (dated c)
+
 loop-holds : tie.Need-loop-holds Inv-loop μ-loop
 loop-holds c = start (c .before .before .args .log .now) (c .before .before .args .list .now) (c .before .before .args .lists) (c .before .before .pre)
 
@@ -52,24 +62,22 @@ four-requires : tie.Need-four-requires Inv-loop μ-loop
 four-requires c κs = omega (arith, c .before .before .before .before .loop .inv .all, c .before .before .before .loop-test .taken)
 
 loop-less : tie.Need-loop-less Inv-loop μ-loop
-loop-less c = omega (arith, c .before .before .before .before .before .before .before .before .loop-test .taken)
+loop-less c = omega (arith, begun (c .before .before) .loop-test .taken)
 
 loop-again : tie.Need-loop-again Inv-loop μ-loop
 loop-again c =
-    let back4 = c .before .before .before .before in
-    let back8 = back4 .before .before .before .before in
-    went-well (back8 .before .loop .inv) (back8 .loop-test .taken) (back4 .before .two .ensures .0) (back4 .four .ensures .0) _
+    let day = dated (c .before .before) in
+    went-well (turned day .before .loop .inv) (turned day .loop-test .taken) (day .before .two .ensures .0) (day .four .ensures .0) _
     (sym (c .before .before .good2 .ensures) ∙ c .before .if1 .taken)
     (opening _ _ _ _ _ _ _ (c .if2 .taken))
 
 loop-less-2 : tie.Need-loop-less-2 Inv-loop μ-loop
-loop-less-2 c = omega (arith, c .before .before .before .before .before .before .before .before .before .loop-test .taken)
+loop-less-2 c = omega (arith, begun (c .before .before .before) .loop-test .taken)
 
 loop-again-2 : tie.Need-loop-again-2 Inv-loop μ-loop
 loop-again-2 c =
-    let back4 = c .before .before .before .before in
-    let back8 = back4 .before .before .before .before in
-    went-well (back8 .before .before .loop .inv) (back8 .before .loop-test .taken) (back4 .before .before .two .ensures .0) (back4 .before .four .ensures .0) _
+    let day = dated (c .before .before .before) in
+    went-well (turned day .before .loop .inv) (turned day .loop-test .taken) (day .before .two .ensures .0) (day .four .ensures .0) _
     (sym (c .before .before .before .good2 .ensures) ∙ c .before .before .if1 .taken)
     (loading _ _ _ _ _ _ _ (c .before .if2 .left) (c .if3 .taken))
 
@@ -78,13 +86,12 @@ array-write-marks c =
     burnt-unit _ _ _ _ _ _ _ (c .before .if2 .left) (c .if3 .left) (sym (c .before .before .before .good2 .ensures) ∙ c .before .before .if1 .taken)
 
 loop-less-3 : tie.Need-loop-less-3 Inv-loop μ-loop
-loop-less-3 c = omega (arith, c .before .before .before .before .before .before .before .before .before .loop-test .taken)
+loop-less-3 c = omega (arith, begun (c .before .before .before) .loop-test .taken)
 
 loop-again-3 : tie.Need-loop-again-3 Inv-loop μ-loop
 loop-again-3 c =
-    let back4 = c .before .before .before .before in
-    let back8 = back4 .before .before .before .before in
-    went-well (back8 .before .before .loop .inv) (back8 .before .loop-test .taken) (back4 .before .before .two .ensures .0) (back4 .before .four .ensures .0) _
+    let day = dated (c .before .before .before) in
+    went-well (turned day .before .loop .inv) (turned day .loop-test .taken) (day .before .two .ensures .0) (day .four .ensures .0) _
     (sym (c .before .before .before .good2 .ensures) ∙ c .before .before .if1 .taken)
     (burning _ _ _ _ _ _ _ (c .before .if2 .left) (c .if3 .left))
 
@@ -93,32 +100,30 @@ sub-list c = omega arith
 
 mul-list : tie.Need-mul-list Inv-loop μ-loop
 mul-list c =
-    let back4 = c .before .before .before .before in
-    let back8 = back4 .before .before .before .before in
-    omega (arith, back8 .before .loop .inv .fewer, back8 .before .loop .inv .all, back8 .loop-test .taken)
+    let turn = begun (c .before .before) in
+    omega (arith, turn .before .loop .inv .fewer, turn .before .loop .inv .all, turn .loop-test .taken)
 
 slice-write-list : tie.Need-slice-write-list Inv-loop μ-loop
 slice-write-list c =
-    let back4 = c .before .before .before .before in
-    let back8 = back4 .before .before .before .before in
-    here (back8 .before .loop .inv) (back8 .loop-test .taken) (back4 .before .two .ensures .0) (back4 .four .ensures .0)
+    let day = dated (c .before .before) in
+    here (turned day .before .loop .inv) (turned day .loop-test .taken) (day .before .two .ensures .0) (day .four .ensures .0)
     (sym (c .before .before .good2 .ensures) ∙ c .before .if1 .left) (c .if4 .taken)
 
 add-faulty : tie.Need-add-faulty Inv-loop μ-loop
 add-faulty c =
-    let back4 = c .before .before .before .before in
-    let back8 = back4 .before .before .before .before in
-    omega (arith, back8 .before .loop .inv .fewer, back8 .before .loop .inv .all, back8 .loop-test .taken)
+    let turn = begun (c .before .before) in
+    omega (arith, turn .before .loop .inv .fewer, turn .before .loop .inv .all, turn .loop-test .taken)
 
 loop-less-4 : tie.Need-loop-less-4 Inv-loop μ-loop
-loop-less-4 c = omega (arith, c .before .before .before .before .before .before .before .before .loop-test .taken)
+loop-less-4 c = omega (arith, begun (c .before .before) .loop-test .taken)
 
 loop-again-4 : tie.Need-loop-again-4 Inv-loop μ-loop
 loop-again-4 c =
-    let t = c .before .before .before .before .before .before .before .before .before .loop .inv in
-    let h = c .before .before .before .before .before .before .before .before .loop-test .taken in
-    let p = c .before .before .before .before .before .two .ensures .0 in
-    let d = c .before .before .before .before .four .ensures .0 in
+    let day = dated (c .before .before) in
+    let t = turned day .before .loop .inv in
+    let h = turned day .loop-test .taken in
+    let p = day .before .two .ensures .0 in
+    let d = day .four .ensures .0 in
     let bad = sym (c .before .before .good2 .ensures) ∙ c .before .if1 .left in
     ⊎-elim
     (λ w. rw (w .1) (went-wrong-listed t h p d bad (w .0 .taken) _ (omega arith)))

@@ -14,7 +14,7 @@ use Rattle.crl.proofs.countries.country.Tie as tie
 outermost-found : (c : tie.After-outermost) →
     let item = c .before .before .before .before .args .item .now in
     foundTagged paper item 0 (length item) 0x30 ≡ One (c .outermost .given .0 .0)
-outermost-found c = sym (c .before .before .element-tagged .ensures) ∙ c .outermost .given .1
+outermost-found c = sym (c .before .before .any-tagged .ensures) ∙ c .outermost .given .1
 
 -- the tbs, in that element
 abbrev outer : tie.After-tbs → tie.After-outermost
@@ -24,17 +24,17 @@ tbs-found : (c : tie.After-tbs) →
     let item = outer c .before .before .before .before .args .item .now in
     let outermost = outer c .outermost .given .0 .0 in
     foundTagged paper item (outermost .contents) (outermost .end) 0x30 ≡ One (c .tbs .given .0 .0)
-tbs-found c = sym (c .before .before .element-tagged2 .ensures) ∙ c .tbs .given .1
+tbs-found c = sym (c .before .before .any-tagged2 .ensures) ∙ c .tbs .given .1
 
 returns : tie.Need-returns
 unfolding countryOf
-returns c = on-missing _ (sym (c .before .before .element-tagged .ensures) ∙ c .enum-told .given .1)
+returns c = on-missing _ (sym (c .before .before .any-tagged .ensures) ∙ c .enum-told .given .1)
 
 returns-2 : tie.Need-returns-2
 unfolding countryOf
 returns-2 c =
     on-found _ _ (outermost-found (c .before .before .before .before))
-    (on-missing _ (sym (c .before .before .element-tagged2 .ensures) ∙ c .enum-told2 .given .1))
+    (on-missing _ (sym (c .before .before .any-tagged2 .ensures) ∙ c .enum-told2 .given .1))
 
 returns-3 : tie.Need-returns-3
 unfolding countryOf

@@ -7,6 +7,13 @@ use Rattle.crl.proofs.Pairs.{known-octets}
 use Rattle.crl.proofs.pair.known_end.Statement.{statement}
 use Rattle.crl.proofs.pair.known_end.Tie as tie
 
+-- Points passed before: where the OID's length was right, where its header was read.
+abbrev sized : tie.Else5 → tie.Else3
+sized c = c .before .before .before .before
+
+abbrev named : tie.Else3 → tie.After-short-end2
+named c = c .before .before
+
 returns : tie.Need-returns
 returns c = λ h. absurd (omega arith)
 
@@ -30,16 +37,16 @@ returns-4 c = λ h. absurd (omega arith)
 
 shared-slice-read-if5 : tie.Need-shared-slice-read-if5
 shared-slice-read-if5 c =
-    let back3 = c .before .before .before in
-    omega (arith, back3 .if3 .left, short-inside _ _ _ _ (back3 .before .before .short-end2 .ensures) (omega arith))
+    let three = c .before .before .before in
+    omega (arith, three .if3 .left, short-inside _ _ _ _ (named three .short-end2 .ensures) (omega arith))
 
 returns-5 : tie.Need-returns-5
 returns-5 c = λ h. absurd (omega arith)
 
 shared-slice-read-if6 : tie.Need-shared-slice-read-if6
 shared-slice-read-if6 c =
-    let back5 = c .before .before .before .before .before in
-    omega (arith, back5 .if3 .left, short-inside _ _ _ _ (back5 .before .before .short-end2 .ensures) (omega arith))
+    let three = sized (c .before) in
+    omega (arith, three .if3 .left, short-inside _ _ _ _ (named three .short-end2 .ensures) (omega arith))
 
 returns-6 : tie.Need-returns-6
 returns-6 c = λ h. absurd (omega arith)
@@ -49,12 +56,11 @@ returns-7 c = λ h. absurd (omega arith)
 
 returns-8 : tie.Need-returns-8
 returns-8 c =
-    let back4 = c .before .before .before .before in
-    let back8 = back4 .before .before .before .before in
-    let back10 = back8 .before .before in
+    let five = c .before .before .before .before in
+    let oid = named (sized five) in
     λ h.
-    known-octets _ _ _ _ h (back10 .before .before .short-end .ensures) (omega arith) (back10 .short-end2 .ensures)
-    (omega (arith, back8 .if3 .left, short-within _ _ _ _ (back10 .short-end2 .ensures) (omega arith))) (back4 .before .before .if4 .left) (back4 .if5 .left)
+    known-octets _ _ _ _ h (oid .before .before .short-end .ensures) (omega arith) (oid .short-end2 .ensures)
+    (omega (arith, sized five .if3 .left, short-within _ _ _ _ (oid .short-end2 .ensures) (omega arith))) (five .before .before .if4 .left) (five .if5 .left)
     (c .before .before .if6 .left) (sym (c .if7 .left) ∙ c .before .short-end3 .ensures)
 
 pub known-end-spec : {M : Type 1} → statement M

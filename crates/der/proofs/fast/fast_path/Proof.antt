@@ -1,7 +1,7 @@
 -- The element is read by the path that takes it; where none does, 0 promises nothing.
 use Prim.Native.Nat.{_+_, _-_}
 use native.Mathlib.Omega.{arith}
-use borrow.Author.Tests.{ne-eqb}
+use borrow.Author.Tests.{eq-eqb, ne-eqb}
 use Rattle.der.specs.Heading.{constructed}
 use Rattle.der.proofs.fast.fast_path.Statement.{statement}
 use Rattle.der.proofs.fast.fast_path.Tie as tie
@@ -12,6 +12,10 @@ returns-4 c =
     λ some.
     let two = back4 .before in
     (two .if1 .left, λ forms e levels. c .flat .ensures some forms (omega arith) levels)
+
+flat-requires : tie.Need-flat-requires
+unfolding constructed
+flat-requires c κs = (omega arith, omega arith, omega arith, omega arith, omega arith, eq-eqb _ _ (c .before .before .if2 .taken))
 
 primitive-requires : tie.Need-primitive-requires
 unfolding constructed
@@ -35,7 +39,7 @@ fast-path-spec =
     (λ c some. absurd (omega arith))
     (λ c. omega arith)
     (λ c some. absurd (omega arith))
-    (λ c κs. omega arith)
+    flat-requires
     returns-4
     (λ c some. absurd (omega arith))
     (λ c some. absurd (omega arith))

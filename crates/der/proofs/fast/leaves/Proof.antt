@@ -15,7 +15,7 @@ use Rattle.der.proofs.fast.leaves.Tie as tie
 -- what is left, from octet `i` on, `deep` levels from the deepest
 abbrev Left : List ℕ → ℕ → ℕ → ℕ → ℕ → ℕ → ℕ → ℕ → Type 0
 Left s from end left count i read deep =
-    (forms : Forms) → count + 63 ≤ forms .elements → left ≤ forms .depth
+    (forms : Forms) → 2 * count + (end - from) ≤ 2 * forms .elements + 1 → left ≤ forms .depth
     → (m : ℕ) → Fills forms false (stretch s i end) (forms .depth + 1 - deep) read m → Fills forms false (stretch s from end) (forms .depth + 1 - left) count m
 
 abbrev Inv-loop : tie.InvT-loop
@@ -25,8 +25,8 @@ Inv-loop s from end left count i₀ read₀ deep₀ i read deep =
 abbrev μ-loop : tie.MeasureT-loop
 μ-loop s from end left count i₀ read₀ deep₀ i read deep = end - i
 
-module _ (s : List ℕ) (from end left count i read deep : ℕ) (inside : end ≤ length s) (two : i + 2 ≤ end) (few : read < count + 63)
-    (above : deep ≤ left) (rest : Left s from end left count i read deep) where
+module _ (s : List ℕ) (from end left count i read deep : ℕ) (inside : end ≤ length s) (two : i + 2 ≤ end) (begun : from ≤ i)
+    (few : 2 * read + from ≤ 2 * count + i) (above : deep ≤ left) (rest : Left s from end left count i read deep) where
   one-more : (r : ℕ) → 1 ≤ deep → ((forms : Forms) (depth count : ℕ) → depth ≤ forms .depth → count < forms .elements → Reads forms
       (stretch s i end) depth count (r - i) (count + 1)) → Left s from end left count r (read + 1) deep
   one-more r some f forms room levels m p = rest forms room levels m (reads-on forms s i end two inside (forms .depth + 1 - deep) read r (read + 1) m
@@ -60,8 +60,6 @@ loop-again c =
     let here = test .before .loop in
     let start = test .before .before .before in
     let so = here .inv .4 (omega arith) in
-    let bound = so .0 in
-    let few : here .read < start .args .count + 63 = omega arith in
     let l = c .before .before .last .ensures (not-false _ (c .before .if2 .left)) in (
       omega arith,
       omega arith,
@@ -70,7 +68,7 @@ loop-again c =
       λ h. (
         omega arith,
         into _ (start .args .from) (start .args .end) (start .args .left) _ (here .i) (here .read) (here .deep) (start .pre .2)
-            (test .loop-test .taken) few (here .inv .3) (so .1) (omega arith) (omega arith) l,
+            (test .loop-test .taken) (here .inv .1) (so .0) (here .inv .3) (so .1) (omega arith) (omega arith) l,
       ),
     )
 
@@ -92,8 +90,6 @@ loop-again-2 c =
     let here = test .before .loop in
     let start = test .before .before .before in
     let so = here .inv .4 (omega arith) in
-    let bound = so .0 in
-    let few : here .read < start .args .count + 63 = omega arith in
     let r = c .before .leaf .result in
     let far = c .before .leaf .ensures .1 (omega arith) in
     let on = far .0 in (
@@ -104,7 +100,7 @@ loop-again-2 c =
       λ h. (
         omega arith,
         one-more _ (start .args .from) (start .args .end) (start .args .left) _ (here .i) (here .read) (here .deep) (start .pre .2)
-            (test .loop-test .taken) few (here .inv .3) (so .1) r (here .inv .2) (far .1 h),
+            (test .loop-test .taken) (here .inv .1) (so .0) (here .inv .3) (so .1) r (here .inv .2) (far .1 h),
       ),
     )
 

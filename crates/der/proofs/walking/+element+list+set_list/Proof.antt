@@ -25,10 +25,11 @@ use Rattle.der.specs.Contents.{contentsGood}
 use Rattle.der.specs.Order.{isSet, handed}
 use Rattle.der.specs.Walk.{filled}
 use Rattle.der.specs.Fast.{stretch}
+use Rattle.der.specs.Onward.{Onward}
 use Rattle.der.specs.Falling.{Stands}
 use Rattle.der.proofs.Bounds.{heading-within}
 use Rattle.der.proofs.Enough.{ElementIs, ListIs, bad-is, deep-is, many-is, leaf-is, spoilt-is}
-use Rattle.der.proofs.Enough.{node-is, ListLeft, left-first, left-none, left-fault, read-within, left-next}
+use Rattle.der.proofs.Enough.{node-is, ListLeft, left-first, left-none, left-fault, read-within, left-next, left-on}
 use borrow.Fn.Kinds.{In}
 use borrow.Fn.PlainCycle.{Measures, is, falls, and}
 use Rattle.der.proofs.walking.element.Reads as element
@@ -41,8 +42,9 @@ use Rattle.der.proofs.walking.set_list.Kinds as set-list-kinds
 use Rattle.der.proofs.walking.+element+list+set_list.Lts-set_list as set-list-lts
 use Rattle.der.proofs.walking.+element+list+set_list.Lts-list as list-lts
 use Rattle.der.proofs.contents.contents_good.Reads as contents-good-reads
-use Rattle.der.proofs.fast.fast_path.Reads as fast-path-reads
 use Rattle.der.proofs.heading.header.Reads as header-reads
+use Rattle.der.proofs.fast.fast_path.Reads as fast-path-reads
+use Rattle.der.proofs.onward.onward.Reads as onward-reads
 use Rattle.der.proofs.order.fallen.Reads as fallen-reads
 use Rattle.der.proofs.walking.+element+list+set_list.{statement}
 use Rattle.der.proofs.walking.+element+list+set_list.Tie.{close}
@@ -104,37 +106,39 @@ module _ (digits : ℕ) (wide : Bool) (most : ℕ) (s : List ℕ) (base left cou
 
 module _ (digits : ℕ) (wide : Bool) (most : ℕ) (set : Bool) (s : List ℕ) (base left count : ℕ) where
   -- a list of which the elements before `at` have been read, the last of them from `prior` on
-  abbrev Rest : ℕ → ℕ → ℕ → Type 0
-  Rest prior at read = (forms : Forms) → Given digits wide most left forms → ListLeft forms set s base (level forms left) count prior at read
+  abbrev Rest : ℕ → ℕ → ℕ → ℕ → Type 0
+  Rest prior at deep read =
+      (forms : Forms) → Given digits wide most left forms → ListLeft forms set s base (level forms left) count prior at (level forms deep) read
 
-  module _ (prior at read : ℕ) (more : at < length s) (f : Rest prior at read) where
+  module _ (prior at deep read : ℕ) (more : at < length s) (f : Rest prior at deep read) where
     -- the answer of its next element, after the one before it
     abbrev Next : Read → Type 0
     Next r =
         (forms : Forms) → Given digits wide most left forms
-        → ElementIs forms (handed set (stretch s prior at)) (stretch s at (length s)) (base + at) (level forms left) read r
+        → ElementIs forms (handed set (stretch s prior at)) (stretch s at (length s)) (base + at) (level forms deep) read r
 
     -- where that one is not in its way
     next : {r : Read} → ((forms : Forms) → Given digits wide most left forms → Stands forms (handed set (stretch s prior at))
-        (stretch s at (length s)) (level forms left) read)
-        → Answer digits wide most (stretch s at (length s)) (base + at) left read r → Next r
+        (stretch s at (length s)) (level forms deep) read)
+        → ((forms : Forms) → Given digits wide most left forms → ElementIs forms [] (stretch s at (length s)) (base + at) (level forms deep) read r)
+        → Next r
     next stands answer forms g fuel enough = answer forms g fuel enough ∙ stands forms g (base + at) fuel
 
     faulty : {refusal : Refusal} → Next (Fault refusal) → (forms : Forms) → Given digits wide most left forms → ListIs forms set s base
         (level forms left) count (Refused refusal)
-    faulty answer forms g = left-fault forms set s base (level forms left) count prior at read (f forms g) more (answer forms g)
+    faulty answer forms g = left-fault forms set s base (level forms left) count prior at (level forms deep) read (f forms g) more (answer forms g)
 
-    past : (used n to : ℕ) → Next (Past used n) → to ≡ at + used → (at < to) × (to ≤ length s) × (n ≤ most) × Rest at to n
+    past : (used n to : ℕ) → Next (Past used n) → to ≡ at + used → (at < to) × (to ≤ length s) × (n ≤ most) × Rest at to deep n
     past used n to answer e =
         let forms = made digits wide most left in
         let given = made-given digits wide most left in
         let w : (2 ≤ used) × (at + used ≤ length s) × (n ≤ most) =
-        read-within forms set s base (level forms left) count prior at read (f forms given) more (answer forms given) in (
+        read-within forms set s base (level forms left) count prior at (level forms deep) read (f forms given) more (answer forms given) in (
           omega arith,
           omega arith,
           w .2,
-          λ forms g. subst (λ k. ListLeft forms set s base (level forms left) count at k n) (sym e)
-              (left-next forms set s base (level forms left) count prior at read (f forms g) more (answer forms g)),
+          λ forms g. subst (λ k. ListLeft forms set s base (level forms left) count at k (level forms deep) n) (sym e)
+              (left-next forms set s base (level forms left) count prior at (level forms deep) read (f forms g) more (answer forms g)),
         )
 
 abbrev μ-element : Measures 1 element-kinds.ps ℕ
@@ -168,7 +172,16 @@ abbrev element-claims : ℕ → element-lts.Claims
 element-claims t = (header-reads.Asked, header-reads.Learnt, list-below t, list.Post, contents-good-reads.Asked, contents-good-reads.Learnt)
 
 abbrev list-claims : ℕ → list-lts.Claims
-list-claims t = (set-list-below t, set-list.Post, fast-path-reads.Asked, fast-path-reads.Learnt, element-below t, element.Post)
+list-claims t = (
+  set-list-below t,
+  set-list.Post,
+  fast-path-reads.Asked,
+  fast-path-reads.Learnt,
+  onward-reads.Asked,
+  onward-reads.Learnt,
+  element-below t,
+  element.Post,
+)
 
 abbrev set-list-claims : ℕ → set-list-lts.Claims
 set-list-claims t = (fallen-reads.Asked, fallen-reads.Learnt, element-below t, element.Post)
@@ -298,17 +311,21 @@ module _ (t : ℕ) where
   element-returns-7 c = bad (c .before) (c .if4 .left)
 
 -- where no order is asked, it does not matter where the last element started
-any-prior : (forms : Forms) (s : List ℕ) (base depth count prior other at read : ℕ) → ListLeft forms false s base depth count prior at read
-    → ListLeft forms false s base depth count other at read
+any-prior : (forms : Forms) (s : List ℕ) (base depth count prior other at deep read : ℕ) → ListLeft forms false s base depth count prior at deep read
+    → ListLeft forms false s base depth count other at deep read
 unfolding handed
-any-prior forms s base depth count prior other at read f = f
+any-prior forms s base depth count prior other at deep read f = f
+
+-- fewer levels are left
+lower : {digits : ℕ} {wide : Bool} {most left deep : ℕ} {forms : Forms} → deep ≤ left → Given digits wide most left forms → Given digits wide most deep forms
+lower h g = record { octets = g .octets; tags = g .tags; limit = g .limit; levels = omega (arith, h, g .levels) }
 
 abbrev list-Inv-loop : list-lts.InvT-loop
-list-Inv-loop digits wide most set s base left count at₀ read₀ at read =
-    (at ≤ length s) × (read ≤ most) × Rest digits wide most false s base left count 0 at read
+list-Inv-loop digits wide most set s base left count at₀ deep₀ read₀ at deep read =
+    (at ≤ length s) × (read ≤ most) × (deep ≤ left) × Rest digits wide most false s base left count 0 at deep read
 
 abbrev list-μ-loop : list-lts.MeasureT-loop
-list-μ-loop digits wide most set s base left count at₀ read₀ at read = length s - at
+list-μ-loop digits wide most set s base left count at₀ deep₀ read₀ at deep read = length s - at
 
 -- one turn of the list's loop
 module _ (t : ℕ) where
@@ -327,7 +344,7 @@ module _ (t : ℕ) where
       let start = started c in
       let here = c .before .loop in
       Answer (start .args .digits) (start .args .wide) (start .args .most) (stretch (start .args .s .now) (here .at) (length (start .args .s .now)))
-      (start .args .base + here .at) (start .args .left) (here .read) r
+      (start .args .base + here .at) (here .deep) (here .read) r
 
   abbrev Whole : Started → Bool → Walked → Type 0
   Whole start set w =
@@ -349,7 +366,7 @@ module _ (t : ℕ) where
       let here = c .before .loop in
       whole c (faulty (start .args .digits) (start .args .wide) (start .args .most) false (start .args .s .now) (start .args .base)
       (start .args .left) (start .args .count)
-      0 (here .at) (here .read) (c .loop-test .taken) (here .inv .2) answer)
+      0 (here .at) (here .deep) (here .read) (c .loop-test .taken) (here .inv .3) λ forms g. answer forms (lower (here .inv .2) g))
 
   -- an element that is read is left behind
   goes-on : (c : Turn) (used n to : ℕ) → Answered c (Past used n) → to ≡ c .before .loop .at + used
@@ -357,19 +374,19 @@ module _ (t : ℕ) where
       let here = c .before .loop in
       (here .at < to) × (to ≤ length (start .args .s .now)) × (n ≤ start .args .most)
       × Rest (start .args .digits) (start .args .wide) (start .args .most) false (start .args .s .now) (start .args .base) (start .args .left)
-      (start .args .count) 0 to n
+      (start .args .count) 0 to (here .deep) n
   unfolding handed
   goes-on c used n to answer e =
       let start = started c in
       let here = c .before .loop in
       let (more, inside, few, rest) = past (start .args .digits) (start .args .wide) (start .args .most) false (start .args .s .now)
       (start .args .base) (start .args .left) (start .args .count)
-      0 (here .at) (here .read) (c .loop-test .taken) (here .inv .2) used n to answer e in (
+      0 (here .at) (here .deep) (here .read) (c .loop-test .taken) (here .inv .3) used n to (λ forms g. answer forms (lower (here .inv .2) g)) e in (
         more,
         inside,
         few,
         λ forms g. any-prior forms (start .args .s .now) (start .args .base) (level forms (start .args .left)) (start .args .count)
-            (here .at) 0 to n (rest forms g),
+            (here .at) 0 to (level forms (here .deep)) n (rest forms g),
       )
 
   abbrev Fast : Type 0
@@ -382,7 +399,7 @@ module _ (t : ℕ) where
       let to = here .at + 2 + getD (start .args .s .now) (here .at + 1) 0 in
       (here .at < to) × (to ≤ length (start .args .s .now)) × (c .before .fast-path .result ≤ start .args .most)
       × Rest (start .args .digits) (start .args .wide) (start .args .most) false (start .args .s .now) (start .args .base) (start .args .left)
-      (start .args .count) 0 to (c .before .fast-path .result)
+      (start .args .count) 0 to (here .deep) (c .before .fast-path .result)
   fast c =
       let turn = c .before .before in
       let start = started turn in
@@ -390,11 +407,42 @@ module _ (t : ℕ) where
       goes-on turn (2 + getD (start .args .s .now) (here .at + 1) 0) (c .before .fast-path .result) (here .at + 2 + getD (start .args .s .now) (here .at + 1) 0)
       (λ forms g. c .before .fast-path .ensures (c .if2 .taken) .1 forms (g .limit) (g .levels) (start .args .base + here .at)) (omega arith)
 
+  -- a place farther on, or deeper
+  abbrev Placed : Type 0
+  Placed = list-lts.Then3 (list-claims t) (list-at t) list.Post list-Inv-loop list-μ-loop
+
+  abbrev Asked : Type 0
+  Asked = list-lts.After-onward (list-claims t) (list-at t) list.Post list-Inv-loop list-μ-loop
+
+  abbrev asked : Asked → Turn
+  asked c = c .before .before .before
+
+  told : (c : Placed)
+      → let start = started (asked (c .before .before)) in
+      let here = asked (c .before .before) .before .loop in
+      let on = c .before .before .onward .result in
+      Onward (start .args .digits) (start .args .wide) (start .args .most) (start .args .s .now) (here .at) (here .deep) (here .read)
+      (on .at) (on .left) (on .count)
+  told c = c .before .before .onward .ensures (c .if3 .taken)
+
+  farther : (c : Placed)
+      → let start = started (asked (c .before .before)) in
+      let on = c .before .before .onward .result in
+      Rest (start .args .digits) (start .args .wide) (start .args .most) false (start .args .s .now) (start .args .base) (start .args .left)
+      (start .args .count) 0 (on .at) (on .left) (on .count)
+  farther c forms g =
+      let start = started (asked (c .before .before)) in
+      let here = asked (c .before .before) .before .loop in
+      let on = c .before .before .onward .result in
+      left-on forms (start .args .s .now) (start .args .base) (level forms (start .args .left)) (start .args .count)
+      0 (here .at) (level forms (here .deep)) (here .read) 0 (on .at) (level forms (on .left)) (on .count) (here .inv .3 forms g)
+      (told c .goes forms (lower (here .inv .2) g))
+
   abbrev Read-on : Type 0
   Read-on = list-lts.After-element (list-claims t) (list-at t) list.Post list-Inv-loop list-μ-loop
 
   abbrev turned : Read-on → Turn
-  turned c = c .before .before .before .before
+  turned c = asked (c .before .before .before .before)
 
   answered : (c : Read-on) {r : Read} → c .element .result ≡ r → Answered (turned c) r
   answered c e forms g fuel h = sym e ∙ c .element .ensures forms g fuel h
@@ -409,7 +457,7 @@ module _ (t : ℕ) where
       let to = here .at + c .used .given .0 .0 in
       (here .at < to) × (to ≤ length (start .args .s .now)) × (c .used .given .0 .1 .0 ≤ start .args .most)
       × Rest (start .args .digits) (start .args .wide) (start .args .most) false (start .args .s .now) (start .args .base) (start .args .left)
-      (start .args .count) 0 to (c .used .given .0 .1 .0)
+      (start .args .count) 0 to (here .deep) (c .used .given .0 .1 .0)
   slow c = goes-on (turned (c .before .before)) _ _ _ (answered (c .before .before) (c .used .given .1)) refl
 
   list-set-list-requires : list-lts.Need-set-list-requires (list-claims t) (list-at t) list.Post list-Inv-loop list-μ-loop
@@ -428,6 +476,7 @@ module _ (t : ℕ) where
   list-loop-holds : list-lts.Need-loop-holds (list-claims t) (list-at t) list.Post list-Inv-loop list-μ-loop
   list-loop-holds c =
       let start = c .before .before in (
+        omega arith,
         omega arith,
         omega arith,
         λ forms g. left-first forms false (start .args .s .now) (start .args .base) (level forms (start .args .left)) (start .args .count),
@@ -452,11 +501,22 @@ module _ (t : ℕ) where
   list-loop-less c = omega (arith, fast (c .before))
 
   list-loop-again : list-lts.Need-loop-again (list-claims t) (list-at t) list.Post list-Inv-loop list-μ-loop
-  list-loop-again c = let on = fast (c .before) in (on .1, on .2, on .3)
+  list-loop-again c =
+      let on = fast (c .before) in
+      (on .1, on .2, c .before .before .before .before .loop .inv .2, on .3)
+
+  list-onward-requires : list-lts.Need-onward-requires (list-claims t) (list-at t) list.Post list-Inv-loop list-μ-loop
+  list-onward-requires c κs = omega arith
+
+  list-loop-less-2 : list-lts.Need-loop-less-2 (list-claims t) (list-at t) list.Post list-Inv-loop list-μ-loop
+  list-loop-less-2 c = omega (arith, told c .farther, told c .inside)
+
+  list-loop-again-2 : list-lts.Need-loop-again-2 (list-claims t) (list-at t) list.Post list-Inv-loop list-μ-loop
+  list-loop-again-2 c = (told c .inside, told c .few, omega (arith, told c .levels, asked (c .before .before) .before .loop .inv .2), farther c)
 
   list-element-requires : list-lts.Need-element-requires (list-claims t) (list-at t) list.Post list-Inv-loop list-μ-loop
   list-element-requires c κs =
-      let turn = c .before .before .before in
+      let turn = asked (c .before .before .before) in
       let start = started turn in
       let at = turn .before .loop .at in
       let s = start .args .s .now in
@@ -471,11 +531,13 @@ module _ (t : ℕ) where
   list-add-at-4 : list-lts.Need-add-at-4 (list-claims t) (list-at t) list.Post list-Inv-loop list-μ-loop
   list-add-at-4 c = omega (arith, slow (c .before))
 
-  list-loop-less-2 : list-lts.Need-loop-less-2 (list-claims t) (list-at t) list.Post list-Inv-loop list-μ-loop
-  list-loop-less-2 c = omega (arith, slow (c .before))
+  list-loop-less-3 : list-lts.Need-loop-less-3 (list-claims t) (list-at t) list.Post list-Inv-loop list-μ-loop
+  list-loop-less-3 c = omega (arith, slow (c .before))
 
-  list-loop-again-2 : list-lts.Need-loop-again-2 (list-claims t) (list-at t) list.Post list-Inv-loop list-μ-loop
-  list-loop-again-2 c = let on = slow (c .before) in (on .1, on .2, on .3)
+  list-loop-again-3 : list-lts.Need-loop-again-3 (list-claims t) (list-at t) list.Post list-Inv-loop list-μ-loop
+  list-loop-again-3 c =
+      let on = slow (c .before) in
+      (on .1, on .2, turned (c .before .before .before) .before .loop .inv .2, on .3)
 
   list-returns-3 : list-lts.Need-returns-3 (list-claims t) (list-at t) list.Post list-Inv-loop list-μ-loop
   list-returns-3 c = λ forms g.
@@ -485,11 +547,11 @@ module _ (t : ℕ) where
       subst (λ b. ListIs forms b (start .args .s .now) (start .args .base) (level forms (start .args .left)) (start .args .count)
       (Passed (here .read))) (sym plain)
       (left-none forms false (start .args .s .now) (start .args .base) (level forms (start .args .left)) (start .args .count)
-      0 (here .at) (here .read) (here .inv .2 forms g) (c .loop-test .left))
+      0 (here .at) (level forms (here .deep)) (here .read) (here .inv .3 forms g) (c .loop-test .left))
 
 abbrev set-list-Inv-loop : set-list-lts.InvT-loop
 set-list-Inv-loop digits wide most s base left count prior₀ at₀ read₀ prior at read =
-    (prior ≤ at) × (at ≤ length s) × (read ≤ most) × Rest digits wide most true s base left count prior at read
+    (prior ≤ at) × (at ≤ length s) × (read ≤ most) × Rest digits wide most true s base left count prior at left read
 
 abbrev set-list-μ-loop : set-list-lts.MeasureT-loop
 set-list-μ-loop digits wide most s base left count prior₀ at₀ read₀ prior at read = length s - at
@@ -510,7 +572,7 @@ module _ (t : ℕ) where
       let start = set-started c in
       let here = c .before .loop in
       Next (start .args .digits) (start .args .wide) (start .args .most) true (start .args .s .now) (start .args .base) (start .args .left) (start .args .count)
-      (here .prior) (here .at) (here .read) (c .loop-test .taken) (here .inv .3) r
+      (here .prior) (here .at) (start .args .left) (here .read) (c .loop-test .taken) (here .inv .3) r
 
   -- a fault of the next member is the list's
   set-stops : (c : SetTurn) {refusal : Refusal} → SetNext c (Fault refusal)
@@ -522,7 +584,7 @@ module _ (t : ℕ) where
       let here = c .before .loop in
       faulty (start .args .digits) (start .args .wide) (start .args .most) true (start .args .s .now) (start .args .base) (start .args .left)
       (start .args .count)
-      (here .prior) (here .at) (here .read) (c .loop-test .taken) (here .inv .3)
+      (here .prior) (here .at) (start .args .left) (here .read) (c .loop-test .taken) (here .inv .3)
 
   abbrev Standing : Type 0
   Standing = set-list-lts.Else1 (set-list-claims t) (set-list-at t) set-list.Post set-list-Inv-loop set-list-μ-loop
@@ -542,7 +604,7 @@ module _ (t : ℕ) where
       let start = set-started turn in
       let here = turn .before .loop in
       next (start .args .digits) (start .args .wide) (start .args .most) true (start .args .s .now) (start .args .base) (start .args .left) (start .args .count)
-      (here .prior) (here .at) (here .read) (turn .loop-test .taken) (here .inv .3) (stood .before .fallen .ensures .1 (stood .if1 .left))
+      (here .prior) (here .at) (start .args .left) (here .read) (turn .loop-test .taken) (here .inv .3) (stood .before .fallen .ensures .1 (stood .if1 .left))
       λ forms g fuel h. sym e ∙ c .element .ensures forms g fuel h
 
   abbrev SetTaken : Type 0
@@ -555,13 +617,13 @@ module _ (t : ℕ) where
       let to = here .at + c .used .given .0 .0 in
       (here .at < to) × (to ≤ length (start .args .s .now)) × (c .used .given .0 .1 .0 ≤ start .args .most)
       × Rest (start .args .digits) (start .args .wide) (start .args .most) true (start .args .s .now) (start .args .base) (start .args .left)
-      (start .args .count) (here .at) to (c .used .given .0 .1 .0)
+      (start .args .count) (here .at) to (start .args .left) (c .used .given .0 .1 .0)
   set-slow c =
       let turn = standing (c .before .before) .before .before in
       let start = set-started turn in
       let here = turn .before .loop in
       past (start .args .digits) (start .args .wide) (start .args .most) true (start .args .s .now) (start .args .base) (start .args .left) (start .args .count)
-      (here .prior) (here .at) (here .read) (turn .loop-test .taken) (here .inv .3) _ _ _ (set-answered (c .before .before) (c .used .given .1)) refl
+      (here .prior) (here .at) (start .args .left) (here .read) (turn .loop-test .taken) (here .inv .3) _ _ _ (set-answered (c .before .before) (c .used .given .1)) refl
 
   set-list-loop-holds : set-list-lts.Need-loop-holds (set-list-claims t) (set-list-at t) set-list.Post set-list-Inv-loop set-list-μ-loop
   set-list-loop-holds c =
@@ -609,7 +671,7 @@ module _ (t : ℕ) where
       let start = c .before .before .before in
       let here = c .before .loop in
       left-none forms true (start .args .s .now) (start .args .base) (level forms (start .args .left)) (start .args .count)
-      (here .prior) (here .at) (here .read) (here .inv .3 forms g) (c .loop-test .left)
+      (here .prior) (here .at) (level forms (start .args .left)) (here .read) (here .inv .3 forms g) (c .loop-test .left)
 
 pub +element+list+set-list-spec : {M : Type 1} → statement M
 +element+list+set-list-spec = close μ-element μ-list μ-set-list
@@ -658,6 +720,9 @@ pub +element+list+set-list-spec : {M : Type 1} → statement M
     (list-add-at-3 t)
     (list-loop-less t)
     (list-loop-again t)
+    (list-onward-requires t)
+    (list-loop-less-2 t)
+    (list-loop-again-2 t)
     (λ c. search needs)
     (λ c. search needs)
     (λ c. search needs)
@@ -667,8 +732,8 @@ pub +element+list+set-list-spec : {M : Type 1} → statement M
     (list-returns-2 t)
     (λ c. search needs)
     (list-add-at-4 t)
-    (list-loop-less-2 t)
-    (list-loop-again-2 t)
+    (list-loop-less-3 t)
+    (list-loop-again-3 t)
     (list-returns-3 t))
     λ t. set-list-lts.spec (set-list-claims t)
     (set-list-at t)

@@ -15,7 +15,7 @@ use Rattle.elements.proofs.envelopes.envelope_of.Tie as tie
 outermost-found : (c : tie.After-outermost) →
     let a = c .before .before .before .before .args in
     foundTagged paper (a .item .now) 0 (length (a .item .now)) 0x30 ≡ One (c .outermost .given .0 .0)
-outermost-found c = sym (c .before .before .element-tagged .ensures) ∙ c .outermost .given .1
+outermost-found c = sym (c .before .before .any-tagged .ensures) ∙ c .outermost .given .1
 
 -- the tbs, first in it
 abbrev outermost-read : tie.After-tbs → tie.After-outermost
@@ -25,7 +25,7 @@ tbs-found : (c : tie.After-tbs) →
     let a = outermost-read c .before .before .before .before .args in
     let outermost = outermost-read c .outermost .given .0 .0 in
     foundTagged paper (a .item .now) (outermost .contents) (outermost .end) 0x30 ≡ One (c .tbs .given .0 .0)
-tbs-found c = sym (c .before .before .element-tagged2 .ensures) ∙ c .tbs .given .1
+tbs-found c = sym (c .before .before .any-tagged2 .ensures) ∙ c .tbs .given .1
 
 -- the algorithm, after it
 abbrev tbs-read : tie.After-algorithm → tie.After-tbs
@@ -36,7 +36,7 @@ algorithm-found : (c : tie.After-algorithm) →
     let outermost = outermost-read (tbs-read c) .outermost .given .0 .0 in
     let tbs = tbs-read c .tbs .given .0 .0 in
     foundTagged paper (a .item .now) (tbs .end) (outermost .end) 0x30 ≡ One (c .algorithm .given .0 .0)
-algorithm-found c = sym (c .before .before .element-tagged3 .ensures) ∙ c .algorithm .given .1
+algorithm-found c = sym (c .before .before .element-tagged .ensures) ∙ c .algorithm .given .1
 
 -- the signature, after that
 abbrev algorithm-read : tie.After-signature → tie.After-algorithm
@@ -47,18 +47,18 @@ signature-found : (c : tie.After-signature) →
     let outermost = outermost-read (tbs-read (algorithm-read c)) .outermost .given .0 .0 in
     let algorithm = algorithm-read c .algorithm .given .0 .0 in
     foundTagged paper (a .item .now) (algorithm .end) (outermost .end) 0x03 ≡ One (c .signature .given .0 .0)
-signature-found c = sym (c .before .before .element-tagged4 .ensures) ∙ c .signature .given .1
+signature-found c = sym (c .before .before .element-tagged2 .ensures) ∙ c .signature .given .1
 
 returns : tie.Need-returns
 unfolding envelopeOf
-returns c = on-missing _ (sym (c .before .before .element-tagged .ensures) ∙ c .enum-told .given .1)
+returns c = on-missing _ (sym (c .before .before .any-tagged .ensures) ∙ c .enum-told .given .1)
 
 returns-2 : tie.Need-returns-2
 unfolding envelopeOf
 returns-2 c =
     let outermost = c .before .before .before .before in
     on-found _ _ (outermost-found outermost)
-    (on-missing _ (sym (c .before .before .element-tagged2 .ensures) ∙ c .enum-told2 .given .1))
+    (on-missing _ (sym (c .before .before .any-tagged2 .ensures) ∙ c .enum-told2 .given .1))
 
 returns-3 : tie.Need-returns-3
 unfolding envelopeOf
@@ -67,7 +67,7 @@ returns-3 c =
     let outermost = outermost-read tbs in
     on-found _ _ (outermost-found outermost)
     (on-found _ _ (tbs-found tbs)
-    (on-missing _ (sym (c .before .before .element-tagged3 .ensures) ∙ c .enum-told3 .given .1)))
+    (on-missing _ (sym (c .before .before .element-tagged .ensures) ∙ c .enum-told3 .given .1)))
 
 returns-4 : tie.Need-returns-4
 unfolding envelopeOf
@@ -78,7 +78,7 @@ returns-4 c =
     on-found _ _ (outermost-found outermost)
     (on-found _ _ (tbs-found tbs)
     (on-found _ _ (algorithm-found algorithm)
-    (on-missing _ (sym (c .before .before .element-tagged4 .ensures) ∙ c .enum-told4 .given .1))))
+    (on-missing _ (sym (c .before .before .element-tagged2 .ensures) ∙ c .enum-told4 .given .1))))
 
 returns-5 : tie.Need-returns-5
 unfolding envelopeOf

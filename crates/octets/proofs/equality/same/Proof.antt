@@ -14,6 +14,13 @@ Inv-loop a b n i₀ i = (i ≤ length a) × (take i a ≡ take i b)
 abbrev μ-loop : tie.MeasureT-loop
 μ-loop a b n i₀ i = length a - i
 
+-- Points passed before: the call; where the lengths were found equal.
+abbrev called : tie.Else1 Inv-loop μ-loop → tie.Start Inv-loop μ-loop
+called c = c .before .before .before
+
+abbrev equal-long : tie.After-same-part2 Inv-loop μ-loop → tie.Else1 Inv-loop μ-loop
+equal-long c = c .before .before .before
+
 returns : tie.Need-returns Inv-loop μ-loop
 returns c = sym (unlike-length _ _ (c .if1 .taken))
 
@@ -22,7 +29,7 @@ same-part-requires c κs = (omega arith, omega arith)
 
 returns-2 : tie.Need-returns-2 Inv-loop μ-loop
 returns-2 c =
-    let start = c .before .before .before .before .before .before .args in
+    let start = called (c .before .before .before) .args in
     let a = start .a .now in
     c .same-part .ensures ∙ alike-last a (start .b .now) 0 0 (length a) (omega arith) (omega arith) (omega arith) refl
 
@@ -37,7 +44,7 @@ same-part-requires-3 c κs = (omega arith, omega arith)
 
 returns-4 : tie.Need-returns-4 Inv-loop μ-loop
 returns-4 c =
-    let start = c .before .before .before .before .before .before .before .before .args in
+    let start = called (equal-long (c .before .before)) .args in
     let a = start .a .now in
     let b = start .b .now in
     let first : take 8 a ≡ take 8 b = taken-more a b 0 8 refl (sym (c .before .before .same-part2 .ensures) ∙ not-false _ (c .before .if4 .left)) in
@@ -68,7 +75,7 @@ same-part-requires-5 c κs = (omega arith, omega arith)
 
 returns-6 : tie.Need-returns-6 Inv-loop μ-loop
 returns-6 c =
-    let start = c .before .before .before .before .before .before .before .args in
+    let start = called (c .before .before .before .before) .args in
     let a = start .a .now in
     let at = c .before .before .loop in
     c .same-part5 .ensures ∙ alike-last a (start .b .now) (length a - 16) (at .i) 16 (omega arith) (omega arith) (omega arith) (at .inv .1)
