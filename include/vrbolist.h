@@ -109,6 +109,7 @@ typedef struct {
     uint64_t detail;
     uint64_t entries;
     uint64_t day;
+    uint64_t version; /* 1 or 2 */
 } vrbolist_image_answer;
 
 typedef struct {
@@ -118,6 +119,7 @@ typedef struct {
     uint64_t flags;
     uint64_t length;
     uint64_t offset;
+    uint8_t country[2]; /* the letters in the index, which reading does not test; zeros in version 1 */
 } vrbolist_entry_answer;
 
 typedef struct {
@@ -125,6 +127,12 @@ typedef struct {
     uint64_t detail;
     uint64_t length;
 } vrbolist_write_answer;
+
+typedef struct {
+    uint64_t number;
+    uint64_t detail;
+    uint64_t letters_true; /* 1 where the letters of every item are its true ones, else 0 */
+} vrbolist_letters_answer;
 
 typedef struct {
     uint64_t number;
@@ -163,7 +171,7 @@ vrbolist_days_answer vrbolist_day_difference(uint64_t first, uint64_t second);
  * Refusals: 1 for the day as above, then those of vrbolist_crl, then 1 for a this-update after 2099. */
 vrbolist_days_answer vrbolist_crl_age(const uint8_t *item, size_t item_len, uint64_t day);
 
-/* Judges a trust image and tells its number of entries and its day; items are not opened.
+/* Judges a trust image of version 1 or 2 and tells its number of entries, its day and its version; items are not opened.
  * Refusals: 5 with a rule of 1 to 7. */
 vrbolist_image_answer vrbolist_image(const uint8_t *image, size_t image_len);
 
@@ -175,14 +183,31 @@ vrbolist_image_answer vrbolist_image_for_day(const uint8_t *image, size_t image_
  * Refusals: 5, then 1 for a place that is not there. */
 vrbolist_entry_answer vrbolist_entry(const uint8_t *image, size_t image_len, uint64_t place);
 
-/* Writes a trust image of items that stand packed in `items`, with a kind, flags and a length for each, to the first bytes
- * of `out`; its other bytes stay.
- * Refusals: 1 where a kind, flags, length or the day is out of its range, there are more than VRBOLIST_PLACES items, the
- * columns are not equally long or the lengths do not add up to items_len; then 3 at 0 for an image of more than
- * VRBOLIST_IMAGE_LIMIT bytes; then 9. */
+/* Writes a trust image of a version, 1 or 2, of items that stand packed in `items`, with a kind, flags, a length and two
+ * letters for each, to the first bytes of `out`; its other bytes stay. In version 2 the letters may be any bytes, in version 1
+ * they are zeros.
+ * Refusals: 1 where the version, a kind, flags, length, letters or the day is out of its range, there are more than
+ * VRBOLIST_PLACES items, the columns are not equally long, with two letters for each item, or the lengths do not add up to
+ * items_len; then 3 at 0 for an image of more than VRBOLIST_IMAGE_LIMIT bytes; then 9. */
 vrbolist_write_answer vrbolist_write(const uint8_t *items, size_t items_len, const uint8_t *kinds, size_t kinds_len,
                                      const uint8_t *flags, size_t flags_len, const uint32_t *lengths, size_t lengths_len,
-                                     uint64_t day, uint8_t *out, size_t out_len);
+                                     const uint8_t *letters, size_t letters_len, uint64_t version, uint64_t day, uint8_t *out,
+                                     size_t out_len);
+
+/* Writes a trust image of version 1 again in version 2, with the same items, flags and day and the true letters of each item, to
+ * the first bytes of `out`; its other bytes stay. The true letters are those that an item reports where it passes its profile
+ * for its kind, else two zeros.
+ * Refusals: 5, with rule 2 for an image of version 2; then 3 at 0 for an image of more than VRBOLIST_IMAGE_LIMIT bytes; then
+ * 9. */
+vrbolist_write_answer vrbolist_move_to_2(const uint8_t *image, size_t image_len, uint8_t *out, size_t out_len);
+
+/* Writes a trust image of version 2 again in version 1, without the letters, to the first bytes of `out`; its other bytes stay.
+ * Refusals: 5, with rule 2 for an image of version 1; then 9. */
+vrbolist_write_answer vrbolist_move_to_1(const uint8_t *image, size_t image_len, uint8_t *out, size_t out_len);
+
+/* Tells whether the letters of every item of a trust image of version 2 are its true ones. No other call tests them.
+ * Refusals: 5, with rule 2 for an image of version 1. */
+vrbolist_letters_answer vrbolist_letters(const uint8_t *image, size_t image_len);
 
 /* Finds the best good chain from an enabled anchor to the document signer at the place `target`; `table` has a byte, 0 or 1,
  * for each pair of entries, row by row: whether the entry of the row signed that of the column.

@@ -154,11 +154,15 @@ static const struct field crl_fields[] = {
     AT(crl, issuer_at, 40, 8), AT(crl, issuer_len, 48, 8), AT(crl, country, 56, 2),
 };
 static const struct field days_fields[] = {HEAD_AT(days), AT(days, days, 16, 8)};
-static const struct field image_fields[] = {HEAD_AT(image), AT(image, entries, 16, 8), AT(image, day, 24, 8)};
+static const struct field image_fields[] = {
+    HEAD_AT(image), AT(image, entries, 16, 8), AT(image, day, 24, 8), AT(image, version, 32, 8),
+};
 static const struct field entry_fields[] = {
     HEAD_AT(entry), AT(entry, kind, 16, 8), AT(entry, flags, 24, 8), AT(entry, length, 32, 8), AT(entry, offset, 40, 8),
+    AT(entry, country, 48, 2),
 };
 static const struct field write_fields[] = {HEAD_AT(write), AT(write, length, 16, 8)};
+static const struct field letters_fields[] = {HEAD_AT(letters), AT(letters, letters_true, 16, 8)};
 static const struct field chain_fields[] = {HEAD_AT(chain), AT(chain, length, 16, 8), AT(chain, places, 24, 96)};
 static const struct field replay_fields[] = {HEAD_AT(replay), AT(replay, faulty, 16, 8)};
 
@@ -174,8 +178,11 @@ void image_to(void *answer, const uint8_t *image, size_t len) __asm__("vrbolist_
 void image_for_day_to(void *answer, const uint8_t *image, size_t len, uint64_t wanted) __asm__("vrbolist_image_for_day");
 void entry_to(void *answer, const uint8_t *image, size_t len, uint64_t place) __asm__("vrbolist_entry");
 void write_to(void *answer, const uint8_t *items, size_t items_len, const uint8_t *kinds, size_t kinds_len,
-              const uint8_t *flags, size_t flags_len, const uint32_t *lengths, size_t lengths_len, uint64_t day, uint8_t *out,
-              size_t out_len) __asm__("vrbolist_write");
+              const uint8_t *flags, size_t flags_len, const uint32_t *lengths, size_t lengths_len, const uint8_t *letters,
+              size_t letters_len, uint64_t version, uint64_t day, uint8_t *out, size_t out_len) __asm__("vrbolist_write");
+void move_to_2_to(void *answer, const uint8_t *image, size_t len, uint8_t *out, size_t out_len) __asm__("vrbolist_move_to_2");
+void move_to_1_to(void *answer, const uint8_t *image, size_t len, uint8_t *out, size_t out_len) __asm__("vrbolist_move_to_1");
+void letters_to(void *answer, const uint8_t *image, size_t len) __asm__("vrbolist_letters");
 void chain_to(void *answer, const uint8_t *image, size_t image_len, const uint8_t *table, size_t table_len, uint64_t moment,
               uint64_t target) __asm__("vrbolist_chain");
 void replay_to(void *answer, const uint8_t *log, size_t log_len, uint64_t *list, size_t list_len) __asm__("vrbolist_replay");
@@ -203,10 +210,13 @@ static void layout(void) {
     LAID_OUT(crl, 64, crl_to(to, NULL, 0));
     LAID_OUT(days, 24, difference_to(to, DAY, DAY));
     LAID_OUT(days, 24, age_to(to, NULL, 0, DAY));
-    LAID_OUT(image, 32, image_to(to, NULL, 0));
-    LAID_OUT(image, 32, image_for_day_to(to, NULL, 0, DAY));
-    LAID_OUT(entry, 48, entry_to(to, NULL, 0, 0));
-    LAID_OUT(write, 24, write_to(to, NULL, 0, NULL, 0, NULL, 0, NULL, 0, DAY, NULL, 0));
+    LAID_OUT(image, 40, image_to(to, NULL, 0));
+    LAID_OUT(image, 40, image_for_day_to(to, NULL, 0, DAY));
+    LAID_OUT(entry, 56, entry_to(to, NULL, 0, 0));
+    LAID_OUT(write, 24, write_to(to, NULL, 0, NULL, 0, NULL, 0, NULL, 0, NULL, 0, 2, DAY, NULL, 0));
+    LAID_OUT(write, 24, move_to_2_to(to, NULL, 0, NULL, 0));
+    LAID_OUT(write, 24, move_to_1_to(to, NULL, 0, NULL, 0));
+    LAID_OUT(letters, 24, letters_to(to, NULL, 0));
     LAID_OUT(chain, 120, chain_to(to, NULL, 0, NULL, 0, MOMENT, 0));
     LAID_OUT(replay, 24, replay_to(to, NULL, 0, NULL, 0));
 }
@@ -394,20 +404,29 @@ static void crls(struct item crl, struct item anchor) {
 
 /* Images. */
 
-static void image_is(int line, vrbolist_image_answer answer, uint64_t number, uint64_t detail, uint64_t entries,
-                     uint64_t day) {
-    HEAD(answer, number, detail);
+static void image_is(int line, vrbolist_image_answer answer, uint64_t entries, uint64_t day, uint64_t version) {
+    HEAD(answer, 0, 0);
     FIELD(answer, entries, entries);
     FIELD(answer, day, day);
+    FIELD(answer, version, version);
+}
+
+static void image_refused(int line, vrbolist_image_answer answer, uint64_t number, uint64_t detail) {
+    HEAD(answer, number, detail);
+    FIELD(answer, entries, 0);
+    FIELD(answer, day, 0);
+    FIELD(answer, version, 0);
 }
 
 static void entry_is(int line, vrbolist_entry_answer answer, uint64_t kind, uint64_t flags, uint64_t length,
-                     uint64_t offset) {
+                     uint64_t offset, const uint8_t *country) {
     HEAD(answer, 0, 0);
     FIELD(answer, kind, kind);
     FIELD(answer, flags, flags);
     FIELD(answer, length, length);
     FIELD(answer, offset, offset);
+    FIELD(answer, country[0], country[0]);
+    FIELD(answer, country[1], country[1]);
 }
 
 static void entry_refused(int line, vrbolist_entry_answer answer, uint64_t number, uint64_t detail) {
@@ -416,6 +435,8 @@ static void entry_refused(int line, vrbolist_entry_answer answer, uint64_t numbe
     FIELD(answer, flags, 0);
     FIELD(answer, length, 0);
     FIELD(answer, offset, 0);
+    FIELD(answer, country[0], 0);
+    FIELD(answer, country[1], 0);
 }
 
 static void write_is(int line, vrbolist_write_answer answer, uint64_t number, uint64_t detail, uint64_t length) {
@@ -423,72 +444,136 @@ static void write_is(int line, vrbolist_write_answer answer, uint64_t number, ui
     FIELD(answer, length, length);
 }
 
-static void small_images(void) {
-    static const uint8_t empty[] = {0, 0, 0, 0, 0, 0, 0, 1, 0x01, 0x35, 0x28, 0xfb};
-    static const uint8_t version[] = {0, 0, 0, 0, 0, 0, 0, 2, 0x01, 0x35, 0x28, 0xfb};
-    const uint8_t *good = lend(empty, sizeof empty), *bad = lend(version, sizeof version);
+static void letters_are(int line, vrbolist_letters_answer answer, uint64_t number, uint64_t detail, uint64_t letters_true) {
+    HEAD(answer, number, detail);
+    FIELD(answer, letters_true, letters_true);
+}
+
+/* The image without items, of a version. */
+static void small_image(uint64_t version) {
+    uint8_t empty[] = {0, 0, 0, 0, 0, 0, 0, 0, 0x01, 0x35, 0x28, 0xfb};
+    const uint8_t *good;
     uint8_t *out = output(20);
-    image_is(__LINE__, vrbolist_image(good, 12), 0, 0, 0, DAY);
-    image_is(__LINE__, vrbolist_image(good, 11), VRBOLIST_IMAGE, 1, 0, 0);
-    image_is(__LINE__, vrbolist_image(bad, 12), VRBOLIST_IMAGE, 2, 0, 0);
-    image_is(__LINE__, vrbolist_image(NULL, 0), VRBOLIST_IMAGE, 1, 0, 0);
-    image_is(__LINE__, vrbolist_image_for_day(good, 12, DAY), 0, 0, 0, DAY);
-    image_is(__LINE__, vrbolist_image_for_day(good, 12, DAY - 1), VRBOLIST_DAY, 0, 0, 0);
-    image_is(__LINE__, vrbolist_image_for_day(good, 12, 20261131), VRBOLIST_ARGUMENT, 0, 0, 0);
-    image_is(__LINE__, vrbolist_image_for_day(bad, 12, UINT64_MAX), VRBOLIST_ARGUMENT, 0, 0, 0);
-    image_is(__LINE__, vrbolist_image_for_day(bad, 12, DAY), VRBOLIST_IMAGE, 2, 0, 0);
-    image_is(__LINE__, vrbolist_image_for_day(NULL, 0, DAY), VRBOLIST_IMAGE, 1, 0, 0);
+    empty[7] = (uint8_t)version;
+    good = lend(empty, sizeof empty);
+    image_is(__LINE__, vrbolist_image(good, 12), 0, DAY, version);
+    image_refused(__LINE__, vrbolist_image(good, 11), VRBOLIST_IMAGE, 1);
+    image_is(__LINE__, vrbolist_image_for_day(good, 12, DAY), 0, DAY, version);
+    image_refused(__LINE__, vrbolist_image_for_day(good, 12, DAY - 1), VRBOLIST_DAY, 0);
+    image_refused(__LINE__, vrbolist_image_for_day(good, 12, 20261131), VRBOLIST_ARGUMENT, 0);
     entry_refused(__LINE__, vrbolist_entry(good, 12, 0), VRBOLIST_ARGUMENT, 0);
-    entry_refused(__LINE__, vrbolist_entry(bad, 12, 0), VRBOLIST_IMAGE, 2);
-    entry_refused(__LINE__, vrbolist_entry(NULL, 0, UINT64_MAX), VRBOLIST_IMAGE, 1);
-    write_is(__LINE__, vrbolist_write(NULL, 0, NULL, 0, NULL, 0, NULL, 0, DAY, NULL, 0), VRBOLIST_SHORT, 0, 0);
-    write_is(__LINE__, vrbolist_write(NULL, 0, NULL, 0, NULL, 0, NULL, 0, UINT64_MAX, NULL, 0), VRBOLIST_ARGUMENT, 0, 0);
-    write_is(__LINE__, vrbolist_write(NULL, 0, NULL, 0, NULL, 0, NULL, 0, DAY, out, 11), VRBOLIST_SHORT, 0, 0);
+#define WRITE_NONE(letters_n, version, day, out, room, number, length) \
+    write_is(__LINE__, vrbolist_write(NULL, 0, NULL, 0, NULL, 0, NULL, 0, good, letters_n, version, day, out, room), number, 0, \
+             length)
+    WRITE_NONE(0, version, DAY, NULL, 0, VRBOLIST_SHORT, 0);
+    WRITE_NONE(0, version, UINT64_MAX, NULL, 0, VRBOLIST_ARGUMENT, 0);
+    WRITE_NONE(0, 0, DAY, out, 20, VRBOLIST_ARGUMENT, 0);
+    WRITE_NONE(0, 3, DAY, out, 20, VRBOLIST_ARGUMENT, 0);
+    WRITE_NONE(0, version + 256, DAY, out, 20, VRBOLIST_ARGUMENT, 0);
+    WRITE_NONE(0, version + 4294967296, DAY, out, 20, VRBOLIST_ARGUMENT, 0);
+    WRITE_NONE(0, UINT64_MAX, DAY, out, 20, VRBOLIST_ARGUMENT, 0);
+    WRITE_NONE(2, version, DAY, out, 20, VRBOLIST_ARGUMENT, 0);
+    WRITE_NONE(0, version, DAY, out, 11, VRBOLIST_SHORT, 0);
     CHECK(filled(out, 20));
-    write_is(__LINE__, vrbolist_write(NULL, 0, NULL, 0, NULL, 0, NULL, 0, DAY, out, 20), 0, 0, 12);
+    WRITE_NONE(0, version, DAY, out, 20, 0, 12);
     CHECK(memcmp(out, empty, 12) == 0);
     CHECK(filled(out + 12, 8));
 }
 
-/* An image that would have more than 262,144 bytes. */
-static void long_image(void) {
+/* Versions that there are not, and no image at all. */
+static void no_images(void) {
+    static const uint8_t version[] = {0, 0, 0, 0, 0, 0, 0, 3, 0x01, 0x35, 0x28, 0xfb};
+    const uint8_t *bad = lend(version, sizeof version);
+    uint8_t *out = output(20);
+    image_refused(__LINE__, vrbolist_image(bad, 12), VRBOLIST_IMAGE, 2);
+    image_refused(__LINE__, vrbolist_image(NULL, 0), VRBOLIST_IMAGE, 1);
+    image_refused(__LINE__, vrbolist_image_for_day(bad, 12, UINT64_MAX), VRBOLIST_ARGUMENT, 0);
+    image_refused(__LINE__, vrbolist_image_for_day(bad, 12, DAY), VRBOLIST_IMAGE, 2);
+    image_refused(__LINE__, vrbolist_image_for_day(NULL, 0, DAY), VRBOLIST_IMAGE, 1);
+    entry_refused(__LINE__, vrbolist_entry(bad, 12, 0), VRBOLIST_IMAGE, 2);
+    entry_refused(__LINE__, vrbolist_entry(NULL, 0, UINT64_MAX), VRBOLIST_IMAGE, 1);
+    write_is(__LINE__, vrbolist_move_to_2(bad, 12, out, 20), VRBOLIST_IMAGE, 2, 0);
+    write_is(__LINE__, vrbolist_move_to_1(bad, 12, out, 20), VRBOLIST_IMAGE, 2, 0);
+    write_is(__LINE__, vrbolist_move_to_2(bad, 11, out, 20), VRBOLIST_IMAGE, 1, 0);
+    write_is(__LINE__, vrbolist_move_to_1(NULL, 0, NULL, 0), VRBOLIST_IMAGE, 1, 0);
+    letters_are(__LINE__, vrbolist_letters(bad, 12), VRBOLIST_IMAGE, 2, 0);
+    letters_are(__LINE__, vrbolist_letters(NULL, 0), VRBOLIST_IMAGE, 1, 0);
+    CHECK(filled(out, 20));
+}
+
+#define LONG (VRBOLIST_IMAGE_LIMIT + 1024) /* room for an image that is too long */
+
+/* Images with about 262,144 bytes, by the octets of an index entry. */
+static void long_image(uint64_t version, size_t width) {
     static uint8_t bytes[16 * VRBOLIST_ITEM_LIMIT];
-    static const uint8_t none[16];
-    uint8_t kind[16];
+    static const uint8_t none[32];
+    uint8_t kind[16], *out = output(LONG);
     uint32_t length[16];
-    const uint8_t *items = lend(bytes, sizeof bytes), *kinds, *flags = lend(none, 16);
+    const uint8_t *items = lend(bytes, sizeof bytes), *kinds, *flags = lend(none, 16), *letters = lend(none, 32);
     const uint32_t *lengths;
-    uint8_t *out = output(VRBOLIST_IMAGE_LIMIT + 1024);
-    size_t i;
+    size_t i, less = width * 16 + 12;
     for (i = 0; i < 16; i++) {
         kind[i] = VRBOLIST_KIND_CRL;
         length[i] = VRBOLIST_ITEM_LIMIT;
     }
     kinds = lend(kind, 16);
-    lengths = (const uint32_t *)(const void *)lend(length, sizeof length);
-    write_is(__LINE__,
-             vrbolist_write(items, sizeof bytes, kinds, 16, flags, 16, lengths, 16, DAY, out, VRBOLIST_IMAGE_LIMIT + 1024),
-             VRBOLIST_LIMIT, 0, 0);
-    CHECK(filled(out, VRBOLIST_IMAGE_LIMIT + 1024));
-    length[15] = VRBOLIST_ITEM_LIMIT - 8 * 16 - 12;
-    lengths = (const uint32_t *)(const void *)lend(length, sizeof length);
-    write_is(__LINE__,
-             vrbolist_write(items, sizeof bytes - 8 * 16 - 12, kinds, 16, flags, 16, lengths, 16, DAY, out,
-                            VRBOLIST_IMAGE_LIMIT + 1024),
-             0, 0, VRBOLIST_IMAGE_LIMIT);
+#define WRITE_LONG(less, number, written) \
+    (length[15] = (uint32_t)(VRBOLIST_ITEM_LIMIT - (less)), \
+     lengths = (const uint32_t *)(const void *)lend(length, sizeof length), \
+     write_is(__LINE__, \
+              vrbolist_write(items, sizeof bytes - (less), kinds, 16, flags, 16, lengths, 16, letters, 32, version, DAY, out, \
+                             LONG), \
+              number, 0, written))
+    WRITE_LONG(0, VRBOLIST_LIMIT, 0);
+    WRITE_LONG(less - 1, VRBOLIST_LIMIT, 0);
+    CHECK(filled(out, LONG));
+    WRITE_LONG(less, 0, VRBOLIST_IMAGE_LIMIT);
     CHECK(filled(out + VRBOLIST_IMAGE_LIMIT, 1024));
-    image_is(__LINE__, vrbolist_image(out, VRBOLIST_IMAGE_LIMIT), 0, 0, 16, DAY);
+    image_is(__LINE__, vrbolist_image(out, VRBOLIST_IMAGE_LIMIT), 16, DAY, version);
 }
 
+/* An image of version 1 whose move to version 2 has 262,144 bytes, and one with a byte more. */
+static void long_move(void) {
+    static uint8_t bytes[16 * VRBOLIST_ITEM_LIMIT];
+    static const uint8_t none[32];
+    uint8_t kind[16], *one = output(LONG), *two = output(LONG), *back = output(LONG);
+    uint32_t length[16];
+    size_t i, len = VRBOLIST_IMAGE_LIMIT - 4 * 16;
+    for (i = 0; i < 16; i++) {
+        kind[i] = VRBOLIST_KIND_CRL;
+        length[i] = VRBOLIST_ITEM_LIMIT;
+    }
+    length[15] -= 12 * 16 + 12;
+#define WRITE_ONE(items_n, written) \
+    write_is(__LINE__, vrbolist_write(bytes, items_n, kind, 16, none, 16, length, 16, none, 32, 1, DAY, one, LONG), 0, 0, written)
+    WRITE_ONE(len - 8 * 16 - 12, len);
+    write_is(__LINE__, vrbolist_move_to_2(one, len, two, VRBOLIST_IMAGE_LIMIT - 1), VRBOLIST_SHORT, 0, 0);
+    CHECK(filled(two, LONG));
+    write_is(__LINE__, vrbolist_move_to_2(one, len, two, LONG), 0, 0, VRBOLIST_IMAGE_LIMIT);
+    CHECK(filled(two + VRBOLIST_IMAGE_LIMIT, LONG - VRBOLIST_IMAGE_LIMIT));
+    letters_are(__LINE__, vrbolist_letters(two, VRBOLIST_IMAGE_LIMIT), 0, 0, 1);
+    write_is(__LINE__, vrbolist_move_to_1(two, VRBOLIST_IMAGE_LIMIT, back, LONG), 0, 0, len);
+    CHECK(memcmp(one, back, len) == 0 && filled(back + len, LONG - len));
+    length[15]++;
+    memset(two, FILL, LONG);
+    WRITE_ONE(len - 8 * 16 - 11, len + 1);
+    write_is(__LINE__, vrbolist_move_to_2(one, len + 1, two, LONG), VRBOLIST_LIMIT, 0, 0);
+    write_is(__LINE__, vrbolist_move_to_2(one, len + 1, two, 0), VRBOLIST_LIMIT, 0, 0);
+    CHECK(filled(two, LONG));
+}
+
+static const uint8_t no_letters[] = {0, 0, 0, 0, 0, 0}, true_letters[] = {'U', 'T', 'U', 'T', 'U', 'T'};
+
 /* Writes the image of anchor, signer and CRL, with every refusal on the way, and gives a lent copy of it. */
-static struct item three(struct item anchor, struct item signer, struct item crl) {
+static struct item three(struct item anchor, struct item signer, struct item crl, uint64_t version) {
     static uint8_t packed[3 * VRBOLIST_ITEM_LIMIT];
     static const uint8_t kind[] = {1, 3, 4}, flag[] = {1, 0, 0}, kind_wrong[] = {1, 3, 5}, flag_wrong[] = {1, 1, 0};
     const uint8_t *items, *kinds = lend(kind, 3), *flags = lend(flag, 3), *kinds_wrong = lend(kind_wrong, 3),
-                          *flags_wrong = lend(flag_wrong, 3);
+                          *flags_wrong = lend(flag_wrong, 3), *letters = lend(version == 2 ? true_letters : no_letters, 6);
     const uint32_t *lengths, *lengths_wrong;
     uint32_t length[3], length_wrong[3];
-    size_t items_len = anchor.len + signer.len + crl.len, image_len = items_len + 3 * 8 + 12, room = image_len + 50;
+    size_t items_len = anchor.len + signer.len + crl.len, image_len = items_len + 3 * (version == 2 ? 12 : 8) + 12,
+           room = image_len + 50;
     uint8_t *out = output(room);
     struct item image;
     memcpy(packed, anchor.at, anchor.len);
@@ -503,45 +588,99 @@ static struct item three(struct item anchor, struct item signer, struct item crl
     length_wrong[2] += 65536;
     lengths_wrong = (const uint32_t *)(const void *)lend(length_wrong, sizeof length_wrong);
 
-#define WRITE(items_n, kinds, kinds_n, flags, flags_n, lengths, lengths_n, day, room, number, length) \
-    write_is(__LINE__, vrbolist_write(items, items_n, kinds, kinds_n, flags, flags_n, lengths, lengths_n, day, out, room), \
+#define WRITE(items_n, kinds, kinds_n, flags, flags_n, lengths, lengths_n, letters_n, day, room, number, length) \
+    write_is(__LINE__, \
+             vrbolist_write(items, items_n, kinds, kinds_n, flags, flags_n, lengths, lengths_n, letters, letters_n, version, day, \
+                            out, room), \
              number, 0, length)
-    WRITE(items_len, kinds_wrong, 3, flags, 3, lengths, 3, DAY, room, VRBOLIST_ARGUMENT, 0);
-    WRITE(items_len, kinds, 3, flags_wrong, 3, lengths, 3, DAY, room, VRBOLIST_ARGUMENT, 0);
-    WRITE(items_len, kinds, 3, flags, 3, lengths_wrong, 3, DAY, room, VRBOLIST_ARGUMENT, 0);
-    WRITE(items_len, kinds, 3, flags, 3, lengths, 3, 20260229, room, VRBOLIST_ARGUMENT, 0);
-    WRITE(items_len, kinds, 3, flags, 3, lengths, 3, UINT64_MAX, room, VRBOLIST_ARGUMENT, 0);
-    WRITE(items_len, kinds, 2, flags, 3, lengths, 3, DAY, room, VRBOLIST_ARGUMENT, 0);
-    WRITE(items_len, kinds, 3, flags, 2, lengths, 3, DAY, room, VRBOLIST_ARGUMENT, 0);
-    WRITE(items_len, kinds, 3, flags, 3, lengths, 2, DAY, room, VRBOLIST_ARGUMENT, 0);
-    WRITE(items_len - 1, kinds, 3, flags, 3, lengths, 3, DAY, room, VRBOLIST_ARGUMENT, 0);
-    WRITE(items_len, kinds, 3, flags, 3, lengths, 3, DAY, image_len - 1, VRBOLIST_SHORT, 0);
-    WRITE(items_len, kinds, 3, flags, 3, lengths, 3, DAY, 0, VRBOLIST_SHORT, 0);
+    WRITE(items_len, kinds_wrong, 3, flags, 3, lengths, 3, 6, DAY, room, VRBOLIST_ARGUMENT, 0);
+    WRITE(items_len, kinds, 3, flags_wrong, 3, lengths, 3, 6, DAY, room, VRBOLIST_ARGUMENT, 0);
+    WRITE(items_len, kinds, 3, flags, 3, lengths_wrong, 3, 6, DAY, room, VRBOLIST_ARGUMENT, 0);
+    WRITE(items_len, kinds, 3, flags, 3, lengths, 3, 6, 20260229, room, VRBOLIST_ARGUMENT, 0);
+    WRITE(items_len, kinds, 3, flags, 3, lengths, 3, 6, UINT64_MAX, room, VRBOLIST_ARGUMENT, 0);
+    WRITE(items_len, kinds, 2, flags, 3, lengths, 3, 6, DAY, room, VRBOLIST_ARGUMENT, 0);
+    WRITE(items_len, kinds, 3, flags, 2, lengths, 3, 6, DAY, room, VRBOLIST_ARGUMENT, 0);
+    WRITE(items_len, kinds, 3, flags, 3, lengths, 2, 6, DAY, room, VRBOLIST_ARGUMENT, 0);
+    WRITE(items_len, kinds, 3, flags, 3, lengths, 3, 5, DAY, room, VRBOLIST_ARGUMENT, 0);
+    WRITE(items_len, kinds, 3, flags, 3, lengths, 3, 3, DAY, room, VRBOLIST_ARGUMENT, 0);
+    WRITE(items_len, kinds, 3, flags, 3, lengths, 3, 0, DAY, room, VRBOLIST_ARGUMENT, 0);
+    WRITE(items_len - 1, kinds, 3, flags, 3, lengths, 3, 6, DAY, room, VRBOLIST_ARGUMENT, 0);
+    WRITE(items_len, kinds, 3, flags, 3, lengths, 3, 6, DAY, image_len - 1, VRBOLIST_SHORT, 0);
+    WRITE(items_len, kinds, 3, flags, 3, lengths, 3, 6, DAY, 0, VRBOLIST_SHORT, 0);
     CHECK(filled(out, room));
-    WRITE(items_len, kinds, 3, flags, 3, lengths, 3, DAY, room, 0, image_len);
+    if (version == 1) {
+        write_is(__LINE__,
+                 vrbolist_write(items, items_len, kinds, 3, flags, 3, lengths, 3, lend(true_letters, 6), 6, 1, DAY, out, room),
+                 VRBOLIST_ARGUMENT, 0, 0);
+        CHECK(filled(out, room));
+    }
+    WRITE(items_len, kinds, 3, flags, 3, lengths, 3, 6, DAY, room, 0, image_len);
     CHECK(memcmp(out, packed, items_len) == 0);
     CHECK(filled(out + image_len, room - image_len));
     memset(out, FILL, room);
     /* The image fills the output to its last byte. */
     out += room - image_len;
-    WRITE(items_len, kinds, 3, flags, 3, lengths, 3, DAY, image_len, 0, image_len);
+    WRITE(items_len, kinds, 3, flags, 3, lengths, 3, 6, DAY, image_len, 0, image_len);
     image.at = lend(out, image_len);
     image.len = image_len;
     return image;
 }
 
-static void entries(struct item image, struct item anchor, struct item signer, struct item crl) {
-    image_is(__LINE__, vrbolist_image(image.at, image.len), 0, 0, 3, DAY);
-    image_is(__LINE__, vrbolist_image_for_day(image.at, image.len, DAY), 0, 0, 3, DAY);
-    image_is(__LINE__, vrbolist_image_for_day(image.at, image.len, DAY + 1), VRBOLIST_DAY, 0, 0, 0);
-    image_is(__LINE__, vrbolist_image(image.at, image.len - 1), VRBOLIST_IMAGE, 2, 0, 0);
-    image_is(__LINE__, vrbolist_image(image.at + 1, image.len - 1), VRBOLIST_IMAGE, 5, 0, 0);
-    entry_is(__LINE__, vrbolist_entry(image.at, image.len, 0), VRBOLIST_KIND_ANCHOR, 1, anchor.len, 0);
-    entry_is(__LINE__, vrbolist_entry(image.at, image.len, 1), VRBOLIST_KIND_SIGNER, 0, signer.len, anchor.len);
-    entry_is(__LINE__, vrbolist_entry(image.at, image.len, 2), VRBOLIST_KIND_CRL, 0, crl.len, anchor.len + signer.len);
+static void entries(struct item image, struct item anchor, struct item signer, struct item crl, uint64_t version) {
+    const uint8_t *letters = version == 2 ? true_letters : no_letters;
+    image_is(__LINE__, vrbolist_image(image.at, image.len), 3, DAY, version);
+    image_is(__LINE__, vrbolist_image_for_day(image.at, image.len, DAY), 3, DAY, version);
+    image_refused(__LINE__, vrbolist_image_for_day(image.at, image.len, DAY + 1), VRBOLIST_DAY, 0);
+    image_refused(__LINE__, vrbolist_image(image.at, image.len - 1), VRBOLIST_IMAGE, 2);
+    image_refused(__LINE__, vrbolist_image(image.at + 1, image.len - 1), VRBOLIST_IMAGE, 5);
+    entry_is(__LINE__, vrbolist_entry(image.at, image.len, 0), VRBOLIST_KIND_ANCHOR, 1, anchor.len, 0, letters);
+    entry_is(__LINE__, vrbolist_entry(image.at, image.len, 1), VRBOLIST_KIND_SIGNER, 0, signer.len, anchor.len, letters);
+    entry_is(__LINE__, vrbolist_entry(image.at, image.len, 2), VRBOLIST_KIND_CRL, 0, crl.len, anchor.len + signer.len, letters);
     entry_refused(__LINE__, vrbolist_entry(image.at, image.len, 3), VRBOLIST_ARGUMENT, 0);
     entry_refused(__LINE__, vrbolist_entry(image.at, image.len, UINT64_MAX), VRBOLIST_ARGUMENT, 0);
     entry_refused(__LINE__, vrbolist_entry(image.at + 1, image.len - 1, 3), VRBOLIST_IMAGE, 5);
+}
+
+/* Moves. */
+
+/* The move of an image to the other version writes these bytes and no more, and needs room for all of them. */
+static void moved(int line, vrbolist_write_answer (*move)(const uint8_t *, size_t, uint8_t *, size_t), struct item from,
+                  struct item to) {
+    uint8_t *out = output(to.len + 9), *exact = output(to.len);
+    write_is(line, move(from.at, from.len, out, to.len - 1), VRBOLIST_SHORT, 0, 0);
+    write_is(line, move(from.at, from.len, out, 0), VRBOLIST_SHORT, 0, 0);
+    write_is(line, move(to.at, to.len, out, to.len + 9), VRBOLIST_IMAGE, 2, 0);
+    write_is(line, move(from.at + 1, from.len - 1, out, to.len + 9), VRBOLIST_IMAGE, 5, 0);
+    check(line, "kept", filled(out, to.len + 9), 1);
+    write_is(line, move(from.at, from.len, out, to.len + 9), 0, 0, to.len);
+    check(line, "moved", memcmp(out, to.at, to.len) == 0 && filled(out + to.len, 9), 1);
+    write_is(line, move(from.at, from.len, exact, to.len), 0, 0, to.len);
+    check(line, "moved", memcmp(exact, to.at, to.len) == 0, 1);
+}
+
+static void moves(struct item one, struct item two) {
+    uint8_t *changed = output(two.len);
+    size_t place, at;
+    moved(__LINE__, vrbolist_move_to_2, one, two);
+    moved(__LINE__, vrbolist_move_to_1, two, one);
+    letters_are(__LINE__, vrbolist_letters(two.at, two.len), 0, 0, 1);
+    letters_are(__LINE__, vrbolist_letters(one.at, one.len), VRBOLIST_IMAGE, 2, 0);
+    letters_are(__LINE__, vrbolist_letters(two.at + 1, two.len - 1), VRBOLIST_IMAGE, 5, 0);
+    for (place = 0; place < 3; place++) {
+        for (at = 8; at < 12; at++) {
+            size_t octet = two.len - 12 - 12 * (3 - place) + at;
+            memcpy(changed, two.at, two.len);
+            changed[octet] ^= 1;
+            /* A letter is free, and false; behind the letters stand zeros. */
+            if (at < 10) {
+                image_is(__LINE__, vrbolist_image(changed, two.len), 3, DAY, 2);
+                letters_are(__LINE__, vrbolist_letters(changed, two.len), 0, 0, 0);
+            } else {
+                image_refused(__LINE__, vrbolist_image(changed, two.len), VRBOLIST_IMAGE, 6);
+                letters_are(__LINE__, vrbolist_letters(changed, two.len), VRBOLIST_IMAGE, 6, 0);
+            }
+        }
+    }
 }
 
 /* Chains. */
@@ -642,7 +781,7 @@ static void replays(void) {
 }
 
 int main(int argc, char **argv) {
-    struct item anchor, signer, crl, image;
+    struct item anchor, signer, crl, one, two;
     if (argc != 2) {
         fprintf(stderr, "usage: vrbolist_test DATA\n");
         return 2;
@@ -656,11 +795,19 @@ int main(int argc, char **argv) {
     days(crl, anchor);
     certificates(anchor, signer);
     crls(crl, anchor);
-    small_images();
-    long_image();
-    image = three(anchor, signer, crl);
-    entries(image, anchor, signer, crl);
-    chains(image);
+    small_image(1);
+    small_image(2);
+    no_images();
+    long_image(1, 8);
+    long_image(2, 12);
+    long_move();
+    one = three(anchor, signer, crl, 1);
+    two = three(anchor, signer, crl, 2);
+    entries(one, anchor, signer, crl, 1);
+    entries(two, anchor, signer, crl, 2);
+    moves(one, two);
+    chains(one);
+    chains(two);
     replays();
     CHECK(all_kept());
     printf("%lu passed, %lu failed\n", passed, failed);

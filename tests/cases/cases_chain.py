@@ -318,7 +318,7 @@ def refusals():
     good = table(5, DIAMOND)
     bad, body = changed(FIVE, 4, kind=5), b''.join(item.octets for item in FIVE)
     for label, one, rule in (
-            ('no octets', b'', 1), ('version 2', image(FIVE, version=2), 2),
+            ('no octets', b'', 1), ('version 3', image(FIVE, version=3), 2),
             ('97 entries', image(items(97, SIGNER)), 3),
             ('day 20240230', image(FIVE, day=20240230), 4), ('index start 0', image(FIVE, start=0), 5),
             ('kind 5', image(FIVE, bad), 6), ('an octet more', image(FIVE, body=body + b'\0'), 7)):
@@ -406,6 +406,17 @@ def several_lists():
                    [pair for pair in every if pair != (0, 2 + which)], [0, 1])
 
 
+def versions():
+    """An image of version 2 gives the same chains, whatever its letters are."""
+    for label, letters in (('true letters', b'UT'), ('no letters', b'\0\0'), ('letters of another country', b'XO')):
+        one = image([item._replace(letters=letters) for item in FIVE], version=2)
+        for more, pairs, stated in (('by two links', DIAMOND, [0, 1, 3]), ('from anchor to signer', DIAMOND + [(0, 3)], [0, 3]),
+                                    ('without verdict 0-1', DIAMOND[1:], [0, 2, 3]), ('no CRL', DIAMOND[:-1], NONE)):
+            yield asked('version 2, %s, %s' % (label, more), one, table(5, pairs), stated, target=3)
+    for label, one in (('version 1', image(FIVE, version=2, form=1)), ('version 2', image(FIVE, form=2))):
+        yield asked('an index of %s under the other' % label, one, table(5, DIAMOND), Refused(5, 5), target=3)
+
+
 def made():
     """The set of tests/data/made, each row of its table of chains."""
     def lines(file):
@@ -425,5 +436,5 @@ def made():
 
 def cases():
     for part in (paper, ties, odd_steps, long, anchors, covered, listing, matching, passing, seconds, moments, targets,
-                 tables, refusals, two_countries, renamed, other_countries, several_lists, made):
+                 tables, refusals, two_countries, renamed, other_countries, several_lists, versions, made):
         yield from part()

@@ -20,6 +20,7 @@ import cases_days
 import cases_der
 import cases_image
 import cases_integer
+import cases_letters
 import cases_limits
 import cases_listed
 import cases_member
@@ -31,7 +32,7 @@ from record import CERTIFICATE, CRL, IMAGE, NO_KIND, ROOM, WALK, Case, head
 
 PARTS = (cases_der, cases_contents, cases_limits, cases_order, cases_integer, cases_member, cases_days, cases_certificate,
          cases_certificate_shape, cases_certificate_parts, cases_certificate_extensions, cases_crl, cases_listed,
-         cases_image, cases_write, cases_chain, cases_tray)
+         cases_image, cases_write, cases_letters, cases_chain, cases_tray)
 FOLDER = pathlib.Path(__file__).resolve().parents[2] / 'crates' / 'cases'
 
 
@@ -42,9 +43,9 @@ def cases():
     double = sorted({label for label in labels if labels.count(label) > 1})
     if double:
         sys.exit('two cases have the label: ' + ', '.join(double))
-    for kind, rules in ((CERTIFICATE, 14), (CRL, 8), (IMAGE, 7)):
+    for kind, rules, form in ((CERTIFICATE, 14, None), (CRL, 8, None), (IMAGE, 7, 1), (IMAGE, 7, 2)):
         for rule in range(1, rules + 1):
-            if sum(case.kind == kind and case.broken == (rule,) for case in found) < 2:
+            if sum(case.kind == kind and case.form == form and case.broken == (rule,) for case in found) < 2:
                 sys.exit('kind %d: fewer than two cases break rule %d alone' % (kind, rule))
     for kind, rules in ((CERTIFICATE, 14), (CRL, 8)):
         for fault in mended.faults(found, kind, rules):

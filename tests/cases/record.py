@@ -8,6 +8,7 @@ import struct
 WALK, INTEGER, REAL_DAY, REAL_MOMENT, DIFFERENCE, MEMBER = range(1, 7)
 CERTIFICATE, CRL, LISTED, AGE = range(7, 11)
 IMAGE, IMAGE_FOR, ENTRY, ITEM, WRITE, WRITE_FILLED, CHAIN, REPLAY = range(11, 19)
+MOVE_TO_2, MOVE_TO_1, LETTERS = range(21, 24)
 NO_KIND = 255
 
 # the octets that the program has room for, label and bytes together
@@ -29,6 +30,8 @@ class Case:
         self.mended = None
         # the rules that the item broke before it was mended
         self.mends = ()
+        # the version of an image whose rules are read
+        self.form = None
 
     def record(self):
         label = self.label.encode('ascii')

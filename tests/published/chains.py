@@ -15,6 +15,7 @@ sys.path.insert(0, str(pathlib.Path(__file__).resolve().parents[1] / 'cases'))
 
 import oracle_chain
 import oracle_image
+import oracle_letters
 from made import images, octets, rows, store
 
 FIXED = 20261115120000
@@ -30,9 +31,11 @@ def items_of(places):
     return items
 
 
-def image_of(items, day):
+def images_of(items, day):
+    """The image in both versions."""
     kinds, flags, contents = zip(*items)
-    return oracle_image.written(b''.join(contents), kinds, flags, [len(item) for item in contents], day)
+    one = oracle_image.written(b''.join(contents), kinds, flags, [len(item) for item in contents], bytes(2 * len(kinds)), 1, day)
+    return one, oracle_letters.moved(one, 2)
 
 
 def table():
@@ -41,12 +44,12 @@ def table():
     for name, places in images().items():
         items = items_of(places)
         pairs = bytes(int(digit) for image, _, row in verdicts if image == name for digit in row)
-        image = image_of(items, places[0].day)
+        written = images_of(items, places[0].day)
         for moment in MOMENTS:
             for place in places:
                 if place.kind == oracle_chain.SIGNER:
                     answer = oracle_chain.chain(items, pairs, moment, place.place)
-                    assert answer == oracle_chain.chain_of_image(image, pairs, moment, place.place)
+                    assert all(answer == oracle_chain.chain_of_image(image, pairs, moment, place.place) for image in written)
                     number, detail, length, chain = answer
                     yield '%s\t%d\t%d\t%d\t%d\t%d\t%s\n' % (
                         name, moment, place.place, number, detail, length, ','.join(map(str, chain)) or '-')

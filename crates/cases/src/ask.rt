@@ -8,6 +8,7 @@ use crate::lists;
 use crate::record::Question;
 use crate::say;
 use crate::trays;
+use crate::versions;
 use crate::writing;
 
 pub(crate) fn answer(question: Question, bytes: &[u8]) {
@@ -34,6 +35,9 @@ pub(crate) fn answer(question: Question, bytes: &[u8]) {
         16 => writing::write_filled(bytes, first, second, third),
         17 => chains::best(bytes, first, second, third),
         18 => trays::replay(bytes, first),
+        21 => versions::to_2(bytes, first),
+        22 => versions::to_1(bytes, first),
+        23 => versions::check(bytes),
         _ => say::text(b"no such question"),
     }
 }

@@ -15,11 +15,17 @@ pub(crate) fn open_for(image: &[u8], wanted: u64) {
 
 fn tell(answer: Opened) {
     match answer {
-        Opened::Image { entries, day } => {
+        Opened::Image {
+            entries,
+            day,
+            version,
+        } => {
             say::text(b"passed, ");
             say::number(entries as u64);
             say::text(b" entries, day ");
             say::number(day);
+            say::text(b", version ");
+            say::number(version as u64);
         }
         Opened::Refused(refusal) => say::refused(refusal),
     }
@@ -41,6 +47,10 @@ fn tell_entry(found: IndexEntry) {
     say::number(found.length as u64);
     say::text(b", offset ");
     say::number(found.offset as u64);
+    say::text(b", letters ");
+    say::number(found.first as u64);
+    say::text(b" ");
+    say::number(found.second as u64);
 }
 
 // The number of an item's octets, and their checksum.

@@ -10,6 +10,7 @@ mod record;
 mod say;
 mod sums;
 mod trays;
+mod versions;
 mod writing;
 
 use libc::STDIN_FILENO;

@@ -22,7 +22,7 @@ use Rattle.chain.specs.declared.asking.Asked.the-variants as asked
 use Rattle.chain.specs.declared.Answer.{Answer}
 use Rattle.chain.specs.Answer.{onImage, askedOf, goodChains, Shows, nothing, something, Answered, none, found}
 use Rattle.usable.specs.Table.{tableGood}
-use Rattle.chain.proofs.ImageOpened.{opened-image}
+use Rattle.image.proofs.Few.{opened-image}
 
 not-over : {why : Refusal} {n : ℕ} → _≡_ {A = Asked} (asked.Refused why) (asked.Over n) → ⊥
 not-over e = let z : _≡_ {A = ℕ} 0 1 = cc in omega arith
@@ -51,9 +51,9 @@ module _ (s table : List ℕ) (moment target : ℕ) where
     where
       go : (o : Opened) → openedOf s ≡ o → onImage s table moment target o ≡ asked.Over n → (n ≡ entryCount s) × (n ≤ 96) × (target < n) × (entryIn s target .kind ≡ 3)
       go (opened.Refused why) e f = absurd (not-over f)
-      go (opened.Image m day) e f =
+      go (opened.Image m day version) e f =
           let both = all-four (tableGood m table) (realMoment 1950 2099 moment) (ltb target m) (eqb (entryIn s target .kind) 3) f in
-          let o = opened-image s m day e in
+          let o = opened-image 1 2 s m day version e in
           let below = ltb-true target m (both .1) in
           (sym (both .0) ∙ o .0, omega (arith, o .1, both .0), omega (arith, both .0), eqb-true _ _ (both .2))
 

@@ -29,7 +29,7 @@ use Rattle.usable.specs.Table.{verdictIn}
 use Rattle.usable.specs.Usable.{valid, usableAnchor, usable}
 use Rattle.chain.proofs.Answering.{asked-over}
 use Rattle.usable.proofs.Booleans.{false-true, first, second}
-use Rattle.chain.proofs.PlacesMean.{length-items}
+use Rattle.image.proofs.Places.{length-items}
 
 module _ (items : List Item) (moment u : ℕ) where
   anchor-kind : usableAnchor items moment u ≡ true → itemAt items u .kind ≡ 1

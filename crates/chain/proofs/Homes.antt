@@ -32,7 +32,7 @@ home a b items p = homeOf a b (itemAt items p)
 -- what is asked is the kind and the octets
 pub home-same :
     (a b : ℕ) (item : Item) (kind : ℕ) (bytes : List ℕ) → item .kind ≡ kind → item .bytes ≡ bytes
-    → homeOf a b (record { kind = kind; flags = item .flags; bytes = bytes }) ≡ homeOf a b item
+    → homeOf a b (record { kind = kind; flags = item .flags; bytes = bytes; first = item .first; second = item .second }) ≡ homeOf a b item
 unfolding homeOf countryOf
 home-same a b item kind bytes e f = rw (e, f)
 

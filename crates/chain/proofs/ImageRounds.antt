@@ -15,7 +15,8 @@ use Rattle.chain.specs.Answer.{goodChains}
 use Rattle.chain.specs.Near.{firstOf, Wider}
 use Rattle.chain.specs.Rounds.{startsIn, Opens, Searched, Direct}
 use Rattle.chain.proofs.Meaning.{goodOf}
-use Rattle.chain.proofs.PlacesMean.{length-items, item-told, image-placed}
+use Rattle.image.proofs.Places.{length-items}
+use Rattle.chain.proofs.PlacesMean.{item-told, image-placed}
 use Rattle.chain.proofs.RoundsHold as rounds
 use Rattle.chain.proofs.FirstRound as firsts
 use Rattle.chain.proofs.NextRound as nexts

@@ -5,7 +5,6 @@ pub mod Transfer
 pub mod Layers
 pub mod Cells
 pub mod Bits
-pub mod ImageOpened
 pub mod NearRows
 pub mod Meaning
 pub mod RoundsHold

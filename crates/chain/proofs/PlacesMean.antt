@@ -1,29 +1,19 @@
 -- The item of a place is what its index entry tells, since the item list is made entry by entry; and it is held where a row of it says.
-use Prim.Native.Nat.{ℕ, zero, suc, _+_, _<_}
+use Prim.Native.Nat.{ℕ, zero, suc, _<_}
 use mathlib.Core.Path.{_≡_, refl, ap, _∙_}
 use mathlib.Core.List.{List, [], _∷_}
 use lib.ListN.{length, take, drop}
 use Rattle.image.specs.declared.IndexEntry.{IndexEntry}
 use Rattle.image.specs.Index as image
-use Rattle.image.specs.Index.{entryIn, itemsFrom, itemsIn, indexStart, entryCount, versionIn, width}
-use Rattle.image.proofs.Places.{item-from}
+use Rattle.image.specs.Index.{entryIn, itemsIn, indexStart, entryCount, versionIn}
+use Rattle.image.proofs.Places.{item-from, length-items}
 use Rattle.usable.specs.declared.opened.Row.{Row}
 use Rattle.usable.specs.Items.{itemAt}
 use Rattle.usable.specs.Rows.{heldIn, rowOf}
 use Rattle.usable.proofs.Scope.{Placed}
 use Rattle.chain.specs.Rounds.{startsIn}
 
-length-from : (wide : ℕ) (s : List ℕ) (at left : ℕ) → length (itemsFrom wide s at left) ≡ left
-unfolding itemsFrom
-length-from wide s at zero = refl
-length-from wide s at (suc left) = ap suc (length-from wide s (at + wide) left)
-
--- there are as many items as entries
-pub length-items : (s : List ℕ) → length (itemsIn s) ≡ entryCount s
-unfolding itemsIn
-length-items s = length-from (width (versionIn s)) s (indexStart s) (entryCount s)
-
--- kind, flags and octets of a place are those that its entry tells
+-- kind, flags, octets and letters of a place are those that its entry tells
 pub item-told :
     (s : List ℕ) (place : ℕ) → place < entryCount s
     → itemAt (itemsIn s) place
@@ -31,9 +21,11 @@ pub item-told :
       kind = entryIn s place .kind;
       flags = entryIn s place .flags;
       bytes = take (entryIn s place .length) (drop (entryIn s place .offset) s);
+      first = entryIn s place .first;
+      second = entryIn s place .second;
     }
 unfolding itemAt itemsIn entryIn image.itemAt
-item-told s place h = item-from (width (versionIn s)) s (entryCount s) (indexStart s) place _ h
+item-told s place h = item-from (versionIn s) s (entryCount s) (indexStart s) place _ h
 
 -- as many octets as were taken
 take-again : (k : ℕ) (x : List ℕ) → take (length (take k x)) x ≡ take k x
@@ -56,7 +48,8 @@ module _ (s : List ℕ) (place : ℕ) (h : place < entryCount s) {e : IndexEntry
   bytes-read = rw (item-told s place h, part, is)
 
   pub row-read :
-      (moment : ℕ) {row : Row} → row ≡ rowOf moment (record { kind = e .kind; flags = e .flags; bytes = bytes }) (e .offset)
+      (moment : ℕ) {row : Row}
+      → ((a b : ℕ) → row ≡ rowOf moment (record { kind = e .kind; flags = e .flags; bytes = bytes; first = a; second = b }) (e .offset))
       → row ≡ rowOf moment (itemAt (itemsIn s) place) (startsIn s place)
   unfolding startsIn
-  row-read moment r = rw (item-told s place h) (rw (part, is) at r)
+  row-read moment r = rw (item-told s place h) (rw (part, is) at (r (e .first) (e .second)))

@@ -19,9 +19,9 @@ use Rattle.graph.proofs.Theorems as graph
 use Rattle.image.specs.declared.Opened.{Opened}
 use Rattle.image.specs.declared.Opened.the-variants as opened
 use Rattle.image.specs.Items.{Item}
-use Rattle.image.specs.Index.{entryCount, dayIn, entryIn}
+use Rattle.image.specs.Index.{entryCount, versionIn, dayIn, entryIn}
 use Rattle.image.specs.Rules.{rules}
-use Rattle.image.specs.Answer.{graded, openedOf}
+use Rattle.image.specs.Answer.{graded, openedWithin, openedOf}
 use Rattle.chain.specs.declared.asking.Asked.the-variants as asked
 use Rattle.chain.specs.declared.Answer.{Answer}
 use Rattle.chain.specs.declared.Outcome.the-variants.{Shown, Refused}
@@ -122,12 +122,12 @@ abbrev pub FiveOrOne : Refusal → Type 0
 FiveOrOne why = ((k : ℕ) × (why ≡ refusal.Image k)) ⊎ (why ≡ refusal.Argument)
 
 image-refused : (s : List ℕ) (why : Refusal) → openedOf s ≡ opened.Refused why → FiveOrOne why
-unfolding openedOf graded
-image-refused s why e = go (firstBroken 1 (rules s)) (eqb (firstBroken 1 (rules s)) 0) e
+unfolding openedWithin graded
+image-refused s why e = go (firstBroken 1 (rules 1 2 s)) (eqb (firstBroken 1 (rules 1 2 s)) 0) e
   where
     go :
         (rule : ℕ) (b : Bool)
-        → cond b (opened.Image (entryCount s) (dayIn s)) (opened.Refused (refusal.Image rule)) ≡ opened.Refused why → FiveOrOne why
+        → cond b (opened.Image (entryCount s) (dayIn s) (versionIn s)) (opened.Refused (refusal.Image rule)) ≡ opened.Refused why → FiveOrOne why
     go rule true f = absurd (let z : _≡_ {A = ℕ} 0 1 = cc in omega arith)
     go rule false f = inl (rule, cc)
 
@@ -150,7 +150,7 @@ module _ (s table : List ℕ) (moment target : ℕ) where
     where
       go : (o : Opened) → openedOf s ≡ o → onImage s table moment target o ≡ asked.Refused why → FiveOrOne why
       go (opened.Refused w) h f = image-refused s why (h ∙ (cc))
-      go (opened.Image n day) h f =
+      go (opened.Image n day version) h f =
           tests-refused (tableGood n table) (realMoment 1950 2099 moment) (ltb target n) (eqb (entryIn s target .kind) 3) n why f
 
   question-not-7 : askedOf s table moment target ≡ asked.Refused refusal.Chain → ⊥

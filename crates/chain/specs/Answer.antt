@@ -25,7 +25,7 @@ use Rattle.usable.specs.Table.{verdictIn, tableGood}
 -- question order: image (5), table, moment, target place exists and is kind 3 (all 1)
 unfoldable pub onImage : List ℕ → List ℕ → ℕ → ℕ → Opened → Asked
 onImage s table moment target (opened.Refused refusal) = asked.Refused refusal
-onImage s table moment target (opened.Image n day) =
+onImage s table moment target (opened.Image n day version) =
     cond (tableGood n table)
     (cond (realMoment 1950 2099 moment)
     (cond (ltb target n) (cond (eqb (entryIn s target .kind) 3) (asked.Over n) (asked.Refused refusal.Argument))

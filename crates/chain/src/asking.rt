@@ -23,7 +23,11 @@ pub(crate) fn question(image: &[u8], table: &[u8], moment: u64, target: u64) -> 
         Opened::Refused(refusal) => {
             return Asked::Refused(refusal);
         }
-        Opened::Image { entries, day: _ } => entries,
+        Opened::Image {
+            entries,
+            day: _,
+            version: _,
+        } => entries,
     };
     if !table_good(entries, table) {
         return Asked::Refused(Refusal::Argument);

@@ -1,14 +1,16 @@
 -- A field octet by octet: each octet that is there adds itself to 256 times those before it, and beyond the end there is none.
 use Prim.Native.Nat.{ℕ, suc, _+_, _*_, _-_, _<_, _≤_}
-use mathlib.Core.Path.{_≡_, refl, ap, _∙_}
+use mathlib.Core.Path.{_≡_, refl, ap, sym, _∙_}
+use mathlib.Core.Bool.{Bool, true, false, cond}
 use mathlib.Core.List.{List}
 use native.Mathlib.Nat.{add-assoc}
 use native.Mathlib.Omega.{arith}
+use lib.Dec.{eqb}
 use lib.ListN.{length, getD, drop, length-drop, drop-of-length-le}
 use lib.Seq.{getD-drop, take-nil}
 use Rattle.octets.specs.Octets.{number}
 use Rattle.octets.proofs.Weights.{number-next}
-use Rattle.image.specs.Index.{field, entryAt}
+use Rattle.image.specs.Index.{field, letterAt, entryAt}
 
 pub field-next :
     (s : List ℕ) (at k : ℕ) → at + k < length s → field s at (suc k) ≡ field s at k * 256 + getD s (at + k) 0
@@ -45,13 +47,25 @@ pub field-past : (s : List ℕ) (at k : ℕ) → length s ≤ at → field s at 
 unfolding field number
 field-past s at k h = rw (drop-of-length-le s, take-nil)
 
+-- nothing, whether it was asked for or not
+none : (b : Bool) {n : ℕ} → n ≡ 0 → 0 ≡ cond b n 0
+none true e = sym e
+none false e = refl
+
+pub letter-past : (version : ℕ) (s : List ℕ) (at : ℕ) → length s ≤ at → 0 ≡ letterAt version s at
+unfolding letterAt
+letter-past version s at h = none (eqb version 2) (field-past s at 1 h)
+
 pub entry-past :
-    (s : List ℕ) (at : ℕ) → length s ≤ at → record { kind = 0; flags = 0; length = 0; offset = 0 } ≡ entryAt s at
+    (version : ℕ) (s : List ℕ) (at : ℕ) → length s ≤ at
+    → record { kind = 0; flags = 0; length = 0; offset = 0; first = 0; second = 0 } ≡ entryAt version s at
 unfolding entryAt
-entry-past s at h =
+entry-past version s at h =
     rw (
       field-past s at 1 h,
       field-past s (at + 1) 1 (omega arith),
       field-past s (at + 2) 2 (omega arith),
       field-past s (at + 4) 4 (omega arith),
+      ← letter-past version s (at + 8) (omega arith),
+      ← letter-past version s (at + 9) (omega arith),
     )

@@ -1,4 +1,5 @@
 pub mod Widths
 pub mod Fields
 pub mod Opening
+pub mod Few
 pub mod Places

@@ -8,15 +8,15 @@ use Rattle.calendar.specs.Days.{realDay}
 use Rattle.image.specs.declared.IndexEntry.{IndexEntry}
 use Rattle.image.specs.declared.Total.{Total}
 use Rattle.image.specs.declared.Total.the-variants.{Sum, Unfit}
-use Rattle.image.specs.Index.{indexStart, entryCount, versionIn, dayIn, width, entryAt}
+use Rattle.image.specs.Index.{field, indexStart, entryCount, versionIn, dayIn, width, entryAt}
 
 -- 1: 12 to 262,144 bytes
 unfoldable pub rule1 : List ℕ → Bool
 rule1 s = leb 12 (length s) && leb (length s) 262144
 
--- 2: version 1
-unfoldable pub rule2 : List ℕ → Bool
-rule2 s = eqb (versionIn s) 1
+-- 2: the version is one that is read; for reading these are 1 to 2, a move or a check reads one of them alone
+unfoldable pub rule2 : ℕ → ℕ → List ℕ → Bool
+rule2 least most s = leb least (versionIn s) && leb (versionIn s) most
 
 -- 3: at most 96 entries
 unfoldable pub rule3 : List ℕ → Bool
@@ -39,14 +39,20 @@ fieldsGood kind flags size =
 unfoldable pub entryGood : IndexEntry → ℕ → Bool
 entryGood e sum = fieldsGood (e .kind) (e .flags) (e .length) && eqb (e .offset) sum
 
+-- the two octets behind the letters are zeros
+unfoldable pub padded : ℕ → List ℕ → ℕ → Bool
+padded version s at = cond (eqb version 2) (eqb (field s (at + 10) 2) 0) true
+
 -- 6: each entry; the sum of all lengths where each is good
 unfoldable pub sumOf : ℕ → List ℕ → ℕ → ℕ → ℕ → Total
-sumOf wide s at zero sum = Sum sum
-sumOf wide s at (suc left) sum =
-    cond (entryGood (entryAt s at) sum) (sumOf wide s (at + wide) left (sum + entryAt s at .length)) Unfit
+sumOf version s at zero sum = Sum sum
+sumOf version s at (suc left) sum =
+    cond (entryGood (entryAt version s at) sum && padded version s at)
+    (sumOf version s (at + width version) left (sum + entryAt version s at .length))
+    Unfit
 
 unfoldable pub totalOf : List ℕ → Total
-totalOf s = sumOf (width (versionIn s)) s (indexStart s) (entryCount s) 0
+totalOf s = sumOf (versionIn s) s (indexStart s) (entryCount s) 0
 
 unfoldable pub fit : Total → Bool
 fit (Sum sum) = true
@@ -63,5 +69,5 @@ summed start Unfit = false
 unfoldable pub rule7 : List ℕ → Bool
 rule7 s = summed (indexStart s) (totalOf s)
 
-unfoldable pub rules : List ℕ → List Bool
-rules s = rule1 s ∷ rule2 s ∷ rule3 s ∷ rule4 s ∷ rule5 s ∷ rule6 s ∷ rule7 s ∷ []
+unfoldable pub rules : ℕ → ℕ → List ℕ → List Bool
+rules least most s = rule1 s ∷ rule2 least most s ∷ rule3 s ∷ rule4 s ∷ rule5 s ∷ rule6 s ∷ rule7 s ∷ []

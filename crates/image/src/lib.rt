@@ -8,25 +8,32 @@ ghost use Prim.Native.Nat.{_+_, _*_, _^_, _≤_, _<_};
 ghost use lib.Dec.{leb, eqb};
 ghost use lib.ListN.{length, take, drop};
 ghost use Rattle.octets.specs.Octets.{number};
-ghost use Rattle.image.specs.Index.{field, indexStart, versionIn, width, entryAt, entryIn};
-ghost use Rattle.image.specs.Rules.{fieldsGood, entryGood, sumOf};
-ghost use Rattle.image.specs.Answer.{openedOf, openedFor, placeOf, itemOf};
+ghost use Rattle.image.specs.Index.{field, indexStart, versionIn, width, letterAt, entryAt, entryIn};
+ghost use Rattle.image.specs.Rules.{fieldsGood, entryGood, padded, sumOf};
+ghost use Rattle.image.specs.Answer.{openedOf, openedAs, openedWithin, openedFor, placeOf, itemOf};
 
 // The octets that an index entry of every version begins with: kind, flags, length, offset.
 const LEAST: usize = 8;
 
-// The number of entries and the day of a good image.
+// The number of entries, the day and the version of a good image.
 pub enum Opened {
-    Image { entries: usize, day: u64 },
+    Image {
+        entries: usize,
+        day: u64,
+        version: usize,
+    },
     Refused(Refusal),
 }
 
-// Kind 1 anchor, 2 link, 3 document signer, 4 CRL; flags 1 for an enabled anchor; where the item stands.
+// Kind 1 anchor, 2 link, 3 document signer, 4 CRL; flags 1 for an enabled anchor; where the item stands; the letters of its
+// issuer's country, as the index tells them, zeros in version 1.
 pub struct IndexEntry {
     pub kind: usize,
     pub flags: usize,
     pub length: usize,
     pub offset: usize,
+    pub first: u8,
+    pub second: u8,
 }
 
 pub enum Place {
@@ -44,6 +51,20 @@ pub enum Total {
 pub fn open(image: &[u8]) -> Opened
     ensures { λ r. ⌜ r ≡ openedOf (now (image .entry)) ⌝ }
 {
+    open_within(image, 1, 2)
+}
+
+// The same for an image of one version: of another it is refused.
+pub fn open_as(image: &[u8], version: usize) -> Opened
+    ensures { λ r. ⌜ r ≡ openedAs version (now (image .entry)) ⌝ }
+{
+    open_within(image, version, version)
+}
+
+// The rules in their order, for versions from a least to a most.
+fn open_within(image: &[u8], least: usize, most: usize) -> Opened
+    ensures { λ r. ⌜ r ≡ openedWithin least most (now (image .entry)) ⌝ }
+{
     let n = image.len();
     if n < 12 {
         return broken(1);
@@ -52,7 +73,10 @@ pub fn open(image: &[u8]) -> Opened
         return broken(1);
     }
     let version = two(image, n - 6);
-    if version != 1 {
+    if version < least {
+        return broken(2);
+    }
+    if most < version {
         return broken(2);
     }
     let entries = two(image, n - 8);
@@ -64,17 +88,20 @@ pub fn open(image: &[u8]) -> Opened
         return broken(4);
     }
     let start = four(image, n - 12);
-    let wide = width(version);
-    if start + wide * entries + 12 != n {
+    if start + width(version) * entries + 12 != n {
         return broken(5);
     }
-    let Total::Sum(sum) = sum_entries(image, start, entries, wide) else {
+    let Total::Sum(sum) = sum_entries(version, image, start, entries) else {
         return broken(6);
     };
     if sum != start {
         return broken(7);
     }
-    Opened::Image { entries, day }
+    Opened::Image {
+        entries,
+        day,
+        version,
+    }
 }
 
 // The same for a wanted day: a stale image is refused.
@@ -86,9 +113,17 @@ pub fn open_for(image: &[u8], wanted: u64) -> Opened
     }
     match open(image) {
         Opened::Refused(refusal) => Opened::Refused(refusal),
-        Opened::Image { entries, day } => {
+        Opened::Image {
+            entries,
+            day,
+            version,
+        } => {
             if day == wanted {
-                Opened::Image { entries, day }
+                Opened::Image {
+                    entries,
+                    day,
+                    version,
+                }
             } else {
                 Opened::Refused(Refusal::Day)
             }
@@ -102,7 +137,11 @@ pub fn entry(image: &[u8], place: u64) -> Place
 {
     match open(image) {
         Opened::Refused(refusal) => Place::Refused(refusal),
-        Opened::Image { entries, day: _ } => {
+        Opened::Image {
+            entries,
+            day: _,
+            version: _,
+        } => {
             if place < entries as u64 {
                 Place::Is(entry_in(image, place as usize))
             } else {
@@ -126,7 +165,10 @@ pub fn item(image: &[u8], place: u64) -> &[u8]
 pub fn width(version: usize) -> usize
     ensures { λ r. ⌜ r ≡ width version ⌝ }
 {
-    8
+    if version == 2 {
+        return 12;
+    }
+    LEAST
 }
 
 // The entry of a place as it stands in an image's index; octets beyond the end are not there, and zeros where there is none.
@@ -140,13 +182,16 @@ pub fn entry_in(image: &[u8], place: usize) -> IndexEntry
             flags: 0,
             length: 0,
             offset: 0,
+            first: 0,
+            second: 0,
         };
     }
+    let version = version_in(image);
     let at = entry_start(image, place);
-    if n < at + LEAST {
-        return entry_cut(image, at);
+    if n < at + width(version) {
+        return entry_cut(version, image, at);
     }
-    entry_at(image, at)
+    entry_at(version, image, at)
 }
 
 // The kind in the entry of a place.
@@ -167,7 +212,7 @@ pub fn kind_in(image: &[u8], place: usize) -> usize
 // Where the entry of a place starts, if so many of the least entries have room in the image: no sum wraps.
 fn entry_start(image: &[u8], place: usize) -> usize
     requires { ⌜ 8 * place ≤ length (now image) ⌝ }
-    ensures { λ r. ⌜ (r ≡ indexStart (now (image .entry)) + width (versionIn (now (image .entry))) * place) × (r + 8 < 2 ^ 64) ⌝ }
+    ensures { λ r. ⌜ (r ≡ indexStart (now (image .entry)) + width (versionIn (now (image .entry))) * place) × (r + 12 < 2 ^ 64) ⌝ }
 {
     index_start(image) + width(version_in(image)) * place
 }
@@ -192,30 +237,47 @@ fn version_in(image: &[u8]) -> usize
     two(image, n - 6)
 }
 
-// What the index entry at an offset begins with, all of it there.
-fn entry_at(image: &[u8], at: usize) -> IndexEntry
-    requires { ⌜ at + 8 ≤ length (now image) ⌝ }
-    ensures { λ r. ⌜ (r ≡ entryAt (now (image .entry)) at) × (r .length < 65536) ⌝ }
+// The index entry of a version at an offset, all of it there.
+fn entry_at(version: usize, image: &[u8], at: usize) -> IndexEntry
+    requires { ⌜ at + width version ≤ length (now image) ⌝ }
+    ensures { λ r. ⌜ (r ≡ entryAt version (now (image .entry)) at) × (r .length < 65536) ⌝ }
 {
     IndexEntry {
         kind: image[at] as usize,
         flags: image[at + 1] as usize,
         length: two(image, at + 2),
         offset: four(image, at + 4),
+        first: letter(version, image, at + 8),
+        second: letter(version, image, at + 9),
     }
 }
 
 // The same where some of its octets lie beyond the end.
-fn entry_cut(image: &[u8], at: usize) -> IndexEntry
-    requires { ⌜ at + 8 < 2 ^ 64 ⌝ }
-    ensures { λ r. ⌜ r ≡ entryAt (now (image .entry)) at ⌝ }
+fn entry_cut(version: usize, image: &[u8], at: usize) -> IndexEntry
+    requires { ⌜ at + 12 < 2 ^ 64 ⌝ }
+    ensures { λ r. ⌜ r ≡ entryAt version (now (image .entry)) at ⌝ }
 {
     IndexEntry {
         kind: number(image, at, 1),
         flags: number(image, at + 1, 1),
         length: number(image, at + 2, 2),
         offset: number(image, at + 4, 4),
+        first: letter(version, image, at + 8),
+        second: letter(version, image, at + 9),
     }
+}
+
+// An octet that version 2 alone has: 0 where there is none.
+fn letter(version: usize, image: &[u8], at: usize) -> u8
+    ensures { λ r. ⌜ r ≡ letterAt version (now (image .entry)) at ⌝ }
+{
+    if version != 2 {
+        return 0;
+    }
+    if image.len() <= at {
+        return 0;
+    }
+    image[at]
 }
 
 // The numbers in two and in four octets that are there.
@@ -257,16 +319,20 @@ fn number_of(c: &[u8]) -> usize
 }
 
 // The sum of the lengths of entries in a row, if each is good.
-fn sum_entries(image: &[u8], start: usize, entries: usize, wide: usize) -> Total
-    requires { ⌜ (8 ≤ wide) × (start + wide * entries + 12 ≤ length (now image)) × (entries ≤ 96) ⌝ }
-    ensures { λ r. ⌜ r ≡ sumOf wide (now (image .entry)) start entries 0 ⌝ }
+fn sum_entries(version: usize, image: &[u8], start: usize, entries: usize) -> Total
+    requires { ⌜ (start + width version * entries + 12 ≤ length (now image)) × (entries ≤ 96) ⌝ }
+    ensures { λ r. ⌜ r ≡ sumOf version (now (image .entry)) start entries 0 ⌝ }
 {
+    let wide = width(version);
     let mut sum = 0;
     let mut left = entries;
     let mut at = start;
     while 0 < left {
-        let e = entry_at(image, at);
+        let e = entry_at(version, image, at);
         if !entry_good(e, sum) {
+            return Total::Unfit;
+        }
+        if !padding_good(version, image, at) {
             return Total::Unfit;
         }
         sum += e.length;
@@ -274,6 +340,17 @@ fn sum_entries(image: &[u8], start: usize, entries: usize, wide: usize) -> Total
         left -= 1;
     }
     Total::Sum(sum)
+}
+
+// The two octets behind the letters are zeros; version 1 has none.
+fn padding_good(version: usize, image: &[u8], at: usize) -> bool
+    requires { ⌜ at + width version ≤ length (now image) ⌝ }
+    ensures { λ r. ⌜ r ≡ padded version (now (image .entry)) at ⌝ }
+{
+    if version != 2 {
+        return true;
+    }
+    two(image, at + 10) == 0
 }
 
 // Kind, flags and length in their ranges, the offset the sum of the lengths before.

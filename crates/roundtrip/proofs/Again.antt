@@ -1,52 +1,76 @@
 -- The entries that the rules let pass are those that their items are written with, one behind the other.
 use mathlib.Core.Path.{_≡_, refl, sym, _∙_, ap, ap₂}
-use mathlib.Core.Bool.{true, and-eq-true-iff}
-use mathlib.Core.List.{List, _++_, append-assoc}
-use Prim.Native.Nat.{ℕ, zero, suc, _+_, _-_, _*_, _≤_}
+use mathlib.Core.Bool.{Bool, true, false, cond, _&&_, and-eq-true-iff}
+use mathlib.Core.List.{List, [], _∷_, _++_, append-assoc}
+use Prim.Native.Nat.{ℕ, zero, suc, _+_, _-_, _*_, _≤_, _<_}
 use native.Mathlib.Omega.{arith}
-use borrow.Author.Tests.{eqb-true}
+use borrow.Author.Tests.{eqb-true, le-leb}
+use lib.Dec.{eqb}
 use lib.ListN.{length, take, drop, length-append, length-drop, take-append-drop}
 use lib.Seq.{drop-drop, length-take-le}
-use Rattle.octets.specs.Octets.{Octets}
+use Rattle.octets.specs.Octets.{Octets, no-octet, octet}
 use Rattle.tree.proofs.Cases.{by-test}
 use Rattle.tree.proofs.Numbers.{octets-take, octets-drop}
 use Rattle.image.specs.declared.IndexEntry.{IndexEntry}
 use Rattle.image.specs.declared.Total.the-variants.{Sum, Unfit}
 use Rattle.image.specs.Items.{Item, packed, entryBytes, indexBytes, trailerBytes, imageBytes}
-use Rattle.image.specs.Index.{entryAt, itemAt, itemsFrom, itemsIn, indexStart, entryCount, versionIn, dayIn, width}
-use Rattle.image.specs.Rules.{fieldsGood, entryGood, sumOf, totalOf}
+use Rattle.image.specs.Index.{field, letterAt, entryAt, itemAt, itemsFrom, itemsIn, indexStart, entryCount, versionIn, dayIn, width}
+use Rattle.image.specs.Rules.{fieldsGood, entryGood, padded, sumOf, totalOf}
+use Rattle.writer.specs.Writing.{versionGood, zeros, lettersGood}
 use Rattle.roundtrip.specs.Good.{GoodItems, no-item, good-item, Fits}
+use Rattle.roundtrip.proofs.Fields.{field-octet}
 use Rattle.roundtrip.proofs.Entries.{entryOctets, entry-again}
 use Rattle.roundtrip.proofs.Trailer.{trailerOf, trailer-again}
 use Rattle.roundtrip.proofs.Opening.{Holds}
 
 -- an entry that passed, and the sum behind it
-pub record Passed (wide : ℕ) (s : List ℕ) (at left sum total : ℕ) : Type 0 where
-  pub fields : fieldsGood (entryAt s at .kind) (entryAt s at .flags) (entryAt s at .length) ≡ true
-  pub offset : entryAt s at .offset ≡ sum
-  pub others : sumOf wide s (at + wide) left (sum + entryAt s at .length) ≡ Sum total
+pub record Passed (version : ℕ) (s : List ℕ) (at left sum total : ℕ) : Type 0 where
+  pub fields : fieldsGood (entryAt version s at .kind) (entryAt version s at .flags) (entryAt version s at .length) ≡ true
+  pub offset : entryAt version s at .offset ≡ sum
+  pub blank : padded version s at ≡ true
+  pub others : sumOf version s (at + width version) left (sum + entryAt version s at .length) ≡ Sum total
 
 pub passed :
-    (wide : ℕ) (s : List ℕ) (at left sum total : ℕ) → sumOf wide s at (suc left) sum ≡ Sum total → Passed wide s at left sum total
+    (version : ℕ) (s : List ℕ) (at left sum total : ℕ) → sumOf version s at (suc left) sum ≡ Sum total
+    → Passed version s at left sum total
 unfolding sumOf entryGood
-passed wide s at left sum total e =
-    let one : IndexEntry = entryAt s at in
-    by-test (entryGood one sum)
-    (λ t. let both = and-eq-true-iff (fieldsGood (one .kind) (one .flags) (one .length)) _ .0 t in
-    record { fields = both .0; offset = eqb-true _ _ (both .1); others = rw t at e })
+passed version s at left sum total e =
+    let one : IndexEntry = entryAt version s at in
+    by-test (entryGood one sum && padded version s at)
+    (λ t. let both = and-eq-true-iff (entryGood one sum) _ .0 t in
+    let good = and-eq-true-iff (fieldsGood (one .kind) (one .flags) (one .length)) _ .0 (both .0) in
+    record { fields = good .0; offset = eqb-true _ _ (good .1); blank = both .1; others = rw t at e })
     λ f. let unfit : Unfit ≡ Sum total = rw f at e in
     let z : _≡_ {A = ℕ} 0 1 = cc in
     absurd (omega arith)
 
-pub sum-grows : (wide : ℕ) (s : List ℕ) (left at sum total : ℕ) → sumOf wide s at left sum ≡ Sum total → sum ≤ total
+pub sum-grows : (version : ℕ) (s : List ℕ) (left at sum total : ℕ) → sumOf version s at left sum ≡ Sum total → sum ≤ total
 unfolding sumOf
-sum-grows wide s zero at sum total e = let same : sum ≡ total = cc in omega arith
-sum-grows wide s (suc left) at sum total e =
-    omega (arith, sum-grows wide s left (at + wide) (sum + entryAt s at .length) total (passed wide s at left sum total e .others))
+sum-grows version s zero at sum total e = let same : sum ≡ total = cc in omega arith
+sum-grows version s (suc left) at sum total e =
+    omega (
+      arith,
+      sum-grows version s left (at + width version) (sum + entryAt version s at .length) total (passed version s at left sum total e .others),
+    )
+
+-- letters that were read are two octets, and zeros where the version has none
+letters-read :
+    (version : ℕ) {s : List ℕ} → Octets s → (at : ℕ)
+    → Octets (entryAt version s at .first ∷ entryAt version s at .second ∷ [])
+    × (lettersGood version (entryAt version s at .first ∷ entryAt version s at .second ∷ []) ≡ true)
+unfolding entryAt letterAt lettersGood zeros
+letters-read version {s} o at = go (eqb version 2)
+  where
+    go :
+        (b : Bool)
+        → Octets (cond b (field s (at + 8) 1) 0 ∷ cond b (field s (at + 9) 1) 0 ∷ [])
+        × (cond b true (zeros (cond b (field s (at + 8) 1) 0 ∷ cond b (field s (at + 9) 1) 0 ∷ [])) ≡ true)
+    go true = (octet (field-octet o (at + 8)) (octet (field-octet o (at + 9)) no-octet), refl)
+    go false = let small : 0 < 256 = omega arith in (octet {o = 0} small (octet {o = 0} small no-octet), refl)
 
 pub record Again (version : ℕ) (s : List ℕ) (items : List Item) (at left sum total : ℕ) : Type 0 where
   pub many : length items ≡ left
-  pub good : GoodItems items
+  pub good : GoodItems version items
   pub octets : packed items ++ drop total s ≡ drop sum s
   pub index : indexBytes version sum items ++ drop (at + width version * left) s ≡ drop at s
 
@@ -55,7 +79,7 @@ cut s at n = ap (λ (l : List ℕ). take n (drop at s) ++ l) (sym (drop-drop n a
 
 items-again :
     (version : ℕ) (s : List ℕ) → Octets s → (left at sum total : ℕ) → at + width version * left ≤ length s → total ≤ length s
-    → sumOf (width version) s at left sum ≡ Sum total → Again version s (itemsFrom (width version) s at left) at left sum total
+    → sumOf version s at left sum ≡ Sum total → Again version s (itemsFrom version s at left) at left sum total
 unfolding sumOf itemsFrom itemAt packed indexBytes entryOctets
 items-again version s o zero at sum total room limit e =
     let same : sum ≡ total = cc in
@@ -63,37 +87,39 @@ items-again version s o zero at sum total room limit e =
     record { many = refl; good = no-item; octets = ap (λ (n : ℕ). drop n s) (sym same); index = ap (λ (n : ℕ). drop n s) here }
 items-again version s o (suc left) at sum total room limit e =
     let wide : ℕ = width version in
-    let one : IndexEntry = entryAt s at in
+    let one : IndexEntry = entryAt version s at in
     let size : ℕ = one .length in
-    let p = passed wide s at left sum total e in
+    let p = passed version s at left sum total e in
     let next = items-again version s o left (at + wide) (sum + size) total (omega arith) limit (p .others) in
-    let grown : sum + size ≤ total = sum-grows wide s left (at + wide) (sum + size) total (p .others) in
+    let grown : sum + size ≤ total = sum-grows version s left (at + wide) (sum + size) total (p .others) in
     let bytes : List ℕ = take size (drop (one .offset) s) in
     let place : one .offset ≡ sum = p .offset in
     let long : length bytes ≡ size = length-take-le size (drop (one .offset) s) (omega (arith, length-drop (one .offset) s)) in
     let fields : fieldsGood (one .kind) (one .flags) (length bytes) ≡ true = rw long (p .fields) in
-    let others : List Item = itemsFrom wide s (at + wide) left in
+    let others : List Item = itemsFrom version s (at + wide) left in
     let last : List ℕ = drop (at + wide * suc left) s in
     let ends : at + wide * suc left ≡ at + wide + wide * left = omega arith in
     let tail : indexBytes version (sum + size) others ++ last ≡ drop (at + wide) s = rw ends (next .index) in
-    let entry : entryBytes version (one .kind) (one .flags) size sum ≡ take wide (drop at s) =
-    ap (entryBytes version (one .kind) (one .flags) size) (sym place) ∙ entry-again version o at (omega arith) in
+    let written : ℕ → ℕ → List ℕ = λ n at. entryBytes version (one .kind) (one .flags) n at (one .first) (one .second) in
+    let entry : written size sum ≡ take wide (drop at s) =
+    ap (written size) (sym place) ∙ entry-again version o at (omega arith) (p .blank) in
+    let letters = letters-read version o at in
     record {
       many = ap suc (next .many);
-      good = good-item fields (octets-take size (octets-drop (one .offset) o)) (next .good);
+      good = good-item fields (octets-take size (octets-drop (one .offset) o)) (letters .0) (letters .1) (next .good);
       octets =
           append-assoc bytes (packed others) (drop total s) ∙ ap (λ (l : List ℕ). bytes ++ l) (next .octets)
           ∙ ap (λ (n : ℕ). take size (drop n s) ++ drop (sum + size) s) place ∙ cut s sum size;
       index =
-          ap (λ (n : ℕ). (entryBytes version (one .kind) (one .flags) n sum ++ indexBytes version (sum + n) others) ++ last) long
-          ∙ append-assoc (entryBytes version (one .kind) (one .flags) size sum) (indexBytes version (sum + size) others) last
+          ap (λ (n : ℕ). (written n sum ++ indexBytes version (sum + n) others) ++ last) long
+          ∙ append-assoc (written size sum) (indexBytes version (sum + size) others) last
           ∙ ap₂ _++_ entry tail ∙ cut s at wide;
     }
 
 pub image-again :
-    (s : List ℕ) → Octets s → Holds s
+    (s : List ℕ) → Octets s → Holds 1 2 s
     → (imageBytes (versionIn s) (itemsIn s) (dayIn s) ≡ s) × Fits (versionIn s) (itemsIn s) (dayIn s)
-unfolding imageBytes itemsIn totalOf trailerOf
+unfolding imageBytes itemsIn totalOf trailerOf versionGood
 image-again s o h =
     let version : ℕ = versionIn s in
     let wide : ℕ = width version in
@@ -111,5 +137,6 @@ image-again s o h =
     let same : imageBytes version items (dayIn s) ≡ s =
     ap (λ (l : List ℕ). packed items ++ (indexBytes version 0 items ++ l)) trailer ∙ ap (λ (l : List ℕ). packed items ++ l) (a .index)
     ∙ front in
+    let known : versionGood version ≡ true = rw (le-leb 1 version (h .from), le-leb version 2 (h .to)) in
     let small : length (imageBytes version items (dayIn s)) ≤ 262144 = omega (arith, ap length same, h .short) in
-    (same, record { known = h .version; good = a .good; few = omega (arith, a .many, h .few); real = h .real; small = small })
+    (same, record { known = known; good = a .good; few = omega (arith, a .many, h .few); real = h .real; small = small })

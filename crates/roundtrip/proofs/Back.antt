@@ -14,15 +14,22 @@ use Rattle.image.specs.declared.Opened.the-variants.{Image}
 use Rattle.image.specs.declared.Total.the-variants.{Sum}
 use Rattle.image.specs.Items.{Item, packed, entryBytes, indexBytes, trailerBytes, imageBytes}
 use Rattle.image.specs.Index.{versionIn, width, entryAt, itemAt, itemsFrom, itemsIn}
-use Rattle.image.specs.Rules.{fieldsGood, entryGood, sumOf, totalOf}
+use Rattle.image.specs.Rules.{fieldsGood, entryGood, padded, sumOf, totalOf}
 use Rattle.image.specs.Answer.{openedOf}
 use Rattle.image.proofs.Widths.{entry-length}
+use Rattle.writer.specs.Writing.{versionGood}
 use Rattle.roundtrip.specs.Good.{GoodItems, no-item, good-item, Fits}
 use Rattle.roundtrip.proofs.Fields.{drop-next}
-use Rattle.roundtrip.proofs.Entries.{entry-at, entry-back}
+use Rattle.roundtrip.proofs.Entries.{entry-at, padded-at, entry-back}
 use Rattle.roundtrip.proofs.Sizes.{length-image, length-index}
 use Rattle.roundtrip.proofs.Trailer.{Trailer, trailerOf, trailer-back}
 use Rattle.roundtrip.proofs.Opening.{Holds, holds-opened}
+
+pub version-known : (version : ℕ) → versionGood version ≡ true → (1 ≤ version) × (version ≤ 2)
+unfolding versionGood
+version-known version e =
+    let both = and-eq-true-iff (leb 1 version) _ .0 e in
+    (leb-true 1 version (both .0), leb-true version 2 (both .1))
 
 pub fields-small : (kind flags size : ℕ) → fieldsGood kind flags size ≡ true → size ≤ 16384
 unfolding fieldsGood
@@ -36,44 +43,63 @@ entry-good : (e : IndexEntry) (sum : ℕ) → fieldsGood (e .kind) (e .flags) (e
 unfolding entryGood
 entry-good e sum fields offset = rw (fields, eq-eqb _ _ offset)
 
+-- the entry of an item that stands at an offset
+abbrev entryOf : Item → ℕ → IndexEntry
+entryOf item offset =
+    record {
+      kind = item .kind;
+      flags = item .flags;
+      length = length (item .bytes);
+      offset = offset;
+      first = item .first;
+      second = item .second;
+    }
+
 item-at :
     (s : List ℕ) (item : Item) (offset : ℕ) (after : List ℕ) → drop offset s ≡ item .bytes ++ after
-    → itemAt s (record { kind = item .kind; flags = item .flags; length = length (item .bytes); offset = offset }) ≡ item
+    → itemAt s (entryOf item offset) ≡ item
 unfolding itemAt
 item-at s item offset after e =
     let size : ℕ = length (item .bytes) in
-    λ i. record { kind = item .kind; flags = item .flags; bytes = (ap (take size) e ∙ take-at (item .bytes) after size refl) i }
+    λ i. record {
+      kind = item .kind;
+      flags = item .flags;
+      bytes = (ap (take size) e ∙ take-at (item .bytes) after size refl) i;
+      first = item .first;
+      second = item .second;
+    }
 
-record Back (wide : ℕ) (s : List ℕ) (items : List Item) (at offset : ℕ) : Type 0 where
-  same : itemsFrom wide s at (length items) ≡ items
-  sums : sumOf wide s at (length items) offset ≡ Sum (offset + length (packed items))
+record Back (version : ℕ) (s : List ℕ) (items : List Item) (at offset : ℕ) : Type 0 where
+  same : itemsFrom version s at (length items) ≡ items
+  sums : sumOf version s at (length items) offset ≡ Sum (offset + length (packed items))
 
 items-back :
-    (version : ℕ) (s : List ℕ) {items : List Item} → GoodItems items → (at offset : ℕ) (behind after : List ℕ)
+    (version : ℕ) (s : List ℕ) {items : List Item} → GoodItems version items → (at offset : ℕ) (behind after : List ℕ)
     → drop at s ≡ indexBytes version offset items ++ behind → drop offset s ≡ packed items ++ after → offset + length (packed items) ≤ 262144
-    → Back (width version) s items at offset
+    → Back version s items at offset
 unfolding itemsFrom sumOf packed indexBytes
 items-back version s no-item at offset behind after index octets limit = record { same = refl; sums = ap Sum (omega arith) }
-items-back version s (good-item {item} {rest} fields o good) at offset behind after index octets limit =
+items-back version s (good-item {item} {rest} fields o pair letters good) at offset behind after index octets limit =
     let size : ℕ = length (item .bytes) in
-    let e : IndexEntry = record { kind = item .kind; flags = item .flags; length = size; offset = offset } in
-    let front : List ℕ = entryBytes version (item .kind) (item .flags) size offset in
+    let e : IndexEntry = entryOf item offset in
+    let front : List ℕ = entryBytes version (item .kind) (item .flags) size offset (item .first) (item .second) in
     let others : List ℕ = indexBytes version (offset + size) rest in
     let joined : drop at s ≡ front ++ (others ++ behind) = index ∙ append-assoc front others behind in
     let parts : drop offset s ≡ item .bytes ++ (packed rest ++ after) = octets ∙ append-assoc (item .bytes) (packed rest) after in
     let long : offset + size + length (packed rest) ≡ offset + length (item .bytes ++ packed rest) =
     omega (arith, length-append (item .bytes) (packed rest)) in
     let small : size ≤ 16384 = fields-small _ _ _ fields in
-    let entry : entryAt s at ≡ e =
-    entry-at s at ∙ ap (λ (t : List ℕ). entryAt t 0) joined
-    ∙ entry-back version (item .kind) (item .flags) size offset (others ++ behind) (omega arith) (omega arith) in
+    let told = entry-back version (item .kind) (item .flags) size offset (item .first) (item .second) (others ++ behind) (omega arith)
+    (omega arith) letters in
+    let entry : entryAt version s at ≡ e = entry-at version s at ∙ ap (λ (t : List ℕ). entryAt version t 0) joined ∙ told .0 in
+    let blank : padded version s at ≡ true = padded-at version s at ∙ ap (λ (t : List ℕ). padded version t 0) joined ∙ told .1 in
     let index′ : drop (at + width version) s ≡ others ++ behind =
-    drop-next s front (others ++ behind) at (width version) joined (entry-length version _ _ size offset) in
+    drop-next s front (others ++ behind) at (width version) joined (entry-length version _ _ size offset _ _) in
     let octets′ : drop (offset + size) s ≡ packed rest ++ after = drop-next s (item .bytes) _ offset size parts refl in
     let next = items-back version s good (at + width version) (offset + size) behind after index′ octets′ (omega arith) in
     record {
       same = ap₂ _∷_ (ap (itemAt s) entry ∙ item-at s item offset _ parts) (next .same);
-      sums = rw (entry, entry-good e offset fields refl) (next .sums ∙ ap Sum long);
+      sums = rw (entry, blank, entry-good e offset fields refl) (next .sums ∙ ap Sum long);
     }
 
 day-low : (day : ℕ) → realDay 1950 2099 day ≡ true → day < 4294967296
@@ -85,7 +111,7 @@ day-low day e =
 
 pub image-back :
     (version : ℕ) (items : List Item) (day : ℕ) → Fits version items day
-    → (openedOf (imageBytes version items day) ≡ Image (length items) day) × (itemsIn (imageBytes version items day) ≡ items)
+    → (openedOf (imageBytes version items day) ≡ Image (length items) day version) × (itemsIn (imageBytes version items day) ≡ items)
     × (versionIn (imageBytes version items day) ≡ version)
 unfolding imageBytes itemsIn totalOf trailerOf
 image-back version items day f =
@@ -95,6 +121,7 @@ image-back version items day f =
     let wide : ℕ = width version in
     let trailer : List ℕ = trailerBytes version start n day in
     let long : length s ≡ start + wide * n + 12 = length-image version items day in
+    let known = version-known version (f .known) in
     let few : n ≤ 96 = omega (arith, f .few) in
     let small : length s ≤ 262144 = omega (arith, f .small) in
     let at : length s - 12 ≡ start + wide * n = omega arith in
@@ -102,15 +129,16 @@ image-back version items day f =
     let last : drop (length s - 12) s ≡ trailer =
     rw at (drop-next s (indexBytes version 0 items) trailer start (wide * n) index (length-index version 0 items)) in
     let t : Trailer s start n version day =
-    trailer-back s version start n day (omega arith) last (omega (arith, f .known)) (omega arith) (omega arith) (day-low day (f .real)) in
-    let b : Back wide s items start 0 = items-back version s (f .good) start 0 trailer _ index refl (omega arith) in
-    let h : Holds s = record {
+    trailer-back s version start n day (omega arith) last (omega (arith, known)) (omega arith) (omega arith) (day-low day (f .real)) in
+    let b : Back version s items start 0 = items-back version s (f .good) start 0 trailer _ index refl (omega arith) in
+    let h : Holds 1 2 s = record {
       long = omega arith;
       short = small;
-      version = t .version ∙ f .known;
+      from = omega (arith, t .version, known .0);
+      to = omega (arith, t .version, known .1);
       few = rw (t .entries) few;
       real = rw (t .day) (f .real);
       ends = rw (t .start, t .version, t .entries) (sym long);
       sums = rw (t .start, t .version, t .entries) (b .sums ∙ ap Sum (omega arith));
     } in
-    (holds-opened s h ∙ ap₂ Image (t .entries) (t .day), rw (t .start, t .version, t .entries) (b .same), t .version)
+    (holds-opened 1 2 s h ∙ rw (t .entries, t .day, t .version), rw (t .start, t .version, t .entries) (b .same), t .version)

@@ -18,25 +18,27 @@ use Rattle.image.specs.declared.Total.{Total}
 use Rattle.image.specs.declared.Total.the-variants.{Sum, Unfit}
 use Rattle.image.specs.Index.{indexStart, entryCount, versionIn, dayIn, width}
 use Rattle.image.specs.Rules.{rule1, rule2, rule3, rule4, rule5, rule6, rule7, rules, totalOf, fit, summed}
-use Rattle.image.specs.Answer.{graded, openedOf}
+use Rattle.image.specs.Answer.{graded, openedWithin}
 
 -- what the seven rules say
-pub record Holds (s : List ℕ) : Type 0 where
+pub record Holds (least most : ℕ) (s : List ℕ) : Type 0 where
   pub long : 12 ≤ length s
   pub short : length s ≤ 262144
-  pub version : versionIn s ≡ 1
+  pub from : least ≤ versionIn s
+  pub to : versionIn s ≤ most
   pub few : entryCount s ≤ 96
   pub real : realDay 1950 2099 (dayIn s) ≡ true
   pub ends : indexStart s + width (versionIn s) * entryCount s + 12 ≡ length s
   pub sums : totalOf s ≡ Sum (indexStart s)
 
-pub holds-opened : (s : List ℕ) → Holds s → openedOf s ≡ Image (entryCount s) (dayIn s)
-unfolding openedOf graded firstBroken rules rule1 rule2 rule3 rule4 rule5 rule6 rule7 fit summed
-holds-opened s h =
+pub holds-opened : (least most : ℕ) (s : List ℕ) → Holds least most s → openedWithin least most s ≡ Image (entryCount s) (dayIn s) (versionIn s)
+unfolding openedWithin graded firstBroken rules rule1 rule2 rule3 rule4 rule5 rule6 rule7 fit summed
+holds-opened least most s h =
     rw (
       le-leb _ _ (h .long),
       le-leb _ _ (h .short),
-      eq-eqb _ _ (h .version),
+      le-leb _ _ (h .from),
+      le-leb _ _ (h .to),
       le-leb _ _ (h .few),
       h .real,
       eq-eqb _ _ (h .ends),
@@ -49,57 +51,80 @@ unfolding summed
 summed-start start (Sum sum) e = ap Sum (eqb-true sum start e)
 summed-start start Unfit e = cc
 
-rules-hold : (s : List ℕ) → ((i : ℕ) → getD (rules s) i true ≡ true) → Holds s
+rules-hold : (least most : ℕ) (s : List ℕ) → ((i : ℕ) → getD (rules least most s) i true ≡ true) → Holds least most s
 unfolding rules rule1 rule2 rule3 rule4 rule5 rule6 rule7
-rules-hold s all =
+rules-hold least most s all =
     let both = and-eq-true-iff (leb 12 (length s)) _ .0 (all 0) in
+    let known = and-eq-true-iff (leb least (versionIn s)) _ .0 (all 1) in
     record {
       long = leb-true _ _ (both .0);
       short = leb-true _ _ (both .1);
-      version = eqb-true _ _ (all 1);
+      from = leb-true _ _ (known .0);
+      to = leb-true _ _ (known .1);
       few = leb-true _ _ (all 2);
       real = all 3;
       ends = eqb-true _ _ (all 4);
       sums = summed-start (indexStart s) (totalOf s) (all 6);
     }
 
-pub data Answer (s : List ℕ) (a : Opened) : Type 0 where
-  good : a ≡ Image (entryCount s) (dayIn s) → Holds s → Answer s a
-  broken : (k : ℕ) → a ≡ Refused (refusal.Image k) → Smallest 1 (rules s) k → Answer s a
+-- what holds for some versions holds for more
+pub holds-wider : {least most : ℕ} {s : List ℕ} → 1 ≤ least → most ≤ 2 → Holds least most s → Holds 1 2 s
+holds-wider low high h =
+    record {
+      long = h .long;
+      short = h .short;
+      from = omega (arith, h .from);
+      to = omega (arith, h .to);
+      few = h .few;
+      real = h .real;
+      ends = h .ends;
+      sums = h .sums;
+    }
 
-graded-answer : (s : List ℕ) (k : ℕ) → firstBroken 1 (rules s) ≡ k → Answer s (graded k (Image (entryCount s) (dayIn s)))
-unfolding graded
-graded-answer s zero e = good refl (rules-hold s (all-hold 1 (rules s) (omega arith) e))
-graded-answer s (suc k) e =
-    let some : suc k ≡ 0 → ⊥ = omega arith in
-    broken (suc k) (rw (ne-eqb (suc k) 0 some)) (told-smallest 1 (rules s) e some)
+module _ (least most : ℕ) (s : List ℕ) where
+  pub data Answer (a : Opened) : Type 0 where
+    good : a ≡ Image (entryCount s) (dayIn s) (versionIn s) → Holds least most s → Answer a
+    broken : (k : ℕ) → a ≡ Refused (refusal.Image k) → Smallest 1 (rules least most s) k → Answer a
 
-pub answer : (s : List ℕ) → Answer s (openedOf s)
-unfolding openedOf
-answer s = graded-answer s (firstBroken 1 (rules s)) refl
+  graded-answer :
+      (k : ℕ) → firstBroken 1 (rules least most s) ≡ k → Answer (graded k (Image (entryCount s) (dayIn s) (versionIn s)))
+  unfolding graded
+  graded-answer zero e = good refl (rules-hold least most s (all-hold 1 (rules least most s) (omega arith) e))
+  graded-answer (suc k) e =
+      let some : suc k ≡ 0 → ⊥ = omega arith in
+      broken (suc k) (rw (ne-eqb (suc k) 0 some)) (told-smallest 1 (rules least most s) e some)
 
-pub opened-holds : (s : List ℕ) (n day : ℕ) → openedOf s ≡ Image n day → Holds s × (n ≡ entryCount s) × (day ≡ dayIn s)
-opened-holds s n day e = told (openedOf s) e (answer s)
-  where
-    told : (a : Opened) → a ≡ Image n day → Answer s a → Holds s × (n ≡ entryCount s) × (day ≡ dayIn s)
-    told a e (good g h) = (h, cc, cc)
-    told a e (broken k g least) = let z : _≡_ {A = ℕ} 0 1 = cc in absurd (omega arith)
+  pub answer : Answer (openedWithin least most s)
+  unfolding openedWithin
+  answer = graded-answer (firstBroken 1 (rules least most s)) refl
 
-pub opened-refused : (s : List ℕ) (r : Refusal) → openedOf s ≡ Refused r → (k : ℕ) × (r ≡ refusal.Image k) × Smallest 1 (rules s) k
-opened-refused s r e = told (openedOf s) e (answer s)
-  where
-    told : (a : Opened) → a ≡ Refused r → Answer s a → (k : ℕ) × (r ≡ refusal.Image k) × Smallest 1 (rules s) k
-    told a e (good g h) = let z : _≡_ {A = ℕ} 0 1 = cc in absurd (omega arith)
-    told a e (broken k g least) = (k, cc, least)
+  pub opened-holds :
+      (n day version : ℕ) → openedWithin least most s ≡ Image n day version
+      → Holds least most s × (n ≡ entryCount s) × (day ≡ dayIn s) × (version ≡ versionIn s)
+  opened-holds n day version e = told (openedWithin least most s) e answer
+    where
+      told :
+          (a : Opened) → a ≡ Image n day version → Answer a
+          → Holds least most s × (n ≡ entryCount s) × (day ≡ dayIn s) × (version ≡ versionIn s)
+      told a e (good g h) = (h, cc, cc, cc)
+      told a e (broken k g first) = let z : _≡_ {A = ℕ} 0 1 = cc in absurd (omega arith)
 
-pub refused-smallest : (s : List ℕ) (k : ℕ) → openedOf s ≡ Refused (refusal.Image k) → Smallest 1 (rules s) k
-refused-smallest s k e =
-    let (n, same, least) = opened-refused s (refusal.Image k) e in
-    let number : n ≡ k = cc in
-    rw number at least
+  pub opened-refused :
+      (r : Refusal) → openedWithin least most s ≡ Refused r → (k : ℕ) × (r ≡ refusal.Image k) × Smallest 1 (rules least most s) k
+  opened-refused r e = told (openedWithin least most s) e answer
+    where
+      told : (a : Opened) → a ≡ Refused r → Answer a → (k : ℕ) × (r ≡ refusal.Image k) × Smallest 1 (rules least most s) k
+      told a e (good g h) = let z : _≡_ {A = ℕ} 0 1 = cc in absurd (omega arith)
+      told a e (broken k g first) = (k, cc, first)
 
-pub smallest-refused : (s : List ℕ) (k : ℕ) → Smallest 1 (rules s) k → openedOf s ≡ Refused (refusal.Image k)
-unfolding openedOf graded
-smallest-refused s k least =
-    let same : firstBroken 1 (rules s) ≡ k = smallest-told 1 (rules s) least in
-    rw (same, ne-eqb k 0 (λ z. omega (arith, least .numbered)))
+  pub refused-smallest : (k : ℕ) → openedWithin least most s ≡ Refused (refusal.Image k) → Smallest 1 (rules least most s) k
+  refused-smallest k e =
+      let (n, same, first) = opened-refused (refusal.Image k) e in
+      let number : n ≡ k = cc in
+      rw number at first
+
+  pub smallest-refused : (k : ℕ) → Smallest 1 (rules least most s) k → openedWithin least most s ≡ Refused (refusal.Image k)
+  unfolding openedWithin graded
+  smallest-refused k first =
+      let same : firstBroken 1 (rules least most s) ≡ k = smallest-told 1 (rules least most s) first in
+      rw (same, ne-eqb k 0 (λ z. omega (arith, first .numbered)))

@@ -17,8 +17,9 @@ length-index version offset (item ∷ rest) =
     let size : ℕ = length (item .bytes) in
     omega (
       arith,
-      length-append (entryBytes version (item .kind) (item .flags) size offset) (indexBytes version (offset + size) rest),
-      entry-length version (item .kind) (item .flags) size offset,
+      length-append (entryBytes version (item .kind) (item .flags) size offset (item .first) (item .second))
+      (indexBytes version (offset + size) rest),
+      entry-length version (item .kind) (item .flags) size offset (item .first) (item .second),
       length-index version (offset + size) rest,
     )
 

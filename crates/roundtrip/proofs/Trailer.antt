@@ -5,12 +5,12 @@ use Prim.Native.Nat.{ℕ, _+_, _-_, _≤_, _<_}
 use native.Mathlib.Nat.{mod-eq-of-lt}
 use native.Mathlib.Omega.{arith}
 use lib.ListN.{length, take, drop, length-drop}
-use lib.Seq.{take-add, take-all, drop-drop}
+use lib.Seq.{take-all}
 use Rattle.octets.specs.Octets.{Octets, big}
 use Rattle.tree.proofs.Numbers.{number-big, octets-drop}
 use Rattle.image.specs.Items.{trailerBytes}
 use Rattle.image.specs.Index.{field, indexStart, entryCount, versionIn, dayIn}
-use Rattle.roundtrip.proofs.Fields.{field-drop, big-field}
+use Rattle.roundtrip.proofs.Fields.{join, field-drop, big-field}
 
 -- the four numbers of a trailer
 pub record Trailer (s : List ℕ) (a n v d : ℕ) : Type 0 where
@@ -48,9 +48,6 @@ trailer-back s version start entries day h e known near few low =
       version = t .version ∙ ap (λ (l : List ℕ). field l 6 2) e ∙ number-big 2 version ∙ mod-eq-of-lt known;
       day = t .day ∙ ap (λ (l : List ℕ). field l 8 4) e ∙ number-big 4 day ∙ mod-eq-of-lt low;
     }
-
-join : (t : List ℕ) (at k m : ℕ) → take k (drop at t) ++ take m (drop (at + k) t) ≡ take (k + m) (drop at t)
-join t at k m = ap (λ (l : List ℕ). take k (drop at t) ++ take m l) (sym (drop-drop k at t)) ∙ sym (take-add k m (drop at t))
 
 pub trailer-again :
     (s : List ℕ) → Octets s → 12 ≤ length s → trailerBytes (versionIn s) (indexStart s) (entryCount s) (dayIn s) ≡ trailerOf s

@@ -15,3 +15,7 @@ flagsOf (item ∷ rest) = item .flags ∷ flagsOf rest
 unfoldable pub lengthsOf : List Item → List ℕ
 lengthsOf [] = []
 lengthsOf (item ∷ rest) = length (item .bytes) ∷ lengthsOf rest
+
+unfoldable pub lettersOf : List Item → List ℕ
+lettersOf [] = []
+lettersOf (item ∷ rest) = item .first ∷ item .second ∷ lettersOf rest

@@ -17,7 +17,7 @@ use Rattle.image.specs.Items.{Item}
 
 -- the item of a place; none has kind 0
 unfoldable pub itemAt : List Item → ℕ → Item
-itemAt items place = getD items place (record { kind = 0; flags = 0; bytes = [] })
+itemAt items place = getD items place (record { kind = 0; flags = 0; bytes = []; first = 0; second = 0 })
 
 -- a test of the certificate at a place, which passes for its kind
 unfoldable pub onCertificate : Judged → (certificate.Fields → Bool) → Bool

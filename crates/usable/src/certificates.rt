@@ -2,6 +2,7 @@
 use certificate::Judged;
 use certificate::judge;
 ghost use mathlib.Core.Path.{_≡_};
+ghost use Prim.Native.Nat.{ℕ};
 ghost use Rattle.usable.specs.Rows.{rowFrom, certificateRow};
 ghost use Rattle.certificate.specs.Answer.{judgedOf};
 
@@ -12,7 +13,7 @@ pub(crate) fn certificate_row(
     at: usize,
     moment: u64,
 ) -> [usize; 17]
-    ensures { λ r. ⌜ rowFrom r ≡ certificateRow moment (record { kind = kind; flags = flags; bytes = now (item .entry) }) at (judgedOf (now (item .entry)) kind) ⌝ }
+    ensures { λ r. ⌜ ((a b : ℕ) → rowFrom r ≡ certificateRow moment (record { kind = kind; flags = flags; bytes = now (item .entry); first = a; second = b }) at (judgedOf (now (item .entry)) kind)) ⌝ }
 {
     let Judged::Passed(f) = judge(item, kind as u64) else {
         return [0; 17];

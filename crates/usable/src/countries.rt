@@ -6,14 +6,14 @@ ghost use Rattle.usable.specs.Country.{countryOf, isOf, homeOf};
 
 // Whether the issuer of an item of a kind has these two letters.
 pub fn of_country(item: &[u8], kind: usize, first: usize, second: usize) -> bool
-    ensures { λ r. ⌜ ((flags : ℕ) → r ≡ homeOf first second (record { kind = kind; flags = flags; bytes = now (item .entry) })) ⌝ }
+    ensures { λ r. ⌜ ((flags a b : ℕ) → r ≡ homeOf first second (record { kind = kind; flags = flags; bytes = now (item .entry); first = a; second = b })) ⌝ }
 {
     is_of(country_of(item, kind), first, second)
 }
 
 // The letters of the item's issuer.
 fn country_of(item: &[u8], kind: usize) -> Letters
-    ensures { λ r. ⌜ ((flags : ℕ) → r ≡ countryOf (record { kind = kind; flags = flags; bytes = now (item .entry) })) ⌝ }
+    ensures { λ r. ⌜ ((flags a b : ℕ) → r ≡ countryOf (record { kind = kind; flags = flags; bytes = now (item .entry); first = a; second = b })) ⌝ }
 {
     if kind == 4 {
         return crl::country(item);

@@ -8,7 +8,7 @@ ghost use Rattle.usable.specs.Rows.{rowFrom, listRow};
 ghost use Rattle.crl.specs.Answer.{judgedOf};
 
 pub(crate) fn list_row(item: &[u8], at: usize, moment: u64) -> [usize; 17]
-    ensures { λ r. ⌜ ((kind flags : ℕ) → rowFrom r ≡ listRow moment (record { kind = kind; flags = flags; bytes = now (item .entry) }) at (judgedOf paper (now (item .entry)))) ⌝ }
+    ensures { λ r. ⌜ ((kind flags a b : ℕ) → rowFrom r ≡ listRow moment (record { kind = kind; flags = flags; bytes = now (item .entry); first = a; second = b }) at (judgedOf paper (now (item .entry)))) ⌝ }
 {
     let Judged::Passed(f) = judge(item) else {
         return [0; 17];

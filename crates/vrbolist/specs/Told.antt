@@ -1,5 +1,6 @@
 -- What the C interface tells of each answer: number 0 and the fields of a pass, or a refusal's number and detail and zeros.
 use Prim.Native.Nat.{ℕ}
+use mathlib.Core.Bool.{cond}
 use mathlib.Core.List.{List, [], _∷_}
 use lib.IntN.{pos}
 use Rattle.refusal.specs.Numbers.{numberOf, detailOf}
@@ -21,6 +22,8 @@ use Rattle.image.specs.declared.Place.{Place}
 use Rattle.image.specs.declared.Place.the-variants as placed
 use Rattle.writer.specs.declared.Written.{Written}
 use Rattle.writer.specs.declared.Written.the-variants as written
+use Rattle.letters.specs.declared.checking.Checked.{Checked}
+use Rattle.letters.specs.declared.checking.Checked.the-variants as checked
 use Rattle.tray.specs.declared.Replayed.{Replayed}
 use Rattle.tray.specs.declared.Replayed.the-variants as replayed
 use Rattle.vrbolist.specs.declared.items.WalkAnswer.{WalkAnswer}
@@ -31,6 +34,7 @@ use Rattle.vrbolist.specs.declared.lists.CrlAnswer.{CrlAnswer}
 use Rattle.vrbolist.specs.declared.images.ImageAnswer.{ImageAnswer}
 use Rattle.vrbolist.specs.declared.images.EntryAnswer.{EntryAnswer}
 use Rattle.vrbolist.specs.declared.images.WriteAnswer.{WriteAnswer}
+use Rattle.vrbolist.specs.declared.versions.LettersAnswer.{LettersAnswer}
 use Rattle.vrbolist.specs.declared.trays.ReplayAnswer.{ReplayAnswer}
 
 unfoldable pub walkTold : Walked → WalkAnswer
@@ -118,18 +122,40 @@ crlTold (crl-judged.Refused why) =
     }
 
 unfoldable pub imageTold : Opened → ImageAnswer
-imageTold (opened.Image entries day) = record { number = 0; detail = 0; entries = entries; day = day }
-imageTold (opened.Refused why) = record { number = numberOf why; detail = detailOf why; entries = 0; day = 0 }
+imageTold (opened.Image entries day version) =
+    record { number = 0; detail = 0; entries = entries; day = day; version = version }
+imageTold (opened.Refused why) =
+    record { number = numberOf why; detail = detailOf why; entries = 0; day = 0; version = 0 }
 
 unfoldable pub entryTold : Place → EntryAnswer
 entryTold (placed.Is e) =
-    record { number = 0; detail = 0; kind = e .kind; flags = e .flags; length = e .length; offset = e .offset }
+    record {
+      number = 0;
+      detail = 0;
+      kind = e .kind;
+      flags = e .flags;
+      length = e .length;
+      offset = e .offset;
+      country = e .first ∷ e .second ∷ [];
+    }
 entryTold (placed.Refused why) =
-    record { number = numberOf why; detail = detailOf why; kind = 0; flags = 0; length = 0; offset = 0 }
+    record {
+      number = numberOf why;
+      detail = detailOf why;
+      kind = 0;
+      flags = 0;
+      length = 0;
+      offset = 0;
+      country = 0 ∷ 0 ∷ [];
+    }
 
 unfoldable pub writeTold : Written → WriteAnswer
 writeTold (written.Length size) = record { number = 0; detail = 0; length = size }
 writeTold (written.Refused why) = record { number = numberOf why; detail = detailOf why; length = 0 }
+
+unfoldable pub lettersTold : Checked → LettersAnswer
+lettersTold (checked.Told so) = record { number = 0; detail = 0; «letters_true» = cond so 1 0 }
+lettersTold (checked.Refused why) = record { number = numberOf why; detail = detailOf why; «letters_true» = 0 }
 
 unfoldable pub replayTold : Replayed → ReplayAnswer
 replayTold (replayed.Faulty count) = record { number = 0; detail = 0; faulty = count }

@@ -14,6 +14,7 @@ pub struct ImageAnswer {
     pub detail: u64,
     pub entries: u64,
     pub day: u64,
+    pub version: u64,
 }
 
 #[repr(C)]
@@ -24,6 +25,7 @@ pub struct EntryAnswer {
     pub flags: u64,
     pub length: u64,
     pub offset: u64,
+    pub country: [u8; 2],
 }
 
 #[repr(C)]
@@ -51,17 +53,23 @@ fn image_told(opened: Opened) -> ImageAnswer
     ensures { λ r. ⌜ r ≡ imageTold opened ⌝ }
 {
     match opened {
-        Opened::Image { entries, day } => ImageAnswer {
+        Opened::Image {
+            entries,
+            day,
+            version,
+        } => ImageAnswer {
             number: 0,
             detail: 0,
             entries: entries as u64,
             day,
+            version: version as u64,
         },
         Opened::Refused(refusal) => ImageAnswer {
             number: refusal::number(refusal),
             detail: refusal::detail(refusal),
             entries: 0,
             day: 0,
+            version: 0,
         },
     }
 }
@@ -78,6 +86,7 @@ pub extern "C" fn vrbolist_entry(image: &[u8], place: u64) -> EntryAnswer
             flags: found.flags as u64,
             length: found.length as u64,
             offset: found.offset as u64,
+            country: [found.first, found.second],
         },
         Place::Refused(refusal) => EntryAnswer {
             number: refusal::number(refusal),
@@ -86,6 +95,7 @@ pub extern "C" fn vrbolist_entry(image: &[u8], place: u64) -> EntryAnswer
             flags: 0,
             length: 0,
             offset: 0,
+            country: [0, 0],
         },
     }
 }
@@ -96,13 +106,21 @@ pub extern "C" fn vrbolist_write(
     kinds: &[u8],
     flags: &[u8],
     lengths: &[u32],
+    letters: &[u8],
+    version: u64,
     day: u64,
     out: &mut [u8],
 ) -> WriteAnswer
-    ensures answer { λ r. ⌜ r ≡ writeTold (writtenOf 1 (now (items .entry)) (now (kinds .entry)) (now (flags .entry)) (now (lengths .entry)) day (length (now (out .entry)))) ⌝ }
-    ensures output { λ _. ⌜ now (out .exit) ≡ outputOf 1 (now (items .entry)) (now (kinds .entry)) (now (flags .entry)) (now (lengths .entry)) day (now (out .entry)) ⌝ }
+    ensures answer { λ r. ⌜ r ≡ writeTold (writtenOf version (now (items .entry)) (now (kinds .entry)) (now (flags .entry)) (now (lengths .entry)) (now (letters .entry)) day (length (now (out .entry)))) ⌝ }
+    ensures output { λ _. ⌜ now (out .exit) ≡ outputOf version (now (items .entry)) (now (kinds .entry)) (now (flags .entry)) (now (lengths .entry)) (now (letters .entry)) day (now (out .entry)) ⌝ }
 {
-    match writer::write(items, kinds, flags, lengths, day, out) {
+    write_told(writer::write(items, kinds, flags, lengths, letters, version, day, out))
+}
+
+pub(crate) fn write_told(written: Written) -> WriteAnswer
+    ensures { λ r. ⌜ r ≡ writeTold written ⌝ }
+{
+    match written {
         Written::Length(length) => WriteAnswer {
             number: 0,
             detail: 0,

@@ -5,3 +5,4 @@ mod images;
 mod items;
 mod lists;
 mod trays;
+mod versions;

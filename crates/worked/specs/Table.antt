@@ -25,8 +25,8 @@ pub data Case : Type 0 where
   is : List ℕ → ℤ → Case
   -- so many days from one day to another
   from-to : ℕ → ℕ → ℤ → Case
-  -- an image that is good, with so many entries and of that day
-  reads : List ℕ → ℕ → ℕ → Case
+    -- an image of so many entries, a day and a version
+  reads : List ℕ → ℕ → ℕ → ℕ → Case
   -- whether one encoding is smaller than another
   compares : List ℕ → List ℕ → Bool → Case
 
@@ -35,7 +35,7 @@ Holds (passes item n) = walkOf paper item ≡ Passed n
 Holds (breaks item at) = walkOf paper item ≡ Refused (Der at)
 Holds (is item value) = integerOf paper item ≡ Value value
 Holds (from-to first second days) = differenceOf first second ≡ Days days
-Holds (reads image entries day) = openedOf image ≡ Image entries day
+Holds (reads image entries day version) = openedOf image ≡ Image entries day version
 Holds (compares a b answer) = smaller a b ≡ answer
 
 abbrev pub AllHold : List Case → Type 0
@@ -59,7 +59,12 @@ table =
     ∷ from-to 20230228 20230301 (pos 1)
     ∷ from-to 20210101 20201231 (negsuc 0)
     ∷ from-to 19500101 20991231 (pos 54786)
-    ∷ reads (0x00 ∷ 0x00 ∷ 0x00 ∷ 0x00 ∷ 0x00 ∷ 0x00 ∷ 0x00 ∷ 0x01 ∷ 0x01 ∷ 0x34 ∷ 0xD7 ∷ 0xAD ∷ []) 0 20240301
+    ∷ reads (0x00 ∷ 0x00 ∷ 0x00 ∷ 0x00 ∷ 0x00 ∷ 0x00 ∷ 0x00 ∷ 0x01 ∷ 0x01 ∷ 0x34 ∷ 0xD7 ∷ 0xAD ∷ []) 0 20240301 1
+    ∷ reads (0x00 ∷ 0x00 ∷ 0x00 ∷ 0x00 ∷ 0x00 ∷ 0x00 ∷ 0x00 ∷ 0x02 ∷ 0x01 ∷ 0x34 ∷ 0xD7 ∷ 0xAD ∷ []) 0 20240301 2
+    ∷ reads
+    (0x05 ∷ 0x02 ∷ 0x00 ∷ 0x00 ∷ 0x01 ∷ 0x00 ∷ 0x00 ∷ 0x00 ∷ 0x00 ∷ 0x55 ∷ 0x54 ∷ 0x00 ∷ 0x00 ∷ 0x00 ∷ 0x00 ∷ 0x00 ∷ 0x01 ∷ 0x00 ∷ 0x01
+    ∷ 0x00 ∷ 0x02 ∷ 0x01 ∷ 0x34 ∷ 0xD7 ∷ 0xAD ∷ [])
+    1 20240301 2
     ∷ compares (0x13 ∷ 0x01 ∷ 0x44 ∷ []) (0x13 ∷ 0x01 ∷ 0x50 ∷ []) true
     ∷ compares (0x13 ∷ 0x01 ∷ 0x50 ∷ []) (0x13 ∷ 0x01 ∷ 0x50 ∷ []) false
     ∷ compares (0x13 ∷ 0x01 ∷ 0x50 ∷ []) (0x13 ∷ 0x02 ∷ 0x41 ∷ 0x43 ∷ []) true

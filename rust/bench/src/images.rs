@@ -59,13 +59,16 @@ pub fn chain(shape: &str, places: usize, entries: usize, every: bool) -> Option<
 }
 
 /// An image in the making, with the key that signs each item and the one that the item has.
-#[derive(Default)]
 struct Signed {
     image: Image,
     keys: Vec<(Vec<u8>, Vec<u8>)>,
 }
 
 impl Signed {
+    fn new() -> Signed {
+        Signed { image: Image::new(DAY as u32), keys: Vec::new() }
+    }
+
     /// Adds a certificate with one name as issuer and subject.
     fn certificate(&mut self, kind: u8, issuer: &[u8], by: &[u8], own: &[u8]) {
         let made = Certificate::new(&Parameters {
@@ -88,8 +91,7 @@ impl Signed {
     }
 
     /// The question for a place, with the verdicts of true signatures or, `dense`, with 1 for all pairs.
-    fn asked(mut self, target: usize, dense: bool) -> Vec<Question> {
-        self.image.day = DAY as u32;
+    fn asked(self, target: usize, dense: bool) -> Vec<Question> {
         let signs = |own: &[u8], by: &[u8]| (dense || !own.is_empty() && own == by) as u8;
         let pairs = |(_, own): &(Vec<u8>, Vec<u8>)| self.keys.iter().map(|(by, _)| signs(own, by)).collect::<Vec<u8>>();
         let table = self.keys.iter().flat_map(pairs).collect();
@@ -115,7 +117,7 @@ pub fn usual(found: &str) -> Option<Vec<Question>> {
         "none" => 2,
         _ => return None,
     };
-    let mut made = Signed::default();
+    let mut made = Signed::new();
     for country in 0..4 {
         let issuer = name::name([b'U', b'T' + country], "CSCA");
         let key = |number: u8| vec![country + 1, number, 3, 4, 5, 6, 7, 8];
@@ -135,7 +137,7 @@ pub fn usual(found: &str) -> Option<Vec<Question>> {
 
 /// A chain of two places, beside 64 CRLs of other countries.
 pub fn strangers() -> Vec<Question> {
-    let mut made = Signed::default();
+    let mut made = Signed::new();
     let issuer = name::name(*b"UT", "CSCA");
     made.certificate(ANCHOR, &issuer, &[1; 20], &[1; 20]);
     made.certificate(SIGNER as u8, &issuer, &[1; 20], &[2; 20]);
@@ -149,7 +151,7 @@ pub fn strangers() -> Vec<Question> {
 
 /// 96 places with one long name and one key but for the signer's, all verdicts 1: no step leads to the signer.
 pub fn long_names() -> Vec<Question> {
-    let mut made = Signed::default();
+    let mut made = Signed::new();
     let issuer = name::name(*b"UT", &"long name ".repeat(100));
     made.certificate(ANCHOR, &issuer, &[1; 20], &[1; 20]);
     for _ in 0..93 {
@@ -162,7 +164,7 @@ pub fn long_names() -> Vec<Question> {
 
 /// A chain of two places beside 23 CRLs of the same country, each with one entry of 1,353 extensions.
 pub fn extended() -> Vec<Question> {
-    let mut made = Signed::default();
+    let mut made = Signed::new();
     let issuer = name::name(*b"UT", "CSCA");
     made.certificate(ANCHOR, &issuer, &[1; 20], &[1; 20]);
     made.certificate(SIGNER as u8, &issuer, &[1; 20], &[2; 20]);

@@ -1,6 +1,7 @@
 //! The questions by name, each made alone from a fixed seed.
 
 use make::certificate::{Certificate, ANCHOR, LINK, SIGNER};
+use make::columns::Columns;
 use make::crl::Crl;
 use make::image::Image;
 use make::questions::Question;
@@ -37,6 +38,11 @@ pub const QUESTIONS: &[&str] = &[
     "image-read",
     "image-write",
     "image-write-real",
+    "image-read-lettered",
+    "image-write-lettered",
+    "image-forth",
+    "image-back",
+    "image-letters",
     "days",
     "chain-usual-two",
     "chain-usual-five",
@@ -159,6 +165,11 @@ fn item(name: &str) -> Option<Question> {
             }
             written(image)
         }
+        "image-read-lettered" => Question::Image(lettered()),
+        "image-write-lettered" => written(realistic(World::line, 96, 40).0.of_version(2)),
+        "image-forth" => Question::MoveTo2(realistic(World::line, 96, 40).0.encode(), ROOM),
+        "image-back" => Question::MoveTo1(lettered(), ROOM),
+        "image-letters" => Question::Letters(lettered()),
         "days" => Question::Days(19500101, 20240301),
         "replay-good" => Question::Replay { log: nights(RECORDS, 19500101), room: RECORDS },
         "replay-faulty" => Question::Replay { log: yesterday(), room: RECORDS },
@@ -168,14 +179,16 @@ fn item(name: &str) -> Option<Question> {
 }
 
 fn written(image: Image) -> Question {
-    Question::Write {
-        items: image.items.concat(),
-        lengths: image.lengths(),
-        day: image.day as u64,
-        kinds: image.kinds,
-        flags: image.flags,
-        room: ROOM,
-    }
+    let Columns { items, kinds, flags, lengths, letters, version, day } = Columns::of(&image);
+    Question::Write { items, kinds, flags, lengths, letters, version, day, room: ROOM }
+}
+
+/// The image of 96 items in version 2, with the true letters.
+fn lettered() -> Vec<u8> {
+    let mut out = vec![0; ROOM];
+    let moved = plain::move_to_2(&realistic(World::line, 96, 40).0.encode(), &mut out);
+    out.truncate(moved.length as usize);
+    out
 }
 
 fn sized(what: &str, number: usize) -> Option<Vec<Question>> {

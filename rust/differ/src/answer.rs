@@ -13,6 +13,7 @@ pub enum Answer {
     Image(plain::Image),
     Entry(plain::Entry),
     Write(plain::Written),
+    Letters(plain::Letters),
     Chain(plain::Chain),
     Replay(plain::Replayed),
 }
@@ -29,6 +30,7 @@ impl Answer {
             Answer::Image(told) => (told.number, told.detail),
             Answer::Entry(told) => (told.number, told.detail),
             Answer::Write(told) => (told.number, told.detail),
+            Answer::Letters(told) => (told.number, told.detail),
             Answer::Chain(told) => (told.number, told.detail),
             Answer::Replay(told) => (told.number, told.detail),
         }
@@ -78,8 +80,9 @@ same_fields!(
 );
 same_fields!(Crl, Crl, Crl { this_update, next_update, entries, issuer_at, issuer_len, country });
 same_fields!(Days, Days, Days { days });
-same_fields!(Image, Image, Image { entries, day });
-same_fields!(Entry, Entry, Entry { kind, flags, length, offset });
+same_fields!(Image, Image, Image { entries, day, version });
+same_fields!(Entry, Entry, Entry { kind, flags, length, offset, country });
 same_fields!(Write, Write, Written { length });
+same_fields!(Letters, Letters, Letters { letters_true });
 same_fields!(Chain, Chain, Chain { length, places });
 same_fields!(Replay, Replay, Replayed { faulty });

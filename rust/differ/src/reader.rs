@@ -38,9 +38,13 @@ macro_rules! reader {
                     Question::Image(image) => $of::image(image).into(),
                     Question::ImageForDay(image, wanted) => $of::image_for_day(image, *wanted).into(),
                     Question::Entry(image, place) => $of::entry(image, *place).into(),
-                    Question::Write { items, kinds, flags, lengths, day, .. } => {
-                        $of::write(items, kinds, flags, lengths, *day, &mut output.octets).into()
+                    Question::Write { items, kinds, flags, lengths, letters, version, day, .. } => {
+                        let out = &mut output.octets;
+                        $of::write(items, kinds, flags, lengths, letters, *version, *day, out).into()
                     }
+                    Question::MoveTo2(image, _) => $of::move_to_2(image, &mut output.octets).into(),
+                    Question::MoveTo1(image, _) => $of::move_to_1(image, &mut output.octets).into(),
+                    Question::Letters(image) => $of::letters(image).into(),
                     Question::Chain { image, table, moment, target } => {
                         $of::chain(image, table, *moment, *target).into()
                     }

@@ -17,6 +17,9 @@ pub fn kind(question: &Question) -> &'static str {
         Question::ImageForDay(..) => "image for day",
         Question::Entry(..) => "entry",
         Question::Write { .. } => "write",
+        Question::MoveTo2(..) => "move to 2",
+        Question::MoveTo1(..) => "move to 1",
+        Question::Letters(_) => "letters",
         Question::Chain { .. } => "chain",
         Question::Replay { .. } => "replay",
     }
@@ -38,13 +41,15 @@ pub fn show(question: &Question) -> String {
         Question::Certificate(item, role) => format!("role {role}, item {}", hex(item)),
         Question::Days(first, second) => format!("first {first}, second {second}"),
         Question::Age(item, day) => format!("day {day}, item {}", hex(item)),
-        Question::Image(image) => format!("image {}", hex(image)),
+        Question::Image(image) | Question::Letters(image) => format!("image {}", hex(image)),
+        Question::MoveTo2(image, room) | Question::MoveTo1(image, room) => format!("room {room}, image {}", hex(image)),
         Question::ImageForDay(image, wanted) => format!("wanted {wanted}, image {}", hex(image)),
         Question::Entry(image, place) => format!("place {place}, image {}", hex(image)),
-        Question::Write { items, kinds, flags, lengths, day, room } => format!(
-            "day {day}, room {room}, kinds {}, flags {}, lengths {lengths:?}, items {}",
+        Question::Write { items, kinds, flags, lengths, letters, version, day, room } => format!(
+            "version {version}, day {day}, room {room}, kinds {}, flags {}, lengths {lengths:?}, letters {}, items {}",
             hex(kinds),
             hex(flags),
+            hex(letters),
             hex(items)
         ),
         Question::Chain { image, table, moment, target } => {

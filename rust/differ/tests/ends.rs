@@ -5,9 +5,11 @@
 
 use differ::{compare, Answer, Library, Plain};
 use make::certificate::{Certificate, ROLES};
+use make::columns::Columns;
 use make::crl::Crl;
 use make::image::Image;
 use make::questions::Question;
+use make::random::Random;
 
 const DAY: u64 = 20240301;
 const MOMENT: u64 = 20240301120000;
@@ -34,13 +36,32 @@ fn numbers(good: &[u64]) -> Vec<u64> {
     numbers
 }
 
+/// Items of these kinds, flags and lengths, to be written without letters.
+fn written(items: &[(u8, u8, u32)], version: u64, day: u64, room: usize) -> Question {
+    Question::Write {
+        items: vec![9; items.iter().map(|item| item.2 as usize).sum::<usize>().min(300)],
+        kinds: items.iter().map(|item| item.0).collect(),
+        flags: items.iter().map(|item| item.1).collect(),
+        lengths: items.iter().map(|item| item.2).collect(),
+        letters: vec![0; 2 * items.len()],
+        version,
+        day,
+        room,
+    }
+}
+
 /// An anchor, a signer, a CRL.
 fn image() -> Vec<u8> {
+    images()[0].clone()
+}
+
+/// The same in both versions.
+fn images() -> [Vec<u8>; 2] {
     let mut made = Image::new(DAY as u32);
     made.add(1, 1, Certificate::typical(1).encode());
     made.add(3, 0, Certificate::typical(3).encode());
-    made.add(4, 0, Crl::typical(2).encode());
-    made.encode()
+    made.add_of(4, 0, *b"UT", Crl::typical(2).encode());
+    [made.encode(), made.of_version(2).encode()]
 }
 
 #[test]
@@ -67,14 +88,8 @@ fn days() {
         ask(Question::Age(crl.clone(), number));
         ask(Question::ImageForDay(image(), number));
         ask(Question::ImageForDay(Vec::new(), number));
-        ask(Question::Write {
-            items: vec![7],
-            kinds: vec![4],
-            flags: vec![0],
-            lengths: vec![1],
-            day: number,
-            room: 30,
-        });
+        ask(written(&[(4, 0, 1)], 1, number, 30));
+        ask(written(&[(4, 0, 1)], 2, number, 30));
     }
     assert!(passes(ask(Question::ImageForDay(image(), DAY))));
 }
@@ -88,11 +103,13 @@ fn every_day_number_of_two_years() {
 
 #[test]
 fn places() {
-    for number in numbers(&[1, 2, 3]) {
-        ask(Question::Entry(image(), number));
+    for image in images() {
+        for number in numbers(&[1, 2, 3]) {
+            ask(Question::Entry(image.clone(), number));
+        }
+        assert_eq!(ask(Question::Entry(image.clone(), 2)).head(), (0, 0));
+        assert_eq!(ask(Question::Entry(image, u64::MAX)).head(), (1, 0));
     }
-    assert_eq!(ask(Question::Entry(image(), 2)).head(), (0, 0));
-    assert_eq!(ask(Question::Entry(image(), u64::MAX)).head(), (1, 0));
 }
 
 #[test]
@@ -116,7 +133,20 @@ fn moments_and_targets() {
 fn columns_of_the_writer() {
     let write = |items: usize, kinds: &[u8], flags: &[u8], lengths: &[u32]| {
         let (items, kinds, flags, lengths) = (vec![9; items], kinds.to_vec(), flags.to_vec(), lengths.to_vec());
-        ask(Question::Write { items, kinds, flags, lengths, day: DAY, room: 300 }).head()
+        let letters = vec![0; 2 * kinds.len()];
+        let question = |version| Question::Write {
+            items: items.clone(),
+            kinds: kinds.clone(),
+            flags: flags.clone(),
+            lengths: lengths.clone(),
+            letters: letters.clone(),
+            version,
+            day: DAY,
+            room: 300,
+        };
+        let head = ask(question(2)).head();
+        assert_eq!(ask(question(1)).head(), head);
+        head
     };
     for kind in 0..=255 {
         for flags in [0, 1, 2, 127, 128, 129, 255] {
@@ -140,6 +170,70 @@ fn columns_of_the_writer() {
 }
 
 #[test]
+fn versions_and_letters_of_the_writer() {
+    for number in numbers(&[1, 2]) {
+        let told = ask(written(&[(4, 0, 1), (1, 1, 2)], number, DAY, 60));
+        assert_eq!(told.head() == (0, 0), number == 1 || number == 2);
+    }
+    let lettered = |letters: Vec<u8>, version| {
+        let (items, kinds, flags, lengths) = (vec![9; 3], vec![4, 1], vec![0, 1], vec![1, 2]);
+        ask(Question::Write { items, kinds, flags, lengths, letters, version, day: DAY, room: 60 }).head()
+    };
+    for octet in 0..=255 {
+        for at in 0..4 {
+            let mut letters = vec![0; 4];
+            letters[at] = octet;
+            assert_eq!(lettered(letters.clone(), 2), (0, 0));
+            assert_eq!(lettered(letters, 1), ((octet != 0) as u64, 0));
+        }
+    }
+    for length in (0..20).chain([255, 256, 257, 260, 65_540]) {
+        assert_eq!(lettered(vec![0; length], 1), ((length != 4) as u64, 0));
+        assert_eq!(lettered(vec![0; length], 2), ((length != 4) as u64, 0));
+    }
+}
+
+/// Each octet of trailer and index with each value, in both versions.
+#[test]
+fn every_octet_of_an_index() {
+    let mut made = Image::new(DAY as u32);
+    made.add_of(1, 1, *b"UT", vec![7; 3]);
+    made.add_of(4, 0, *b"XO", vec![8; 2]);
+    for version in [1, 2] {
+        let good = made.of_version(version).encode();
+        for at in 5..good.len() {
+            for octet in 0..=255 {
+                let mut image = good.clone();
+                image[at] = octet;
+                let room = image.len() + 8;
+                ask(Question::Image(image.clone()));
+                ask(Question::Entry(image.clone(), 1));
+                ask(Question::MoveTo2(image.clone(), room));
+                ask(Question::MoveTo1(image.clone(), room));
+                ask(Question::Letters(image));
+            }
+        }
+    }
+}
+
+#[test]
+fn rooms_of_moves() {
+    let [one, two] = images();
+    for room in (0..40).chain(one.len() - 3..two.len() + 3) {
+        let told = ask(Question::MoveTo2(one.clone(), room));
+        assert_eq!(told.head(), if room < two.len() { (9, 0) } else { (0, 0) });
+        let told = ask(Question::MoveTo1(two.clone(), room));
+        assert_eq!(told.head(), if room < one.len() { (9, 0) } else { (0, 0) });
+        assert_eq!(ask(Question::MoveTo2(two.clone(), room)).head(), (5, 2));
+        assert_eq!(ask(Question::MoveTo1(one.clone(), room)).head(), (5, 2));
+    }
+    assert_eq!(ask(Question::Letters(one)).head(), (5, 2));
+    let Answer::Letters(told) = ask(Question::Letters(two)) else { panic!("another answer") };
+    // The certificates have no letters in this image, though they pass.
+    assert_eq!(told.letters_true, 0);
+}
+
+#[test]
 fn empty_slices() {
     let none = Vec::new;
     let ends = [0, 1, 2, 3, 4, DAY, MOMENT, 1 << 63, u64::MAX];
@@ -147,6 +241,11 @@ fn empty_slices() {
     assert_eq!(ask(Question::Integer(none())).head(), (2, 0));
     assert_eq!(ask(Question::Crl(none())).head(), (2, 0));
     assert_eq!(ask(Question::Image(none())).head(), (5, 1));
+    assert_eq!(ask(Question::Letters(none())).head(), (5, 1));
+    for room in [0, 1, 11, 12, 13] {
+        assert_eq!(ask(Question::MoveTo2(none(), room)).head(), (5, 1));
+        assert_eq!(ask(Question::MoveTo1(none(), room)).head(), (5, 1));
+    }
     let no_entries = Image::new(DAY as u32).encode();
     for number in ends {
         ask(Question::Certificate(none(), number));
@@ -163,12 +262,13 @@ fn empty_slices() {
         }
     }
     // Each slice of the writer empty or not.
-    for empty in 0..16 {
+    for empty in 0..32 {
         let size = |bit: usize| (empty >> bit & 1) ^ 1;
-        for room in [0, 1, 11, 12, 13, 20, 21, 22] {
+        for (room, version) in [0, 1, 11, 12, 13, 20, 21, 22, 25].into_iter().flat_map(|room| [(room, 1), (room, 2)]) {
             for day in ends {
                 let (items, kinds, flags) = (vec![1; size(0)], vec![2; size(1)], vec![0; size(2)]);
-                ask(Question::Write { items, kinds, flags, lengths: vec![1; size(3)], day, room });
+                let (lengths, letters) = (vec![1; size(3)], vec![0; 2 * size(4)]);
+                ask(Question::Write { items, kinds, flags, lengths, letters, version, day, room });
             }
         }
     }
@@ -196,14 +296,10 @@ fn nested(depth: usize) -> Vec<u8> {
     (0..depth).rev().flat_map(|inside| [0x30, 2 * inside as u8]).collect()
 }
 
-/// An image of 16 items that has this many bytes.
-fn large(bytes: usize) -> Image {
-    let mut made = Image::new(DAY as u32);
-    for _ in 0..15 {
-        made.add(4, 0, vec![1; 16_384]);
-    }
-    made.add(4, 0, vec![2; bytes - 12 - 8 * 16 - 15 * 16_384]);
-    made
+/// An image of 16 items that has this many bytes in a version.
+fn large(bytes: usize, version: u16) -> Image {
+    let more = if version == 1 { 4 * 16 } else { 0 };
+    Image::long(&mut Random::new(3), bytes + more).of_version(version)
 }
 
 #[test]
@@ -229,29 +325,58 @@ fn lengths_around_the_limits() {
     }
 }
 
+/// The question that writes an image.
+fn to_write(made: &Image, room: usize) -> Question {
+    let Columns { items, kinds, flags, lengths, letters, version, day } = Columns::of(made);
+    Question::Write { items, kinds, flags, lengths, letters, version, day, room }
+}
+
 #[test]
 fn images_around_the_limits() {
     for (bytes, read, write) in [(262_143, 0, 0), (262_144, 0, 0), (262_145, 5, 3)] {
-        let made = large(bytes);
-        let image = made.encode();
-        assert_eq!(image.len(), bytes);
-        assert_eq!(ask(Question::Image(image.clone())).head().0, read);
-        ask(Question::Entry(image.clone(), 15));
-        ask(Question::Chain { image, table: vec![0; 256], moment: MOMENT, target: 0 });
-        for (room, number) in [(bytes - 1, if write == 0 { 9 } else { write }), (bytes, write), (bytes + 1, write)] {
-            let (items, lengths) = (made.items.concat(), made.lengths());
-            let (kinds, flags) = (made.kinds.clone(), made.flags.clone());
-            let question = Question::Write { items, kinds, flags, lengths, day: DAY, room };
-            assert_eq!(ask(question).head().0, number);
+        for made in [large(bytes, 1), large(bytes, 2)] {
+            let image = made.encode();
+            assert_eq!(image.len(), bytes);
+            assert_eq!(ask(Question::Image(image.clone())).head().0, read);
+            ask(Question::Letters(image.clone()));
+            ask(Question::Entry(image.clone(), 15));
+            ask(Question::Chain { image, table: vec![0; 256], moment: MOMENT, target: 0 });
+            let short = if write == 0 { 9 } else { write };
+            for (room, number) in [(bytes - 1, short), (bytes, write), (bytes + 1, write)] {
+                assert_eq!(ask(to_write(&made, room)).head().0, number);
+            }
         }
     }
+}
+
+#[test]
+fn moves_around_the_limits() {
+    for (bytes, number) in [(262_143, 0), (262_144, 0), (262_145, 3), (262_208, 3)] {
+        let made = large(bytes, 2);
+        let (one, two) = (made.of_version(1).encode(), made.encode());
+        assert_eq!((one.len(), two.len()), (bytes - 64, bytes));
+        let short = if number == 0 { 9 } else { number };
+        for (room, number) in [(bytes - 1, short), (bytes, number), (bytes + 1, number)] {
+            assert_eq!(ask(Question::MoveTo2(one.clone(), room)).head(), (number, 0));
+        }
+        let wanted = if number == 0 { (0, 0) } else { (5, 1) };
+        assert_eq!(ask(Question::MoveTo1(two, bytes)).head(), wanted);
+    }
+}
+
+#[test]
+fn numbers_of_entries() {
     for (entries, read, write) in [(95, 0, 0), (96, 0, 0), (97, 5, 1), (255, 5, 1), (256, 5, 1), (65_535, 5, 1)] {
-        let mut made = Image::new(DAY as u32);
-        (0..entries).for_each(|_| made.add(2, 0, vec![5]));
-        let (items, room) = (made.items.concat(), 9 * entries + 12);
-        assert_eq!(ask(Question::Image(made.encode())).head().0, read);
-        let lengths = made.lengths();
-        let question = Question::Write { items, kinds: made.kinds, flags: made.flags, lengths, day: DAY, room };
-        assert_eq!(ask(question).head().0, write);
+        for (version, width) in [(1, 8), (2, 12)] {
+            let mut made = Image { version, ..Image::new(DAY as u32) };
+            (0..entries).for_each(|_| made.add(2, 0, vec![5]));
+            let image = made.encode();
+            assert_eq!(ask(Question::Image(image.clone())).head().0, read);
+            assert_eq!(ask(to_write(&made, (width + 1) * entries + 12)).head().0, write);
+            let room = 13 * entries + 12;
+            ask(Question::MoveTo2(image.clone(), room));
+            ask(Question::MoveTo1(image.clone(), room));
+            ask(Question::Letters(image));
+        }
     }
 }

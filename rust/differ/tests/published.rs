@@ -188,17 +188,29 @@ fn made_images() -> BTreeMap<String, Made> {
 }
 
 impl Made {
-    /// The library writes the image; what is beyond it stays.
-    fn write(&self) -> Vec<u8> {
+    /// The library writes the image in a version, with the letters of the record; what is beyond it stays.
+    fn write(&self, version: u64) -> Vec<u8> {
         let items: Vec<Vec<u8>> = self.files.iter().map(|file| item("made", file)).collect();
         let lengths: Vec<u32> = items.iter().map(|item| item.len() as u32).collect();
-        let needed = items.concat().len() + 8 * items.len() + 12;
+        let (width, letters) = match version {
+            1 => (8, vec![0; 2 * items.len()]),
+            _ => (12, self.letters().concat()),
+        };
+        let needed = items.concat().len() + width * items.len() + 12;
         let mut out = vec![0xA5; needed + 100];
-        let told = answers::write(&items.concat(), &self.kinds, &self.flags, &lengths, self.day, &mut out);
+        let (items, kinds, flags) = (items.concat(), &self.kinds, &self.flags);
+        let told = answers::write(&items, kinds, flags, &lengths, &letters, version, self.day, &mut out);
         assert_eq!((told.number, told.detail, told.length), (0, 0, needed as u64));
         assert!(out[needed..].iter().all(|&octet| octet == 0xA5));
         out.truncate(needed);
         out
+    }
+
+    /// The letters of each item as the record has them.
+    fn letters(&self) -> Vec<[u8; 2]> {
+        let record = record("made");
+        let of = |file: &String| record[file]["letters"].as_bytes().try_into().expect("two letters");
+        self.files.iter().map(of).collect()
     }
 }
 
@@ -221,27 +233,47 @@ fn made_items_pass() {
 fn made_images_read_back() {
     let images = made_images();
     assert_eq!(images.len(), 2);
-    for made in images.values() {
-        let image = made.write();
+    for (made, version) in images.values().flat_map(|made| [(made, 1), (made, 2)]) {
+        let image = made.write(version);
         let told = answers::image(&image);
         assert_eq!((told.number, told.detail), (0, 0));
-        assert_eq!((told.entries, told.day), (made.files.len() as u64, made.day));
+        assert_eq!((told.entries, told.day, told.version), (made.files.len() as u64, made.day, version));
         assert_eq!(answers::image_for_day(&image, made.day).number, 0);
         assert_eq!(answers::image_for_day(&image, 20261113).number, 6);
         for (place, file) in made.files.iter().enumerate() {
             let told = answers::entry(&image, place as u64);
             assert_eq!((told.number, told.detail), (0, 0));
             assert_eq!((told.kind, told.flags), (made.kinds[place] as u64, made.flags[place] as u64));
+            assert_eq!(told.country, if version == 1 { [0, 0] } else { made.letters()[place] });
             assert_eq!(part(&image, told.offset, told.length), hex(&item("made", file)), "{file}");
         }
         assert_eq!(answers::entry(&image, made.files.len() as u64).number, 1);
     }
 }
 
+/// Moved there and back, and the letters of the record are the true ones.
+#[test]
+fn made_images_move() {
+    for made in made_images().values() {
+        let (one, two) = (made.write(1), made.write(2));
+        let mut out = vec![0xA5; two.len() + 3];
+        assert_eq!(answers::move_to_2(&one, &mut out).length, two.len() as u64);
+        assert_eq!((&out[..two.len()], &out[two.len()..]), (&two[..], &[0xA5; 3][..]));
+        assert_eq!(answers::letters(&two).letters_true, 1);
+        assert_eq!(answers::move_to_1(&two, &mut out).length, one.len() as u64);
+        assert_eq!((&out[..one.len()], &out[one.len()..two.len()]), (&one[..], &two[one.len()..]));
+    }
+}
+
 #[test]
 fn made_chains() {
+    made_chains_of(1);
+    made_chains_of(2);
+}
+
+fn made_chains_of(version: u64) {
     let images = made_images();
-    let written: BTreeMap<&String, Vec<u8>> = images.iter().map(|(name, made)| (name, made.write())).collect();
+    let written: BTreeMap<&String, Vec<u8>> = images.iter().map(|(name, made)| (name, made.write(version))).collect();
     let rows = rows("made", "chains.tsv");
     for row in &rows {
         let name = &row["image"];

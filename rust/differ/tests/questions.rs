@@ -23,7 +23,7 @@ fn main() {
         Err(difference) => panic!("first: the library, second: the plain reader\n{difference}"),
     }
     // What was compared is worth something only where passes and refusals are there.
-    let wanted: [(&str, &[u64]); 12] = [
+    let wanted: [(&str, &[u64]); 15] = [
         ("walk", &[0, 2, 3]),
         ("integer", &[0, 1, 2, 8]),
         ("certificate", &[0, 1, 2, 4]),
@@ -34,6 +34,9 @@ fn main() {
         ("image for day", &[0, 1, 5, 6]),
         ("entry", &[0, 1, 5]),
         ("write", &[0, 1, 3, 9]),
+        ("move to 2", &[0, 3, 5, 9]),
+        ("move to 1", &[0, 5, 9]),
+        ("letters", &[0, 5]),
         ("chain", &[0, 1, 5, 7]),
         ("replay", &[0, 1, 9]),
     ];

@@ -6,6 +6,7 @@
 pub mod certificate;
 pub mod certificate_breaks;
 pub mod change;
+pub mod columns;
 pub mod crl;
 pub mod crl_breaks;
 pub mod der;

@@ -3,6 +3,7 @@
 use crate::certificate::{Certificate, ROLES};
 use crate::certificate_breaks;
 use crate::change::change;
+use crate::columns::Columns;
 use crate::crl::Crl;
 use crate::crl_breaks;
 use crate::der::{self, integer};
@@ -38,9 +39,16 @@ pub enum Question {
         kinds: Vec<u8>,
         flags: Vec<u8>,
         lengths: Vec<u32>,
+        letters: Vec<u8>,
+        version: u64,
         day: u64,
         room: usize,
     },
+    /// An image to be moved to a version, with the length of the lent output.
+    MoveTo2(Vec<u8>, usize),
+    MoveTo1(Vec<u8>, usize),
+    /// An image whose letters are checked.
+    Letters(Vec<u8>),
     Chain {
         image: Vec<u8>,
         table: Vec<u8>,
@@ -91,7 +99,7 @@ impl Source {
     /// The next question.
     #[allow(clippy::should_implement_trait)]
     pub fn next(&mut self) -> Question {
-        match self.random.below(100) {
+        match self.random.below(106) {
             0..=19 => Question::Walk(self.item()),
             20..=25 => Question::Integer(self.integer()),
             26..=49 => self.certificate(),
@@ -103,6 +111,9 @@ impl Source {
             78..=80 => self.entry(),
             81..=83 => self.write(),
             84..=86 => self.replay(),
+            87..=88 => self.move_to_2(),
+            89..=90 => self.move_to_1(),
+            91..=92 => Question::Letters(self.image_of(2)),
             _ => self.chain(),
         }
     }
@@ -257,17 +268,55 @@ impl Source {
             0..=4 => {
                 let most = if random.percent(2) { 2 } else { 1 };
                 for _ in 0..most {
-                    // The way that makes the image too long is rare, since it is large.
-                    let way = random.pick(image::BREAKS);
-                    if way.what != "too long" || random.percent(5) {
-                        (way.apply)(&mut octets, random);
-                    }
+                    damage(&mut octets, random);
                 }
             }
             5 => change(&mut octets, random),
+            6 if random.percent(30) => image::confuse(&mut octets),
             _ => {}
         }
         octets
+    }
+
+    /// An image of real items, mostly of this version, with letters that are true or not; or any image.
+    fn image_of(&mut self, version: u64) -> Vec<u8> {
+        if self.random.percent(30) {
+            return self.image();
+        }
+        let place = self.world();
+        let random = &mut self.random;
+        let version = if random.percent(5) { 3 - version } else { version };
+        let mut image = match version {
+            1 => self.worlds[place].image.clone(),
+            _ => self.worlds[place].lettered.clone(),
+        };
+        match random.below(12) {
+            0..=2 => image::mislead(&mut image, random),
+            3 => damage(&mut image, random),
+            4 => change(&mut image, random),
+            5 => image::confuse(&mut image),
+            6 => image::rename(&mut image, random),
+            _ => {}
+        }
+        image
+    }
+
+    fn move_to_2(&mut self) -> Question {
+        let random = &mut self.random;
+        let image = if random.percent(3) {
+            let bytes = 262_144 + random.between(0, 2) - 1;
+            Image::long(random, bytes).encode()
+        } else {
+            self.image_of(1)
+        };
+        let room = room(&mut self.random, &image, 4);
+        Question::MoveTo2(image, room)
+    }
+
+    fn move_to_1(&mut self) -> Question {
+        let image = self.image_of(2);
+        let room = room(&mut self.random, &image, -4);
+        Question::MoveTo1(image, room)
     }
 
     fn image_for_day(&mut self) -> Question {
@@ -290,41 +339,12 @@ impl Source {
 
     fn write(&mut self) -> Question {
         let random = &mut self.random;
-        let made = Image::varied(random);
-        let mut items = made.items.concat();
-        let (mut kinds, mut flags, mut lengths) = (made.kinds.clone(), made.flags.clone(), made.lengths());
-        if random.percent(1) {
-            // Around 262,144 bytes.
-            lengths = vec![16_384; 16];
-            lengths[15] = 16_384 - 8 * 16 - 12 + random.between(0, 2) as u32 - 1;
-            (kinds, flags) = (vec![4; 16], vec![0; 16]);
-            items = vec![random.octet(); lengths.iter().sum::<u32>() as usize];
-        }
-        let mut day = made.day as u64;
-        match random.below(16) {
-            0 => day = *random.pick(BAD_DAYS),
-            1 => kinds.push(4),
-            2 => flags.push(0),
-            3 => lengths.push(1),
-            4 => items.push(0),
-            5 => wrong_entry(random, &mut kinds, &mut flags, &mut lengths),
-            6 => {
-                let more = 97 - kinds.len().min(97);
-                kinds.resize(kinds.len() + more, 2);
-                flags.resize(flags.len() + more, 0);
-                lengths.resize(lengths.len() + more, 1);
-                items.resize(items.len() + more, 9);
-            }
-            _ => {}
-        }
-        let needed = items.len() + 8 * kinds.len() + 12;
-        let room = match random.below(8) {
-            0 => needed - 1,
-            1 => random.below(needed + 1),
-            2 | 3 => needed + random.below(20),
-            _ => needed,
-        };
-        Question::Write { items, kinds, flags, lengths, day, room }
+        let made = if random.percent(3) { around_the_limit(random) } else { Image::varied(random) };
+        let mut columns = Columns::of(&made);
+        columns.spoil(random);
+        let room = around(random, columns.needed());
+        let Columns { items, kinds, flags, lengths, letters, version, day } = columns;
+        Question::Write { items, kinds, flags, lengths, letters, version, day, room }
     }
 
     fn replay(&mut self) -> Question {
@@ -340,7 +360,8 @@ impl Source {
         Question::Replay { log, room }
     }
 
-    fn chain(&mut self) -> Question {
+    /// The number of a world that is kept.
+    fn world(&mut self) -> usize {
         let random = &mut self.random;
         if self.worlds.len() < WORLDS {
             self.worlds.push(World::varied(random));
@@ -348,8 +369,18 @@ impl Source {
             let place = random.below(WORLDS);
             self.worlds[place] = World::varied(random);
         }
-        let world = random.pick(&self.worlds);
-        let mut image = world.image.clone();
+        random.below(self.worlds.len())
+    }
+
+    fn chain(&mut self) -> Question {
+        let world = self.world();
+        let random = &mut self.random;
+        let world = &self.worlds[world];
+        let mut image = if random.percent(50) { world.image.clone() } else { world.lettered.clone() };
+        // What the letters say is nothing to a chain.
+        if random.percent(20) {
+            image::mislead(&mut image, random);
+        }
         if random.percent(2) {
             (random.pick(&image::BREAKS[2..]).apply)(&mut image, random);
         }
@@ -360,18 +391,37 @@ impl Source {
     }
 }
 
-/// Puts one field out of its range.
-fn wrong_entry(random: &mut Random, kinds: &mut [u8], flags: &mut [u8], lengths: &mut [u32]) {
-    if kinds.is_empty() {
-        return;
+/// Breaks a rule. The way that makes the image too long is rare, since it is large.
+fn damage(image: &mut Vec<u8>, random: &mut Random) {
+    let ways = if image::width(image) == 12 && random.percent(10) { image::BREAKS_OF_2 } else { image::BREAKS };
+    let way = random.pick(ways);
+    if way.what != "too long" || random.percent(5) {
+        (way.apply)(image, random);
     }
-    let place = random.below(kinds.len());
-    match random.below(4) {
-        0 => kinds[place] = *random.pick(&[0, 5, 255]),
-        1 => flags[place] = *random.pick(&[1, 2, 255]),
-        2 => lengths[place] = *random.pick(&[0, 16_385, 65_536, u32::MAX]),
-        _ => lengths[place] += 65_536,
+}
+
+/// An image of either version with about 262,144 bytes.
+fn around_the_limit(random: &mut Random) -> Image {
+    let (bytes, version) = (262_144 + random.between(0, 2) - 1, random.between(1, 2));
+    let more = if version == 1 { 4 * 16 } else { 0 };
+    Image::long(random, bytes + more).of_version(version as u16)
+}
+
+/// A length of the lent output: short of what is needed, just so, or longer.
+fn around(random: &mut Random, needed: usize) -> usize {
+    match random.below(8) {
+        0 => needed - 1,
+        1 => random.below(needed + 1),
+        2 | 3 => needed + random.below(20),
+        _ => needed,
     }
+}
+
+/// A length of the lent output for a move that makes each entry so much longer.
+fn room(random: &mut Random, image: &[u8], more: isize) -> usize {
+    let at = image.len().saturating_sub(8);
+    let entries = image.get(at..at + 2).map_or(0, |octets| u16::from_be_bytes([octets[0], octets[1]]).min(96) as isize);
+    around(random, image.len().saturating_add_signed(more * entries).max(12))
 }
 
 /// A moment: the usual one, an end of some item's times or beside it, or none.

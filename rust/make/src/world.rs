@@ -23,6 +23,8 @@ pub const MOMENT: u64 = 20240301120000;
 #[derive(Clone, Debug)]
 pub struct World {
     pub image: Vec<u8>,
+    /// The same image in version 2, with the true letters.
+    pub lettered: Vec<u8>,
     pub kinds: Vec<u8>,
     /// The verdicts that true signatures would give.
     pub truth: Vec<u8>,
@@ -44,9 +46,22 @@ struct Item {
     kind: u8,
     flags: u8,
     octets: Vec<u8>,
+    /// Its rules are kept, whatever its times are.
+    sound: bool,
     signer: Authority,
     /// The authority that an anchor or link is.
     own: Option<Authority>,
+}
+
+impl Item {
+    /// The true letters: its issuer's, or none where it breaks a rule.
+    fn letters(&self) -> [u8; 2] {
+        let issuer = &self.signer.name[LETTERS];
+        match self.sound {
+            true => [issuer[0], issuer[1]],
+            false => [0, 0],
+        }
+    }
 }
 
 /// How many items of each kind a world has, and how often something is wrong.
@@ -212,14 +227,14 @@ impl<'a> Maker<'a> {
         let wrong = self.random.percent(self.plan.wrong);
         let (first, last) = self.times(wrong);
         moments.extend([first, last]);
-        let octets = if kind == CRL {
+        let (octets, sound) = if kind == CRL {
             self.crl(&signer, first, last, wrong)
         } else {
             self.certificate(kind, &signer, &own, (first, last), wrong)
         };
         let enabled = !wrong || self.random.percent(50);
         let is_authority = kind == ANCHOR || kind == LINK;
-        Item { kind, flags: (kind == ANCHOR && enabled) as u8, octets, signer, own: is_authority.then_some(own) }
+        Item { kind, flags: (kind == ANCHOR && enabled) as u8, octets, sound, signer, own: is_authority.then_some(own) }
     }
 
     /// Times around the moment; some touch it, some of the wrong ones miss it.
@@ -248,6 +263,7 @@ impl<'a> Maker<'a> {
         self.serial()
     }
 
+    /// A certificate, and whether it keeps its rules.
     fn certificate(
         &mut self,
         kind: u8,
@@ -255,7 +271,7 @@ impl<'a> Maker<'a> {
         own: &Authority,
         times: (u64, u64),
         wrong: bool,
-    ) -> Vec<u8> {
+    ) -> (Vec<u8>, bool) {
         let serial = self.serial();
         self.serials.push(serial.clone());
         let mut made = Certificate::new(&certificate::Parameters {
@@ -270,14 +286,16 @@ impl<'a> Maker<'a> {
         });
         // One country in both names: the subject's letters are the signer's.
         made.subject[LETTERS].copy_from_slice(&signer.name[LETTERS]);
-        if wrong && self.random.percent(40) {
+        let broken = wrong && self.random.percent(40);
+        if broken {
             let ways = certificate_breaks::ways(kind as u64);
             (self.random.pick(&ways).apply)(&mut made, self.random);
         }
-        made.encode()
+        (made.encode(), !broken)
     }
 
-    fn crl(&mut self, signer: &Authority, first: u64, last: u64, wrong: bool) -> Vec<u8> {
+    /// A CRL, and whether it keeps its rules.
+    fn crl(&mut self, signer: &Authority, first: u64, last: u64, wrong: bool) -> (Vec<u8>, bool) {
         let entries = if self.plan.lists { *self.random.pick(&[0, 0, 3, 20]) } else { 0 };
         let mut made = Crl::new(&crl::Parameters {
             issuer: signer.name.clone(),
@@ -286,11 +304,12 @@ impl<'a> Maker<'a> {
             serials: (0..entries).map(|_| self.listed()).collect(),
             authority_key_id: signer.key.clone(),
         });
-        if wrong && self.random.percent(40) {
+        let broken = wrong && self.random.percent(40);
+        if broken {
             let ways = crl_breaks::ways();
             (self.random.pick(&ways).apply)(&mut made, self.random);
         }
-        made.encode()
+        (made.encode(), !broken)
     }
 }
 
@@ -300,11 +319,11 @@ fn pack(items: Vec<Item>, moments: Vec<u64>, alike: bool) -> World {
     let mut bytes = 12;
     let mut taken = Vec::with_capacity(items.len());
     for item in items {
-        bytes += item.octets.len() + 8;
+        bytes += item.octets.len() + 12;
         if bytes > 262_144 || taken.len() == 96 {
             break;
         }
-        image.add(item.kind, item.flags, item.octets.clone());
+        image.add_of(item.kind, item.flags, item.letters(), item.octets.clone());
         taken.push(item);
     }
     let mut truth = Vec::with_capacity(taken.len() * taken.len());
@@ -314,5 +333,6 @@ fn pack(items: Vec<Item>, moments: Vec<u64>, alike: bool) -> World {
             truth.push((signs && (column.kind != ANCHOR || row.kind == ANCHOR)) as u8);
         }
     }
-    World { image: image.encode(), kinds: image.kinds, truth, alike, moments }
+    let lettered = image.of_version(2).encode();
+    World { image: image.encode(), lettered, kinds: image.kinds, truth, alike, moments }
 }

@@ -1,14 +1,13 @@
-//! The trust image: reading and writing.
+//! Reading a trust image.
 
 use crate::calendar::day_real;
 use crate::der::ITEM_LIMIT;
 use crate::refusal::Refusal;
 
-pub(crate) const ENTRY: usize = 8;
 pub(crate) const TRAILER: usize = 12;
 /// The most entries.
 pub(crate) const PLACES: usize = 96;
-const IMAGE_LIMIT: usize = 262_144;
+pub(crate) const IMAGE_LIMIT: usize = 262_144;
 
 pub(crate) const ANCHOR: u8 = 1;
 pub(crate) const LINK: u8 = 2;
@@ -23,6 +22,8 @@ pub struct Image {
     pub entries: u64,
     /// YYYYMMDD.
     pub day: u64,
+    /// 1 or 2.
+    pub version: u64,
 }
 
 /// The answer about one entry.
@@ -34,15 +35,8 @@ pub struct Entry {
     pub flags: u64,
     pub length: u64,
     pub offset: u64,
-}
-
-/// The writer's answer.
-#[derive(Clone, Copy, Debug, Default, PartialEq, Eq)]
-pub struct Written {
-    pub number: u64,
-    pub detail: u64,
-    /// The image's length.
-    pub length: u64,
+    /// The letters in the index; zeros in version 1.
+    pub country: [u8; 2],
 }
 
 /// Judges an image.
@@ -61,7 +55,9 @@ pub fn image_for_day(image: &[u8], wanted: u64) -> Image {
 
 fn image_answer(read: Result<Open, Refusal>) -> Image {
     match read {
-        Ok(open) => Image { number: 0, detail: 0, entries: open.entries as u64, day: open.day },
+        Ok(open) => {
+            Image { number: 0, detail: 0, entries: open.entries as u64, day: open.day, version: open.version as u64 }
+        }
         Err(Refusal { number, detail }) => Image { number, detail, ..Image::default() },
     }
 }
@@ -83,8 +79,19 @@ pub fn entry(image: &[u8], place: u64) -> Entry {
             flags: line.flags as u64,
             length: line.length as u64,
             offset: line.offset as u64,
+            country: line.country,
         },
         Err(Refusal { number, detail }) => Entry { number, detail, ..Entry::default() },
+    }
+}
+
+/// The octets of an index entry.
+#[inline(always)]
+pub(crate) fn width(version: u16) -> usize {
+    if version == 2 {
+        12
+    } else {
+        8
     }
 }
 
@@ -94,6 +101,7 @@ pub(crate) struct Open<'a> {
     pub image: &'a [u8],
     pub entries: usize,
     pub day: u64,
+    pub version: u16,
     index: &'a [u8],
 }
 
@@ -104,20 +112,23 @@ pub(crate) struct Line {
     pub flags: u8,
     pub length: usize,
     pub offset: usize,
+    pub country: [u8; 2],
+    /// What stands behind the letters.
+    padding: [u8; 2],
 }
 
 impl Line {
     #[inline(always)]
     fn of(octets: &[u8]) -> Line {
-        match *octets {
-            [kind, flags, l0, l1, o0, o1, o2, o3] => Line {
-                kind,
-                flags,
-                length: u16::from_be_bytes([l0, l1]) as usize,
-                offset: u32::from_be_bytes([o0, o1, o2, o3]) as usize,
-            },
-            _ => unreachable!("an index entry has 8 octets"),
-        }
+        let (kind, flags, length, offset, [first, second, padding @ ..]) = match *octets {
+            [kind, flags, l0, l1, o0, o1, o2, o3] => (kind, flags, [l0, l1], [o0, o1, o2, o3], [0; 4]),
+            [kind, flags, l0, l1, o0, o1, o2, o3, c0, c1, p0, p1] => {
+                (kind, flags, [l0, l1], [o0, o1, o2, o3], [c0, c1, p0, p1])
+            }
+            _ => unreachable!("an index entry has 8 or 12 octets"),
+        };
+        let (length, offset) = (u16::from_be_bytes(length) as usize, u32::from_be_bytes(offset) as usize);
+        Line { kind, flags, length, offset, country: [first, second], padding }
     }
 }
 
@@ -125,7 +136,8 @@ impl<'a> Open<'a> {
     /// The index entry at a place.
     #[inline(always)]
     pub fn line(&self, place: usize) -> Line {
-        Line::of(&self.index[ENTRY * place..ENTRY * place + ENTRY])
+        let width = width(self.version);
+        Line::of(&self.index[width * place..width * (place + 1)])
     }
 
     /// The item at a place.
@@ -134,11 +146,16 @@ impl<'a> Open<'a> {
         let line = self.line(place);
         &self.image[line.offset..line.offset + line.length]
     }
+
+    /// All items, back to back.
+    pub fn packed(&self) -> &'a [u8] {
+        &self.image[..self.image.len() - TRAILER - self.index.len()]
+    }
 }
 
 /// Whether kind and flags may stand together.
 #[inline(always)]
-fn kind_and_flags_good(kind: u8, flags: u8) -> bool {
+pub(crate) fn kind_and_flags_good(kind: u8, flags: u8) -> bool {
     match kind {
         ANCHOR => flags <= 1,
         LINK | SIGNER | CRL => flags == 0,
@@ -146,8 +163,20 @@ fn kind_and_flags_good(kind: u8, flags: u8) -> bool {
     }
 }
 
-/// The image rules in order.
+/// An image of either version.
+#[inline(always)]
 pub(crate) fn read(image: &[u8]) -> Result<Open<'_>, Refusal> {
+    read_of(image, |version| version == 1 || version == 2)
+}
+
+/// An image of one version: rule 2 is broken by any other.
+pub(crate) fn read_as(image: &[u8], wanted: u16) -> Result<Open<'_>, Refusal> {
+    read_of(image, |version| version == wanted)
+}
+
+/// The image rules in order.
+#[inline(always)]
+fn read_of(image: &[u8], version_good: impl Fn(u16) -> bool) -> Result<Open<'_>, Refusal> {
     let broken = |rule| Err(Refusal::image(rule));
     // 1: 12 to 262,144 bytes.
     if image.len() < TRAILER || image.len() > IMAGE_LIMIT {
@@ -156,9 +185,9 @@ pub(crate) fn read(image: &[u8]) -> Result<Open<'_>, Refusal> {
     let (before, trailer) = image.split_at(image.len() - TRAILER);
     let number = |at: usize| u32::from_be_bytes([trailer[at], trailer[at + 1], trailer[at + 2], trailer[at + 3]]);
     let (start, day) = (number(0) as u64, number(8) as u64);
-    let entries = (number(4) >> 16) as usize;
-    // 2: version 1.
-    if number(4) & 0xFFFF != 1 {
+    let (entries, version) = ((number(4) >> 16) as usize, number(4) as u16);
+    // 2: a version that is read.
+    if !version_good(version) {
         return broken(2);
     }
     // 3: at most 96 entries.
@@ -170,80 +199,31 @@ pub(crate) fn read(image: &[u8]) -> Result<Open<'_>, Refusal> {
         return broken(4);
     }
     // 5: the index fills the bytes between the items and the trailer.
-    if start + (ENTRY * entries) as u64 != before.len() as u64 {
+    if start + (width(version) * entries) as u64 != before.len() as u64 {
         return broken(5);
     }
     let index = &before[start as usize..];
-    // 6: each entry; its offset is the sum of the lengths before it.
+    // 6: each entry; 7: all lengths sum to the index start.
+    let sum = if version == 2 { summed::<12>(index) } else { summed::<8>(index) };
+    match sum {
+        None => broken(6),
+        Some(sum) if sum as u64 != start => broken(7),
+        Some(_) => Ok(Open { image, entries, day, version, index }),
+    }
+}
+
+/// The sum of all lengths, where every entry is good: its offset is the sum of the lengths before it, and behind the
+/// letters stand zeros. The letters themselves are free.
+fn summed<const WIDTH: usize>(index: &[u8]) -> Option<usize> {
     let mut sum = 0;
-    for octets in index.chunks_exact(ENTRY) {
+    for octets in index.chunks_exact(WIDTH) {
         let line = Line::of(octets);
         let length_good = line.length >= 1 && line.length <= ITEM_LIMIT;
-        if !kind_and_flags_good(line.kind, line.flags) || !length_good || line.offset != sum {
-            return broken(6);
+        let fields_good = kind_and_flags_good(line.kind, line.flags) && length_good;
+        if !fields_good || line.offset != sum || line.padding != [0, 0] {
+            return None;
         }
         sum += line.length;
     }
-    // 7: all lengths sum to the index start.
-    if sum as u64 != start {
-        return broken(7);
-    }
-    Ok(Open { image, entries, day, index })
-}
-
-/// Writes an image of packed items. Refusals in order: 1, 3, 9.
-pub fn write(items: &[u8], kinds: &[u8], flags: &[u8], lengths: &[u32], day: u64, out: &mut [u8]) -> Written {
-    match written_length(items, kinds, flags, lengths, day) {
-        Ok(length) if length > out.len() => {
-            Written { number: Refusal::OUTPUT.number, detail: Refusal::OUTPUT.detail, length: 0 }
-        }
-        Ok(length) => {
-            fill(items, kinds, flags, lengths, day, &mut out[..length]);
-            Written { number: 0, detail: 0, length: length as u64 }
-        }
-        Err(Refusal { number, detail }) => Written { number, detail, length: 0 },
-    }
-}
-
-/// The written image's length, if the arguments are good (1) and it is not too long (3).
-fn written_length(items: &[u8], kinds: &[u8], flags: &[u8], lengths: &[u32], day: u64) -> Result<usize, Refusal> {
-    let entries = kinds.len();
-    let equally_many = flags.len() == entries && lengths.len() == entries;
-    if entries > PLACES || !equally_many || !day_real(day) {
-        return Err(Refusal::ARGUMENT);
-    }
-    let mut sum = 0;
-    for ((&kind, &flags), &length) in kinds.iter().zip(flags).zip(lengths) {
-        if !kind_and_flags_good(kind, flags) || length < 1 || length as usize > ITEM_LIMIT {
-            return Err(Refusal::ARGUMENT);
-        }
-        sum += length as usize;
-    }
-    if sum != items.len() {
-        return Err(Refusal::ARGUMENT);
-    }
-    let length = sum + ENTRY * entries + TRAILER;
-    if length > IMAGE_LIMIT {
-        return Err(Refusal::TOO_LONG);
-    }
-    Ok(length)
-}
-
-/// Fills `out`, which is as long as the image, from good arguments.
-fn fill(items: &[u8], kinds: &[u8], flags: &[u8], lengths: &[u32], day: u64, out: &mut [u8]) {
-    let (packed, rest) = out.split_at_mut(items.len());
-    packed.copy_from_slice(items);
-    let (index, trailer) = rest.split_at_mut(ENTRY * kinds.len());
-    let mut offset = 0u32;
-    for (place, line) in index.chunks_exact_mut(ENTRY).enumerate() {
-        line[0] = kinds[place];
-        line[1] = flags[place];
-        line[2..4].copy_from_slice(&(lengths[place] as u16).to_be_bytes());
-        line[4..8].copy_from_slice(&offset.to_be_bytes());
-        offset += lengths[place];
-    }
-    trailer[0..4].copy_from_slice(&(items.len() as u32).to_be_bytes());
-    trailer[4..6].copy_from_slice(&(kinds.len() as u16).to_be_bytes());
-    trailer[6..8].copy_from_slice(&1u16.to_be_bytes());
-    trailer[8..12].copy_from_slice(&(day as u32).to_be_bytes());
+    Some(sum)
 }

@@ -18,12 +18,28 @@ fn ask(question: &Question) -> (&'static str, u64, u64) {
         Question::Crl(item) => answer("crl", crl(item).number, crl(item).detail),
         Question::Days(first, second) => answer("days", plain::day_difference(*first, *second).number, 0),
         Question::Age(item, day) => answer("age", plain::crl_age(item, *day).number, 0),
-        Question::Image(octets) => answer("image", image(octets).number, image(octets).detail),
+        Question::Image(octets) => {
+            let told = image(octets);
+            answer("image", told.number, if told.number == 0 { told.version } else { told.detail })
+        }
         Question::ImageForDay(octets, day) => answer("day", plain::image_for_day(octets, *day).number, 0),
         Question::Entry(octets, place) => answer("entry", entry(octets, *place).number, 0),
-        Question::Write { items, kinds, flags, lengths, day, room } => {
+        Question::Write { items, kinds, flags, lengths, letters, version, day, room } => {
             let mut out = vec![0xA5; *room];
-            answer("write", plain::write(items, kinds, flags, lengths, *day, &mut out).number, 0)
+            let told = plain::write(items, kinds, flags, lengths, letters, *version, *day, &mut out);
+            answer("write", told.number, if told.number == 0 { *version } else { 0 })
+        }
+        Question::MoveTo2(image, room) => {
+            let told = plain::move_to_2(image, &mut vec![0xA5; *room]);
+            answer("move to 2", told.number, told.detail)
+        }
+        Question::MoveTo1(image, room) => {
+            let told = plain::move_to_1(image, &mut vec![0xA5; *room]);
+            answer("move to 1", told.number, told.detail)
+        }
+        Question::Letters(image) => {
+            let told = plain::letters(image);
+            answer("letters", told.number, if told.number == 0 { told.letters_true } else { told.detail })
         }
         Question::Chain { image, table, moment, target } => {
             let found = chain(image, table, *moment, *target);
@@ -53,11 +69,17 @@ fn every_answer_is_reached() {
     wanted.extend((1..=8).map(|rule| ("crl", 4, rule)));
     wanted.extend([0, 1].map(|number| ("days", number, 0)));
     wanted.extend([0, 1, 2, 4].map(|number| ("age", number, 0)));
-    wanted.push(("image", 0, 0));
-    wanted.extend((1..=7).map(|rule| ("image", 5, rule)));
+    wanted.extend([("image", 0, 1), ("image", 0, 2)]);
+    for name in ["image", "move to 2", "move to 1", "letters"] {
+        wanted.extend((1..=7).map(|rule| (name, 5, rule)));
+    }
+    wanted.extend([0, 3, 9].map(|number| ("move to 2", number, 0)));
+    wanted.extend([0, 9].map(|number| ("move to 1", number, 0)));
+    wanted.extend([0, 1].map(|letters_true| ("letters", 0, letters_true)));
     wanted.extend([0, 1, 5, 6].map(|number| ("day", number, 0)));
     wanted.extend([0, 1, 5].map(|number| ("entry", number, 0)));
-    wanted.extend([0, 1, 3, 9].map(|number| ("write", number, 0)));
+    wanted.extend([("write", 0, 1), ("write", 0, 2)]);
+    wanted.extend([1, 3, 9].map(|number| ("write", number, 0)));
     wanted.extend([("chain", 1, 0), ("chain", 7, 0)]);
     wanted.extend([0, 1, 9].map(|number| ("replay", number, 0)));
     wanted.extend((2..=7).map(|length| ("chain", 0, length)));

@@ -60,12 +60,12 @@ const CRL: [&str; 8] = [
 
 const IMAGE: [&str; 7] = [
     "The image has 12 to 262,144 bytes.",
-    "The version in the trailer is 1.",
+    "The version in the trailer is 1 or 2.",
     "There are at most 96 entries.",
     "The day in the trailer is real and of 1950 to 2099.",
-    "Index start, 8 bytes for each entry and the 12 of the trailer add up to the length of the image.",
+    "Index start, 8 bytes for each entry, in version 2 12, and the 12 of the trailer add up to the length of the image.",
     "Each entry has a kind of 1 to 4, flags of that kind, a length of 1 to 16,384, and the sum of the lengths before it \
-     as its offset.",
+     as its offset; in version 2 the two bytes behind its letters are zeros.",
     "The lengths of all items add up to the index start.",
 ];
 

@@ -12,6 +12,7 @@ mod facts;
 mod fault;
 mod files;
 mod json;
+mod letters;
 mod names;
 mod oids;
 mod pem;

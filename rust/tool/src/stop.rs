@@ -1,7 +1,7 @@
 //! A command that cannot answer: an exit status, and words for standard error.
 
 pub const USAGE: u8 = 64;
-/// A log with a faulty record: an answer, and no refusal.
+/// A log with a faulty record, or letters that are not true: an answer, and no refusal.
 pub const FAULTY: u8 = 65;
 pub const NO_INPUT: u8 = 66;
 pub const CANNOT_WRITE: u8 = 73;

@@ -73,6 +73,28 @@ fn images() {
 }
 
 #[test]
+fn versions() {
+    let bench = Bench::new("expected-versions");
+    bench.pack("yesterday");
+    held("convert.txt", &bench.line("convert yesterday.image two.image --to 2"));
+    held("convert-again.txt", &bench.line("convert two.image three.image --to 2"));
+    held("convert-back-json.txt", &bench.line("convert two.image one.image --to 1 --json"));
+    held("image-letters.txt", &bench.line("image two.image --letters"));
+    held("image-letters-refused.txt", &bench.line("image one.image --letters"));
+    let small =
+        format!("--anchor {MADE}/xo-anchor-1.der --signer {MADE}/ut-anchor-1.der --crl {MADE}/ut-crl-today.der");
+    held("pack-2.txt", &bench.line(&format!("pack small.image --day 20261115 --version 2 {small}")));
+    let mut bad = bench.read("small.image");
+    let index = bad.len() - 12 - 3 * 12;
+    bad[index + 8..index + 10].copy_from_slice(b"UT");
+    bad[index + 20..index + 22].copy_from_slice(b"UT");
+    bad[index + 32..index + 34].copy_from_slice(&[0x7f, 0]);
+    bench.write("bad.image", &bad);
+    held("image-letters-false.txt", &bench.line("image bad.image --letters"));
+    held("image-letters-json.txt", &bench.line("image bad.image --letters --json"));
+}
+
+#[test]
 fn chains() {
     let bench = Bench::new("expected-chains");
     bench.pack("today");

@@ -6,7 +6,7 @@ use common::Bench;
 use make::questions::{Question, Source};
 use make::random::Random;
 
-const STATUSES: [i32; 11] = [0, 1, 2, 3, 4, 5, 6, 7, 64, 66, 73];
+const STATUSES: [i32; 12] = [0, 1, 2, 3, 4, 5, 6, 7, 64, 65, 66, 73];
 const KINDS: [&str; 4] = ["anchor", "link", "signer", "crl"];
 
 #[test]
@@ -28,6 +28,18 @@ fn questions_get_the_answer_of_the_library() {
             Question::ImageForDay(image, day) => {
                 (format!("image x --day {day}"), image.clone(), vrbolist::image_for_day(&image, day).err())
             }
+            Question::MoveTo2(image, _) => {
+                let told = vrbolist::move_to_2(&image, &mut [0; 262_144]).err();
+                ("convert x y --to 2 --force".to_string(), image, told)
+            }
+            Question::MoveTo1(image, _) => {
+                let told = vrbolist::move_to_1(&image, &mut [0; 262_144]).err();
+                ("convert x y --to 1 --force".to_string(), image, told)
+            }
+            Question::Letters(image) if !matches!(vrbolist::letters(&image), Ok(false)) => {
+                let told = vrbolist::image(&image).err().or(vrbolist::letters(&image).err());
+                ("image x --letters".to_string(), image, told)
+            }
             _ => continue,
         };
         bench.write("x", &file);
@@ -39,12 +51,13 @@ fn questions_get_the_answer_of_the_library() {
 }
 
 fn words(random: &mut Random) -> Vec<Vec<u8>> {
-    const WORDS: [&str; 34] = [
+    const WORDS: [&str; 39] = [
         "item",
         "walk",
         "image",
         "pack",
         "unpack",
+        "convert",
         "chain",
         "days",
         "age",
@@ -66,6 +79,10 @@ fn words(random: &mut Random) -> Vec<Vec<u8>> {
         "20261115120000",
         "--signer",
         "all",
+        "--version",
+        "--to",
+        "--letters",
+        "2",
         "3",
         "x",
         "y",
@@ -79,7 +96,7 @@ fn words(random: &mut Random) -> Vec<Vec<u8>> {
     for place in 0..random.between(1, 9) {
         out.push(match random.below(12) {
             0 => random.octets(5).into_iter().filter(|b| *b != 0 && *b != b'/').collect(),
-            _ if place == 0 => WORDS[random.below(9)].into(),
+            _ if place == 0 => WORDS[random.below(10)].into(),
             _ => WORDS[random.below(WORDS.len())].into(),
         });
     }
@@ -114,8 +131,13 @@ fn random_files_and_words_never_crash() {
         bench.write("x", &file(&mut random, &mut source));
         let line: Vec<std::ffi::OsString> = match turn % 3 {
             0 => {
-                let command =
-                    *random.pick(&["walk x", "image x", "item x --as crl", "item x --as anchor", "age x 20261115"]);
+                let command = *random.pick(&[
+                    "walk x",
+                    "image x --letters",
+                    "item x --as crl",
+                    "item x --as anchor",
+                    "age x 20261115",
+                ]);
                 let json = if random.percent(30) { " --json" } else { "" };
                 format!("{command}{json}").split_whitespace().map(Into::into).collect()
             }

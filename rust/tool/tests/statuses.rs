@@ -114,6 +114,15 @@ fn refusal_3_of_an_image() {
     let run = bench.status(&format!("pack long.image --day 20261115 {}", "--crl long.der ".repeat(16)), 3);
     assert!(run.out.contains("262,144"), "{}", run.out);
     bench.status(&format!("pack long.image --day 20261115 {}", "--crl long.der ".repeat(15)), 0);
+    // Version 1 fits just so, version 2 does not.
+    bench.write("rest.der", &vec![0x30; 16_384 - 16 * 8 - 12]);
+    let items = format!("--crl rest.der {}", "--crl long.der ".repeat(15));
+    bench.status(&format!("pack full.image --day 20261115 {items}"), 0);
+    assert_eq!(bench.read("full.image").len(), 262_144);
+    let run = bench.status("convert full.image fuller.image --to 2", 3);
+    assert!(run.out.contains("262,144"), "{}", run.out);
+    bench.status(&format!("pack fuller.image --day 20261115 --version 2 {items}"), 3);
+    assert!(!bench.folder.join("fuller.image").exists());
 }
 
 #[test]
@@ -161,19 +170,27 @@ fn published_items_get_their_stored_answers() {
 fn refusal_5_tells_every_rule() {
     let bench = Bench::new("image-rules");
     bench.pack("today");
-    let good = bench.read("today.image");
-    let end = good.len();
-    let index = end - 12 - 13 * 8;
-    let cases: [(usize, u8, u64); 6] =
-        [(end - 5, 2, 2), (end - 7, 97, 3), (end - 1, 99, 4), (end - 9, 0, 5), (index, 9, 6), (index + 1, 2, 6)];
-    for (at, value, rule) in cases {
-        let mut bad = good.clone();
-        bad[at] = value;
-        bench.write("bad.image", &bad);
-        let run = bench.status("image bad.image", 5);
-        assert!(run.out.contains(&format!("rule {rule} of the trust image")), "{rule}: {}", run.out);
-        bench.status("unpack bad.image items", 5);
-        bench.status("chain bad.image --table today.table --at 20261115120000 --signer all", 5);
+    bench.status("convert today.image lettered.image --to 2", 0);
+    for (name, width) in [("today.image", 8), ("lettered.image", 12)] {
+        let good = bench.read(name);
+        let end = good.len();
+        let index = end - 12 - 13 * width;
+        let mut cases: Vec<(usize, u8, u64)> =
+            vec![(end - 5, 3, 2), (end - 7, 97, 3), (end - 1, 99, 4), (end - 9, 0, 5)];
+        cases.extend([(end - 5, if width == 8 { 2 } else { 1 }, 5), (index, 9, 6), (index + 1, 2, 6)]);
+        cases.extend([(index + 10, 1, 6), (index + 11, 255, 6)].into_iter().filter(|_| width == 12));
+        for (at, value, rule) in cases {
+            let mut bad = good.clone();
+            bad[at] = value;
+            bench.write("bad.image", &bad);
+            let run = bench.status("image bad.image", 5);
+            assert!(run.out.contains(&format!("rule {rule} of the trust image")), "{rule}: {}", run.out);
+            bench.status("unpack bad.image items", 5);
+            bench.status("image bad.image --letters", 5);
+            bench.status("convert bad.image other.image --to 1", 5);
+            bench.status("convert bad.image other.image --to 2", 5);
+            bench.status("chain bad.image --table today.table --at 20261115120000 --signer all", 5);
+        }
     }
     bench.write("bad.image", b"short");
     let run = bench.status("image bad.image", 5);
@@ -181,7 +198,68 @@ fn refusal_5_tells_every_rule() {
     bench.write("bad.image", &[&[0u8][..], &[0, 0, 0, 1, 0, 0, 0, 1, 1, 0x34, 0xd7, 0xad]].concat());
     let run = bench.status("image bad.image", 5);
     assert!(run.out.contains("rule 7 of the trust image"), "{}", run.out);
-    assert!(!bench.folder.join("items").exists());
+    assert!(!bench.folder.join("items").exists() && !bench.folder.join("other.image").exists());
+}
+
+#[test]
+fn versions() {
+    let bench = Bench::new("versions");
+    bench.pack("today");
+    bench.status("convert today.image two.image --to 2", 0);
+    bench.status("convert two.image one.image --to 1", 0);
+    assert_eq!(bench.read("one.image"), bench.read("today.image"));
+    assert_eq!(bench.read("two.image").len(), bench.read("one.image").len() + 13 * 4);
+    bench.status("image two.image --letters --day 20261115", 0);
+    bench.status("image two.image --letters --day 20261114", 6);
+    let ask =
+        |image: &str| bench.line(&format!("chain {image} --table today.table --at 20261115120000 --signer all")).out;
+    assert_eq!(ask("one.image"), ask("two.image"));
+    // Each in the version that it has already, and the check of version 1.
+    let run = bench.status("convert two.image other.image --to 2", 5);
+    assert!(run.out.contains("detail 2") && run.out.contains("of version 2 already"), "{}", run.out);
+    let run = bench.status("convert one.image other.image --to 1", 5);
+    assert!(run.out.contains("detail 2") && run.out.contains("of version 1 already"), "{}", run.out);
+    let run = bench.status("image one.image --letters", 5);
+    assert!(run.out.contains("detail 2") && run.out.contains("version has to be 2"), "{}", run.out);
+    bench.status("convert one.image other.image --to 3", 64);
+    bench.status("convert one.image two.image --to 2", 73);
+    bench.status("convert one.image two.image --to 2 --force", 0);
+    let run = bench.status("pack other.image --day 20261115 --version 3", 1);
+    assert!(run.out.contains("There is no version 3"), "{}", run.out);
+    assert!(!bench.folder.join("other.image").exists());
+}
+
+#[test]
+fn packed_in_version_2() {
+    let bench = Bench::new("packed-2");
+    let items =
+        format!("--anchor {MADE}/xo-anchor-1.der --signer {MADE}/ut-anchor-1.der --crl {MADE}/ut-crl-today.der");
+    bench.status(&format!("pack one.image --day 20261115 --version 1 {items}"), 0);
+    bench.status(&format!("pack two.image --day 20261115 --version 2 {items}"), 0);
+    bench.status("convert one.image moved.image --to 2", 0);
+    assert_eq!(bench.read("two.image"), bench.read("moved.image"));
+    let run = bench.status("image two.image --letters", 0);
+    assert!(run.out.contains("LETTERS  true"), "{}", run.out);
+}
+
+#[test]
+fn status_65_letters_that_are_not_true() {
+    let bench = Bench::new("letters");
+    bench.pack("today");
+    bench.status("convert today.image two.image --to 2", 0);
+    let good = bench.read("two.image");
+    let letters = good.len() - 12 - 13 * 12 + 3 * 12 + 8;
+    for (octets, shown) in [(*b"XO", "XO"), ([0, 0], "-"), ([7, 255], "07 FF"), (*b"UV", "UV")] {
+        let mut bad = good.clone();
+        bad[letters..letters + 2].copy_from_slice(&octets);
+        bench.write("bad.image", &bad);
+        bench.status("image bad.image", 0);
+        let run = bench.status("image bad.image --letters", 65);
+        assert!(run.out.contains("LETTERS  false at 1 of 13 places\n"), "{}", run.out);
+        assert!(run.out.contains(&format!("    3  {shown:<5} stands in the index, UT is true\n")), "{}", run.out);
+        bench.status("convert bad.image back.image --to 1 --force", 0);
+        assert_eq!(bench.read("back.image"), bench.read("today.image"));
+    }
 }
 
 #[test]
@@ -221,7 +299,13 @@ fn usage_64() {
         "image x --day today",
         "pack out.image",
         "pack --day 20261115",
+        "pack out.image --day 20261115 --version two",
+        "pack out.image --day 20261115 --version 1 --version 2",
         "unpack x",
+        "convert none.image out.image",
+        "convert none.image --to 2",
+        "convert none.image out.image --to 0",
+        "convert none.image out.image --to two",
         "chain none.image --table ragged.table --at 1 --signer 1",
         "chain none.image --table ragged.table --at 1 --signer x",
         "chain none.image --table ragged.table --signer 1",
@@ -247,6 +331,7 @@ fn no_input_66() {
         "image no.image",
         "pack out.image --day 20261115 --crl no.der",
         "unpack no.image items",
+        "convert no.image out.image --to 2",
         "chain no.image --table today.table --at 20261115120000 --signer 5",
         "chain today.image --table no.table --at 20261115120000 --signer 5",
         "age no.der 20261115",
@@ -269,6 +354,8 @@ fn cannot_write_73() {
     assert_eq!(bench.read("today.image").len(), 12);
     bench.status("pack no/such/folder.image --day 20261116", 73);
     bench.status("pack tests --day 20261116", 73);
+    bench.status("convert today.image no/such/folder.image --to 2", 73);
+    bench.status("convert today.image today.image --to 2", 73);
     bench.status("pack tests --day 20261116 --force", 73);
     bench.status("pack /dev/null --day 20261116 --force", 73);
     bench.write("file", b"file");

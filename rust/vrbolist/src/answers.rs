@@ -4,7 +4,7 @@
 #![allow(unsafe_code)]
 
 use crate::raw;
-pub use crate::raw::{Certificate, Chain, Crl, Days, Entry, Image, Integer, Replay, Walk, Write};
+pub use crate::raw::{Certificate, Chain, Crl, Days, Entry, Image, Integer, Letters, Replay, Walk, Write};
 
 // Each call lends slices for its own time only, and a slice's pointer and length are what the archive asks for: not null,
 // and none of them overlaps the one that is written, which Rust's borrows see to.
@@ -45,7 +45,17 @@ pub fn entry(image: &[u8], place: u64) -> Entry {
     unsafe { raw::vrbolist_entry(image.as_ptr(), image.len(), place) }
 }
 
-pub fn write(items: &[u8], kinds: &[u8], flags: &[u8], lengths: &[u32], day: u64, out: &mut [u8]) -> Write {
+#[allow(clippy::too_many_arguments)]
+pub fn write(
+    items: &[u8],
+    kinds: &[u8],
+    flags: &[u8],
+    lengths: &[u32],
+    letters: &[u8],
+    version: u64,
+    day: u64,
+    out: &mut [u8],
+) -> Write {
     unsafe {
         raw::vrbolist_write(
             items.as_ptr(),
@@ -56,11 +66,26 @@ pub fn write(items: &[u8], kinds: &[u8], flags: &[u8], lengths: &[u32], day: u64
             flags.len(),
             lengths.as_ptr(),
             lengths.len(),
+            letters.as_ptr(),
+            letters.len(),
+            version,
             day,
             out.as_mut_ptr(),
             out.len(),
         )
     }
+}
+
+pub fn move_to_2(image: &[u8], out: &mut [u8]) -> Write {
+    unsafe { raw::vrbolist_move_to_2(image.as_ptr(), image.len(), out.as_mut_ptr(), out.len()) }
+}
+
+pub fn move_to_1(image: &[u8], out: &mut [u8]) -> Write {
+    unsafe { raw::vrbolist_move_to_1(image.as_ptr(), image.len(), out.as_mut_ptr(), out.len()) }
+}
+
+pub fn letters(image: &[u8]) -> Letters {
+    unsafe { raw::vrbolist_letters(image.as_ptr(), image.len()) }
 }
 
 pub fn chain(image: &[u8], table: &[u8], moment: u64, target: u64) -> Chain {

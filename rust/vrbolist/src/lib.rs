@@ -38,11 +38,12 @@ pub struct Crl<'a> {
     pub issuer: &'a [u8],
 }
 
-/// The number of entries of a good trust image, and its day as the number YYYYMMDD.
+/// The number of entries of a good trust image, its day as the number YYYYMMDD, and its version, 1 or 2.
 #[derive(Clone, Copy, Debug, PartialEq, Eq)]
 pub struct Image {
     pub entries: u64,
     pub day: u64,
+    pub version: u64,
 }
 
 /// One entry of an image. Kinds: 1 anchor, 2 link, 3 document signer, 4 CRL.
@@ -50,6 +51,8 @@ pub struct Image {
 pub struct Entry<'a> {
     pub kind: u64,
     pub flags: u64,
+    /// The letters in the index, zeros in version 1. Reading does not test them: `letters` does.
+    pub country: [u8; 2],
     pub item: &'a [u8],
 }
 
@@ -109,32 +112,55 @@ pub fn crl_age(item: &[u8], day: u64) -> Result<i64, Refusal> {
 
 pub fn image(bytes: &[u8]) -> Result<Image, Refusal> {
     let told = answers::image(bytes);
-    passed(told.number, told.detail, Image { entries: told.entries, day: told.day })
+    passed(told.number, told.detail, Image { entries: told.entries, day: told.day, version: told.version })
 }
 
 /// The same for a wanted day: a stale image is refused.
 pub fn image_for_day(bytes: &[u8], wanted: u64) -> Result<Image, Refusal> {
     let told = answers::image_for_day(bytes, wanted);
-    passed(told.number, told.detail, Image { entries: told.entries, day: told.day })
+    passed(told.number, told.detail, Image { entries: told.entries, day: told.day, version: told.version })
 }
 
 pub fn entry(bytes: &[u8], place: u64) -> Result<Entry<'_>, Refusal> {
     let told = answers::entry(bytes, place);
-    let found = Entry { kind: told.kind, flags: told.flags, item: part(bytes, told.offset, told.length) };
+    let item = part(bytes, told.offset, told.length);
+    let found = Entry { kind: told.kind, flags: told.flags, country: told.country, item };
     passed(told.number, told.detail, found)
 }
 
-/// Writes an image and gives the part of the output that it takes; the rest of the output stays.
+/// Writes an image of a version and gives the part of the output that it takes; the rest of the output stays. Letters are two
+/// for each item: any in version 2, zeros in version 1.
+#[allow(clippy::too_many_arguments)]
 pub fn write<'a>(
     items: &[u8],
     kinds: &[u8],
     flags: &[u8],
     lengths: &[u32],
+    letters: &[u8],
+    version: u64,
     day: u64,
     out: &'a mut [u8],
 ) -> Result<&'a [u8], Refusal> {
-    let told = answers::write(items, kinds, flags, lengths, day, out);
+    let told = answers::write(items, kinds, flags, lengths, letters, version, day, out);
     passed(told.number, told.detail, ()).map(|()| part(out, 0, told.length))
+}
+
+/// Writes an image of version 1 again in version 2, with the true letters, and gives the part of the output that it takes.
+pub fn move_to_2<'a>(image: &[u8], out: &'a mut [u8]) -> Result<&'a [u8], Refusal> {
+    let told = answers::move_to_2(image, out);
+    passed(told.number, told.detail, ()).map(|()| part(out, 0, told.length))
+}
+
+/// Writes an image of version 2 again in version 1, without the letters, and gives the part of the output that it takes.
+pub fn move_to_1<'a>(image: &[u8], out: &'a mut [u8]) -> Result<&'a [u8], Refusal> {
+    let told = answers::move_to_1(image, out);
+    passed(told.number, told.detail, ()).map(|()| part(out, 0, told.length))
+}
+
+/// Whether the letters of every item of an image of version 2 are the true ones.
+pub fn letters(image: &[u8]) -> Result<bool, Refusal> {
+    let told = answers::letters(image);
+    passed(told.number, told.detail, told.letters_true == 1)
 }
 
 /// The places of the best chain to a document signer, from the anchor on.

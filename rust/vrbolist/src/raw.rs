@@ -47,9 +47,10 @@ answer!(Crl, 64 {
     48 issuer_len: u64,
     56 country: [u8; 2],
 });
-answer!(Image, 32 { 16 entries: u64, 24 day: u64 });
-answer!(Entry, 48 { 16 kind: u64, 24 flags: u64, 32 length: u64, 40 offset: u64 });
+answer!(Image, 40 { 16 entries: u64, 24 day: u64, 32 version: u64 });
+answer!(Entry, 56 { 16 kind: u64, 24 flags: u64, 32 length: u64, 40 offset: u64, 48 country: [u8; 2] });
 answer!(Write, 24 { 16 length: u64 });
+answer!(Letters, 24 { 16 letters_true: u64 });
 answer!(Chain, 120 { 16 length: u64, 24 places: [u8; 96] });
 answer!(Replay, 24 { 16 faulty: u64 });
 
@@ -72,10 +73,16 @@ extern "C" {
         flags_len: usize,
         lengths: *const u32,
         lengths_len: usize,
+        letters: *const u8,
+        letters_len: usize,
+        version: u64,
         day: u64,
         out: *mut u8,
         out_len: usize,
     ) -> Write;
+    pub fn vrbolist_move_to_2(image: *const u8, image_len: usize, out: *mut u8, out_len: usize) -> Write;
+    pub fn vrbolist_move_to_1(image: *const u8, image_len: usize, out: *mut u8, out_len: usize) -> Write;
+    pub fn vrbolist_letters(image: *const u8, image_len: usize) -> Letters;
     pub fn vrbolist_chain(
         image: *const u8,
         image_len: usize,

@@ -1,6 +1,6 @@
 //! The wrapper on a few worked cases: passes, refusals, and parts as slices.
 
-use vrbolist::{day_difference, image, integer, replay, walk, Refusal};
+use vrbolist::{day_difference, entry, image, integer, letters, move_to_1, move_to_2, replay, walk, Refusal};
 
 #[test]
 fn walks() {
@@ -20,10 +20,32 @@ fn numbers() {
 #[test]
 fn smallest_image() {
     let bytes = [0, 0, 0, 0, 0, 0, 0, 1, 1, 0x34, 0xD7, 0xAD];
-    assert_eq!(image(&bytes).map(|found| (found.entries, found.day)), Ok((0, 20240301)));
+    assert_eq!(image(&bytes).map(|found| (found.entries, found.day, found.version)), Ok((0, 20240301, 1)));
     let mut out = [7; 13];
-    assert_eq!(vrbolist::write(&[], &[], &[], &[], 20240301, &mut out), Ok(&bytes[..]));
+    assert_eq!(vrbolist::write(&[], &[], &[], &[], &[], 1, 20240301, &mut out), Ok(&bytes[..]));
     assert_eq!(out[12], 7);
+}
+
+#[test]
+fn both_versions() {
+    let (mut two, mut one) = ([7; 30], [7; 30]);
+    let wanted = [5, 1, 0, 0, 1, 0, 0, 0, 0, b'U', b'T', 0, 0, 0, 0, 0, 1, 0, 1, 0, 2, 1, 0x34, 0xD7, 0xAD];
+    let written = vrbolist::write(&[5], &[1], &[0], &[1], b"UT", 2, 20240301, &mut two);
+    assert_eq!(written, Ok(&wanted[..]));
+    assert_eq!(two[25..], [7; 5]);
+    assert_eq!(image(&wanted).map(|found| found.version), Ok(2));
+    assert_eq!(entry(&wanted, 0).map(|found| found.country), Ok(*b"UT"));
+    // What is no certificate has no true letters but zeros.
+    assert_eq!(letters(&wanted), Ok(false));
+    let back = move_to_1(&wanted, &mut one).map(<[u8]>::to_vec).unwrap();
+    assert_eq!(back, [5, 1, 0, 0, 1, 0, 0, 0, 0, 0, 0, 0, 1, 0, 1, 0, 1, 1, 0x34, 0xD7, 0xAD]);
+    assert_eq!(entry(&back, 0).map(|found| found.country), Ok([0, 0]));
+    let forth = move_to_2(&back, &mut two).map(<[u8]>::to_vec).unwrap();
+    assert_eq!((forth.len(), letters(&forth)), (25, Ok(true)));
+    let rule_2 = Refusal { number: 5, detail: 2 };
+    assert_eq!((letters(&back), move_to_1(&back, &mut one).err()), (Err(rule_2), Some(rule_2)));
+    assert_eq!(move_to_2(&forth, &mut two), Err(rule_2));
+    assert_eq!(move_to_2(&back, &mut [0; 24]), Err(Refusal { number: 9, detail: 0 }));
 }
 
 #[test]

@@ -1,12 +1,16 @@
--- The one width that there is.
-use mathlib.Core.Path.{refl}
+-- The version decides.
+use borrow.Author.Tests.{eq-eqb, ne-eqb}
 use Rattle.image.specs.Index.{width}
 use Rattle.image.proofs.width.Statement.{statement}
 use Rattle.image.proofs.width.Tie as tie
 
 returns : tie.Need-returns
 unfolding width
-returns c = refl
+returns c = simp (eq-eqb _ _ (c .if1 .taken))
+
+returns-2 : tie.Need-returns-2
+unfolding width
+returns-2 c = simp (ne-eqb _ _ (c .if1 .left))
 
 pub width-spec : {M : Type 1} → statement M
-width-spec = tie.close (tie.spec returns)
+width-spec = tie.close (tie.spec returns returns-2)

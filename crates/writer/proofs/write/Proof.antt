@@ -24,7 +24,7 @@ abbrev called : tie.After-shared-slice-known4 → tie.Start
 called c = c .before .before .before .before
 
 abbrev asked : tie.After-arguments-good → tie.Start
-asked c = called (c .before .before)
+asked c = called (c .before .before .before)
 
 abbrev measured : tie.After-copy → tie.After-width
 measured c = c .before .before .before .before
@@ -38,26 +38,26 @@ indexed c = c .before .before .before .before
 returns : tie.Need-returns
 returns c =
     let a = asked (c .before) .args in
-    let told = refused-argument 1 (a .packed .now) (a .kinds .now) (a .flags .now) (a .lengths .now) (a .day) (a .out .now) (sym (c .before .arguments-good .ensures) ∙ not-true _ (c .if1 .taken)) in
-    (sym told, output-refused 1 (a .packed .now) (a .kinds .now) (a .flags .now) (a .lengths .now) (a .day) (a .out .now) told)
+    let told = refused-argument (a .version) (a .packed .now) (a .kinds .now) (a .flags .now) (a .lengths .now) (a .letters .now) (a .day) (a .out .now) (sym (c .before .arguments-good .ensures) ∙ not-true _ (c .if1 .taken)) in
+    (sym told, output-refused (a .version) (a .packed .now) (a .kinds .now) (a .flags .now) (a .lengths .now) (a .letters .now) (a .day) (a .out .now) told)
 
 good : (c : tie.Else1) →
     let a = asked (c .before) .args in
-    argumentsGood (a .packed .now) (a .kinds .now) (a .flags .now) (a .lengths .now) (a .day) ≡ true
+    argumentsGood (a .version) (a .packed .now) (a .kinds .now) (a .flags .now) (a .lengths .now) (a .letters .now) (a .day) ≡ true
 good c = sym (c .before .arguments-good .ensures) ∙ not-false _ (c .if1 .left)
 
 few : (c : tie.Else1) → length (asked (c .before) .args .kinds .now) ≤ 96
 few c =
     let a = asked (c .before) .args in
-    arguments-tell (a .packed .now) (a .kinds .now) (a .flags .now) (a .lengths .now) (a .day) (good c) .0
+    arguments-tell (a .version) (a .packed .now) (a .kinds .now) (a .flags .now) (a .lengths .now) (a .letters .now) (a .day) (good c) .counted .few
 
 -- the octets of the index are few, and the image has as many as are said
 index-few : (c : tie.After-width) → c .width .result * length (asked (c .before .before) .args .kinds .now) ≤ 65536
-index-few c = index-small 1 (length (asked (c .before .before) .args .kinds .now)) (c .width .ensures) (few (c .before))
+index-few c = index-small _ (length (asked (c .before .before) .args .kinds .now)) (c .width .ensures) (few (c .before))
 
 size : (c : tie.After-width) →
     let a = asked (c .before .before) .args in
-    length (a .packed .now) + c .width .result * length (a .kinds .now) + 12 ≡ sizeOf 1 (a .packed .now) (a .kinds .now)
+    length (a .packed .now) + c .width .result * length (a .kinds .now) + 12 ≡ sizeOf (a .version) (a .packed .now) (a .kinds .now)
 unfolding sizeOf
 size c = rw (c .width .ensures)
 
@@ -73,20 +73,20 @@ add-size c = omega (arith, index-few c, asked (c .before .before) .good)
 returns-2 : tie.Need-returns-2
 returns-2 c =
     let a = asked (c .before .before .before) .args in
-    let told = refused-limit 1 (a .packed .now) (a .kinds .now) (a .flags .now) (a .lengths .now) (a .day) (a .out .now) (good (c .before .before)) (omega (arith, size (c .before), c .if2 .taken)) in
-    (sym told, output-refused 1 (a .packed .now) (a .kinds .now) (a .flags .now) (a .lengths .now) (a .day) (a .out .now) told)
+    let told = refused-limit (a .version) (a .packed .now) (a .kinds .now) (a .flags .now) (a .lengths .now) (a .letters .now) (a .day) (a .out .now) (good (c .before .before)) (omega (arith, size (c .before), c .if2 .taken)) in
+    (sym told, output-refused (a .version) (a .packed .now) (a .kinds .now) (a .flags .now) (a .lengths .now) (a .letters .now) (a .day) (a .out .now) told)
 
 -- an image that is not too long
 small : (c : tie.Else2) →
     let a = asked (c .before .before .before) .args in
-    sizeOf 1 (a .packed .now) (a .kinds .now) ≤ 262144
+    sizeOf (a .version) (a .packed .now) (a .kinds .now) ≤ 262144
 small c = omega (arith, size (c .before), c .if2 .left)
 
 returns-3 : tie.Need-returns-3
 returns-3 c =
     let a = asked (c .before .before .before .before) .args in
-    let told = refused-short 1 (a .packed .now) (a .kinds .now) (a .flags .now) (a .lengths .now) (a .day) (a .out .now) (good (c .before .before .before)) (small (c .before)) (omega (arith, size (c .before .before), c .if3 .taken)) in
-    (sym told, output-refused 1 (a .packed .now) (a .kinds .now) (a .flags .now) (a .lengths .now) (a .day) (a .out .now) told)
+    let told = refused-short (a .version) (a .packed .now) (a .kinds .now) (a .flags .now) (a .lengths .now) (a .letters .now) (a .day) (a .out .now) (good (c .before .before .before)) (small (c .before)) (omega (arith, size (c .before .before), c .if3 .taken)) in
+    (sym told, output-refused (a .version) (a .packed .now) (a .kinds .now) (a .flags .now) (a .lengths .now) (a .letters .now) (a .day) (a .out .now) told)
 
 put-index-requires : tie.Need-put-index-requires
 unfolding sizeOf
@@ -94,10 +94,11 @@ put-index-requires c κs =
     let copies = c .before .before .before in
     let sized = measured copies in
     let a = asked (sized .before .before) .args in
-    let tell = arguments-tell (a .packed .now) (a .kinds .now) (a .flags .now) (a .lengths .now) (a .day) (good (sized .before)) in (
-      tell .1,
-      tell .2,
-      tell .0,
+    let tell = arguments-tell (a .version) (a .packed .now) (a .kinds .now) (a .flags .now) (a .lengths .now) (a .letters .now) (a .day) (good (sized .before)) in (
+      tell .counted .flagged,
+      tell .counted .long,
+      tell .counted .lettered,
+      tell .counted .few,
       simp (length-take, length-drop) (omega (arith, size sized, copies .before .before .if3 .left, c .before .before .out .given, copies .copy .kept)),
     )
 
@@ -109,21 +110,21 @@ returns-4 c =
     let a = asked (sized .before .before) .args in
     let octets = a .packed .now in
     let kinds = a .kinds .now in
-    let rows = rowsBytes 1 0 kinds (a .flags .now) (a .lengths .now) in
-    let trailer = trailerBytes 1 (length octets) (length kinds) (a .day) in
+    let rows = rowsBytes (a .version) 0 kinds (a .flags .now) (a .lengths .now) (a .letters .now) in
+    let trailer = trailerBytes (a .version) (length octets) (length kinds) (a .day) in
     let old = a .out .now in
     let wide = sized .width .result in
-    let same : width 1 ≡ wide = sym (sized .width .ensures) in
+    let same : width (a .version) ≡ wide = sym (sized .width .ensures) in
     let counted = size sized in
     let sum : length (octets ++ rows) ≡ length octets + wide * length kinds =
-    length-append octets rows ∙ rw (rows-length 1 kinds (a .flags .now) (a .lengths .now) 0, same) in
-    let index = put-next old octets rows _ _ (length octets) (width 1 * length kinds) refl (copies .copy .ensures) (index-put .put-index .ensures) in
+    length-append octets rows ∙ rw (rows-length (a .version) kinds (a .flags .now) (a .lengths .now) (a .letters .now) 0, same) in
+    let index = put-next old octets rows _ _ (length octets) (width (a .version) * length kinds) refl (copies .copy .ensures) (index-put .put-index .ensures) in
     let index′ = index ∙ ap (λ (n : ℕ). (octets ++ rows) ++ drop (length octets + n * length kinds) old) same in
     let all = put-next old (octets ++ rows) trailer _ _ (length octets + wide * length kinds) 12 sum index′ (c .before .before .put-trailer .ensures) in
-    let room : sizeOf 1 octets kinds ≤ length old = omega (arith, counted, copies .before .before .if3 .left) in
-    let answer = all-written 1 octets kinds (a .flags .now) (a .lengths .now) (a .day) old (good (sized .before))
+    let room : sizeOf (a .version) octets kinds ≤ length old = omega (arith, counted, copies .before .before .if3 .left) in
+    let answer = all-written (a .version) octets kinds (a .flags .now) (a .lengths .now) (a .letters .now) (a .day) old (good (sized .before))
     (small (copies .before .before .before)) room in
-    let told = output-written 1 octets kinds (a .flags .now) (a .lengths .now) (a .day) old (good (sized .before))
+    let told = output-written (a .version) octets kinds (a .flags .now) (a .lengths .now) (a .letters .now) (a .day) old (good (sized .before))
     (small (copies .before .before .before)) room in
     (ap Length counted ∙ sym answer, all ∙ ap (λ (n : ℕ). ((octets ++ rows) ++ trailer) ++ drop n old) counted ∙ sym told)
 

@@ -78,7 +78,7 @@ fn packed(name: &str) -> Option<Packed> {
     }
     let digits: String = rows(VERDICTS, name).filter_map(|row| row.get(2).map(|row| row.to_string())).collect();
     let table = digits.bytes().map(|digit| digit.saturating_sub(b'0')).collect();
-    Some(Packed { image: columns.written(day).ok()?, table, day, entries: columns.kinds.len() as u64 })
+    Some(Packed { image: columns.written(1, day).ok()?, table, day, entries: columns.kinds.len() as u64 })
 }
 
 impl Packed {

@@ -7,25 +7,30 @@ use crate::args::{self, Given, Takes};
 use crate::explain::{self, Judged};
 use crate::files;
 use crate::json::{object, Json};
+use crate::letters;
 use crate::places::{self, kind_name, Place, Told};
-use crate::stop::Stop;
-use crate::text::{counted, day, letters};
+use crate::stop::{self, Stop};
+use crate::text::{self, counted, day};
 use vrbolist::{Image, Refusal};
 
 pub const COMMAND: Command = Command {
     name: "image",
     help: "\
-vrbolist image FILE [--day YYYYMMDD] [--json]
+vrbolist image FILE [--day YYYYMMDD] [--letters] [--json]
 
-Reads a trust image: its day, and a line for each place with what the library says of the item.
-With --day an image of another day is refused with 6: run this before flashing. An item that does
-not pass its profile is told and does not refuse the image: no chain ever uses it.
+Reads a trust image: its day and version, and a line for each place with what the library says of
+the item. With --day an image of another day is refused with 6: run this before flashing. An item
+that does not pass its profile is told and does not refuse the image: no chain ever uses it.
+An image of version 2 has the letters of a country for each item. Reading does not test them; with
+--letters they are checked, and the exit status is 65 where some are not the item's.
 
 Example:
   vrbolist pack small.image --day 20261115 --anchor tests/data/made/ut-anchor-1.der --force
   vrbolist image small.image --day 20261115
+  vrbolist pack two.image --day 20261115 --version 2 --crl tests/data/made/xo-crl.der --force
+  vrbolist image two.image --letters
 ",
-    takes: Takes { alone: &["FILE"], options: &["--day"], switches: &[] },
+    takes: Takes { alone: &["FILE"], options: &["--day"], switches: &["--letters"] },
     run,
 };
 
@@ -41,7 +46,7 @@ fn run(given: &Given) -> Result<Answer, Stop> {
         "command": "image", "file": files::shown(given.word(0)), "size": bytes.len(), "wanted_day": wanted,
     };
     Ok(match told {
-        Ok(image) => passed(head, base, &bytes, image, wanted),
+        Ok(image) => passed(head, base, &bytes, image, wanted, given.has("--letters")),
         Err(refusal) => {
             let day = vrbolist::image(&bytes).ok().map(|image| image.day);
             Answer::refused(head, base.with(object! { "day": day }), refusal, &words(refusal, &bytes, wanted))
@@ -49,12 +54,37 @@ fn run(given: &Given) -> Result<Answer, Stop> {
     })
 }
 
-fn passed(head: String, base: Json, bytes: &[u8], image: Image, wanted: Option<u64>) -> Answer {
+fn passed(head: String, base: Json, bytes: &[u8], image: Image, wanted: Option<u64>, check: bool) -> Answer {
     let places = places::all(bytes, image.entries);
+    let (of, count) = (day(image.day), counted(places.len(), "place"));
     let asked = if wanted.is_some() { ", as wanted" } else { "" };
-    let said = format!("PASSED   image of {}{asked}, {}\n", day(image.day), counted(places.len(), "place"));
-    let fields = object! { "day": image.day, "places": places_json(&places) };
-    Answer::passed(head + &said + &listing(&places), base, fields)
+    let said = format!("PASSED   image of {of}{asked}, version {}, {count}\n", image.version);
+    let text = said + &listing(&places, image.version);
+    let fields = object! { "day": image.day, "version": image.version, "places": places_json(&places) };
+    match check.then(|| vrbolist::letters(bytes)) {
+        None => Answer::passed(head + &text, base, fields),
+        Some(Ok(all_true)) => Answer {
+            status: if all_true { 0 } else { stop::FAULTY },
+            text: head + &text + &letters::checked(all_true, &places),
+            json: base.with(object! { "passed": all_true, "letters_true": all_true }).with(fields),
+        },
+        Some(Err(refusal)) => {
+            let base = base.with(object! { "day": image.day, "version": image.version });
+            Answer::refused(head, base, refusal, &of_version(refusal, bytes, 2))
+        }
+    }
+}
+
+/// Why an image was refused where one of a version was wanted.
+pub fn of_version(refusal: Refusal, bytes: &[u8], wanted: u64) -> Vec<String> {
+    if (refusal.number, refusal.detail) != (5, 2) {
+        return explain::paragraphs(Judged::Image, refusal, bytes);
+    }
+    let mut words = vec![format!("Broken is rule 2 of the trust image: here its version has to be {wanted}.")];
+    if let Ok(image) = vrbolist::image(bytes) {
+        words.push(format!("The image is of version {}. See vrbolist convert.", image.version));
+    }
+    words
 }
 
 /// Why an image was refused, for a wanted day too.
@@ -83,13 +113,14 @@ fn spell(days: i64) -> String {
     counted(usize::try_from(days.unsigned_abs()).unwrap_or(usize::MAX), "day")
 }
 
-/// A line for each place.
-pub fn listing(places: &[Place<'_>]) -> String {
+/// A line for each place; in version 2 with the letters of the index.
+pub fn listing(places: &[Place<'_>], version: u64) -> String {
     if places.is_empty() {
         return String::new();
     }
-    let head = "place  kind    state      size  country  from        to          profile\n".to_string();
-    let lines: String = places.iter().map(line).collect();
+    let column = if version == 2 { "letters  " } else { "" };
+    let head = format!("place  kind    state      size  {column}country  from        to          profile\n");
+    let lines: String = places.iter().map(|place| line(place, version)).collect();
     let bad = places.iter().filter(|place| matches!(place.told, Told::Refused(_))).count();
     let note = match bad {
         0 => String::new(),
@@ -102,15 +133,17 @@ pub fn listing(places: &[Place<'_>]) -> String {
     head + &lines + &note
 }
 
-fn line(place: &Place<'_>) -> String {
+fn line(place: &Place<'_>, version: u64) -> String {
     let state = match (place.entry.kind, place.enabled()) {
         (1, true) => "enabled",
         (1, false) => "disabled",
         _ => "",
     };
-    let left =
-        format!("{:>5}  {:<6}  {:<8}  {:>5}", place.number, kind_name(place.entry.kind), state, place.entry.item.len());
-    let row = |country, from, to| format!("{left}  {:<7}  {}  {}  passes\n", letters(country), date(from), date(to));
+    let column = if version == 2 { format!("  {:<7}", letters::shown(place.entry.country)) } else { String::new() };
+    let (kind, size) = (kind_name(place.entry.kind), place.entry.item.len());
+    let left = format!("{:>5}  {kind:<6}  {state:<8}  {size:>5}{column}", place.number);
+    let row =
+        |country, from, to| format!("{left}  {:<7}  {}  {}  passes\n", text::letters(country), date(from), date(to));
     match &place.told {
         Told::Certificate(told) => row(told.country, told.start, told.end),
         Told::Crl(told) => row(told.country, told.this_update, told.next_update),
@@ -131,7 +164,7 @@ pub fn places_json(places: &[Place<'_>]) -> Vec<Json> {
 fn place_json(place: &Place<'_>) -> Json {
     let base = object! {
         "place": place.number, "kind": kind_name(place.entry.kind), "enabled": place.enabled(),
-        "size": place.entry.item.len(),
+        "size": place.entry.item.len(), "letters": letters::json(place.entry.country),
     };
     let passed = object! { "passed": true };
     base.with(match &place.told {

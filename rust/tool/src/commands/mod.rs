@@ -2,6 +2,7 @@
 
 pub mod age;
 pub mod chain;
+pub mod convert;
 pub mod days;
 pub mod demo;
 pub mod image;
@@ -24,12 +25,13 @@ pub struct Command {
     pub run: fn(&Given) -> Result<Answer, Stop>,
 }
 
-const COMMANDS: [&Command; 10] = [
+const COMMANDS: [&Command; 11] = [
     &item::COMMAND,
     &walk::COMMAND,
     &image::COMMAND,
     &pack::COMMAND,
     &unpack::COMMAND,
+    &convert::COMMAND,
     &chain::COMMAND,
     &days::COMMAND,
     &age::COMMAND,
@@ -45,6 +47,7 @@ vrbolist: judges passport-signing certificates, CRLs, trust images and chains
   vrbolist image FILE [--day YYYYMMDD]             a trust image and its items, for a day
   vrbolist pack OUT --day YYYYMMDD --anchor F ..   writes a trust image
   vrbolist unpack IMAGE DIR                        its items as files
+  vrbolist convert IMAGE OUT --to 1|2              the same image in the other version
   vrbolist chain IMAGE --table T --at MOMENT --signer PLACE|all
                                                    the chain to a signer, or why there is none
   vrbolist days A B                                days from one day to another
@@ -54,7 +57,8 @@ vrbolist: judges passport-signing certificates, CRLs, trust images and chains
 
 Items are DER or PEM; of a PEM file the first block is taken. FILE - is standard input. Every
 command takes --json and --help. Exit status: 0 passed, 1 to 9 the number of the refusal, 64 wrong
-usage, 65 a log with a faulty record, 66 no such input, 73 cannot write.
+usage, 65 a log with a faulty record or letters that are not true, 66 no such input, 73 cannot
+write.
 
 Example:
   vrbolist item tests/data/made/ut-signer-1.der --as signer

@@ -6,20 +6,23 @@ use crate::answer::Answer;
 use crate::args::{self, Given, Takes};
 use crate::files;
 use crate::json::{object, Json};
+use crate::letters;
 use crate::places;
 use crate::stop::Stop;
 use crate::text::{counted, day};
 use std::path::Path;
-use vrbolist::Refusal;
+use vrbolist::{Image, Refusal};
 
 pub const COMMAND: Command = Command {
     name: "pack",
     help: "\
-vrbolist pack OUT --day YYYYMMDD [--anchor F] [--disabled-anchor F] [--link F] [--signer F]
-              [--crl F] .. [--force] [--json]
+vrbolist pack OUT --day YYYYMMDD [--version 1|2] [--anchor F] [--disabled-anchor F] [--link F]
+              [--signer F] [--crl F] .. [--force] [--json]
 
 Writes a trust image of the given items, any number of each; their places are in the order given.
 OUT is written whole or not at all, and is not written over without --force. Items are DER or PEM.
+Without --version the image is of version 1. One of version 2 also has the letters of each item's
+country: those that it reports, none where it does not pass.
 
 Example:
   vrbolist pack ut.image --day 20261115 --anchor tests/data/made/ut-anchor-1.der \\
@@ -27,13 +30,14 @@ Example:
 ",
     takes: Takes {
         alone: &["OUT"],
-        options: &["--day", "--anchor", "--disabled-anchor", "--link", "--signer", "--crl"],
+        options: &["--day", "--version", "--anchor", "--disabled-anchor", "--link", "--signer", "--crl"],
         switches: &["--force"],
     },
     run,
 };
 
 pub const IMAGE_MOST: usize = 262_144;
+pub const TOO_LONG: &str = "The image would pass 262,144 bytes: leave items out.";
 const ITEM_MOST: usize = 16_384;
 
 /// Items back to back, and the columns of the index.
@@ -55,37 +59,57 @@ impl Columns {
         self.lengths.push(u32::try_from(kept.len()).unwrap_or(u32::MAX));
     }
 
-    pub fn written(&self, day: u64) -> Result<Vec<u8>, Refusal> {
+    pub fn written(&self, version: u64, day: u64) -> Result<Vec<u8>, Refusal> {
         let mut out = vec![0; IMAGE_MOST];
-        vrbolist::write(&self.items, &self.kinds, &self.flags, &self.lengths, day, &mut out).map(<[u8]>::to_vec)
+        let letters = self.letters(version);
+        vrbolist::write(&self.items, &self.kinds, &self.flags, &self.lengths, &letters, version, day, &mut out)
+            .map(<[u8]>::to_vec)
+    }
+
+    /// Those that each item reports; zeros in version 1, and where it does not pass.
+    fn letters(&self, version: u64) -> Vec<u8> {
+        let mut out = Vec::new();
+        let mut rest = self.items.as_slice();
+        for (kind, length) in self.kinds.iter().zip(&self.lengths) {
+            let (item, behind) = rest.split_at_checked(*length as usize).unwrap_or_default();
+            rest = behind;
+            out.extend(if version == 2 { letters::of(&places::judge(item, u64::from(*kind))) } else { [0, 0] });
+        }
+        out
     }
 }
 
 fn run(given: &Given) -> Result<Answer, Stop> {
     let wanted = args::number(given.wanted("--day", "YYYYMMDD")?, "day YYYYMMDD")?;
+    let version = given.option("--version")?.map_or(Ok(1), |word| args::number(word, "version"))?;
     let columns = columns(given)?;
     let out = given.word(0);
-    let base = object! { "command": "pack", "file": files::shown(out), "day": wanted };
-    match columns.written(wanted) {
+    let base = object! { "command": "pack", "file": files::shown(out), "day": wanted, "version": version };
+    match columns.written(version, wanted) {
         Ok(image) => {
             files::write(Path::new(out), &image, given.has("--force"))?;
-            let head = format!("{}  written: {} bytes, image of {}", files::shown(out), image.len(), day(wanted));
-            Ok(told(head, base, &image))
+            Ok(told(&files::shown(out), base, &image))
         }
         Err(refusal) => {
             let head = format!("{}  not written\n", files::shown(out));
-            Ok(Answer::refused(head, base, refusal, &words(refusal, &columns, wanted)))
+            Ok(Answer::refused(head, base, refusal, &words(refusal, &columns, version, wanted)))
         }
     }
 }
 
 /// What was written, read back.
-fn told(head: String, base: Json, image: &[u8]) -> Answer {
-    let entries = vrbolist::image(image).map(|told| told.entries).unwrap_or_default();
-    let places = places::all(image, entries);
-    let text = format!("{head}, {}\n", counted(places.len(), "place"));
+pub fn told(file: &str, base: Json, image: &[u8]) -> Answer {
+    let read = vrbolist::image(image).unwrap_or(Image { entries: 0, day: 0, version: 0 });
+    let places = places::all(image, read.entries);
+    let text = format!(
+        "{file}  written: {} bytes, image of {}, version {}, {}\n",
+        image.len(),
+        day(read.day),
+        read.version,
+        counted(places.len(), "place")
+    );
     let fields = object! { "size": image.len(), "places": places_json(&places) };
-    Answer::passed(text + &listing(&places), base, fields)
+    Answer::passed(text + &listing(&places, read.version), base, fields)
 }
 
 fn columns(given: &Given) -> Result<Columns, Stop> {
@@ -105,10 +129,13 @@ fn columns(given: &Given) -> Result<Columns, Stop> {
 }
 
 /// Which argument of a writing was refused.
-fn words(refusal: Refusal, columns: &Columns, wanted: u64) -> Vec<String> {
+fn words(refusal: Refusal, columns: &Columns, version: u64, wanted: u64) -> Vec<String> {
     let mut out = Vec::new();
     if refusal.number == 3 {
-        out.push("The image would pass 262,144 bytes: leave items out.".to_string());
+        out.push(TOO_LONG.to_string());
+    }
+    if refusal.number == 1 && !(1..=2).contains(&version) {
+        out.push(format!("There is no version {version} of images: 1 and 2 there are."));
     }
     if refusal.number == 1 && vrbolist::day_difference(wanted, wanted).is_err() {
         out.push(format!("{wanted} is not a real day of 1950 to 2099."));

@@ -2,7 +2,7 @@
 use mathlib.Core.Path.{sym, _∙_}
 use borrow.Author.Tests.{lt-ltb, le-ltb, eq-eqb, ne-eqb, not-true, not-false}
 use Rattle.chain.specs.Answer.{onImage, askedOf}
-use Rattle.chain.proofs.ImageOpened.{opened-image}
+use Rattle.image.proofs.Few.{opened-image}
 use borrow.Author.Needs.{needs}
 use Rattle.chain.proofs.asking.question.Statement.{statement}
 use Rattle.chain.proofs.asking.question.Tie as tie
@@ -31,7 +31,7 @@ table-good-requires : tie.Need-table-good-requires
 table-good-requires c κs =
     let e = c .before in
     let o = opened e in
-    opened-image (start o .args .image .now) _ _ (sym (o .«open» .ensures) ∙ e .entries .given .1) .1
+    opened-image 1 2 (start o .args .image .now) _ _ _ (sym (o .«open» .ensures) ∙ e .entries .given .1) .1
 
 returns-2 : tie.Need-returns-2
 unfolding askedOf onImage

@@ -35,7 +35,7 @@ returns-3 c items kind bytes =
 
 returns-4 : tie.Need-returns-4
 returns-4 c items kind bytes =
-    c .of-country .ensures _ ∙ home-same _ _ _ _ _ kind bytes
+    c .of-country .ensures _ _ _ ∙ home-same _ _ _ _ _ kind bytes
     ∙ sym
     (wanted-home _ _ _ _ items _ _ kind (ne-eqb _ _ (c .before .before .before .if1 .left)) (ne-eqb _ _ (c .before .before .if2 .left))
     (λ one. ⊎-elim (λ w. sym (w .1 .ensures) ∙ not-false _ (w .2 .left)) (λ w. absurd (w .left (eqb-true _ _ one))) (c .before .if3 .came)))

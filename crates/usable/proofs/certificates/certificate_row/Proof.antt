@@ -9,22 +9,22 @@ use Rattle.usable.proofs.certificates.certificate_row.Tie as tie
 
 returns : tie.Need-returns
 unfolding certificateRow blank
-returns c = rw (sym (c .before .before .judge .ensures) ∙ c .enum-told .given .1)
+returns c first second = rw (sym (c .before .before .judge .ensures) ∙ c .enum-told .given .1)
 
 returns-2 : tie.Need-returns-2
 unfolding certificateRow blank within
-returns-2 c = let b = c .before .before .before in rw (sym (b .before .before .judge .ensures) ∙ b .f .given .1, lt-leb _ _ (c .if1 .taken))
+returns-2 c first second = let b = c .before .before .before in rw (sym (b .before .before .judge .ensures) ∙ b .f .given .1, lt-leb _ _ (c .if1 .taken))
 
 returns-3 : tie.Need-returns-3
 unfolding certificateRow blank within
-returns-3 c =
+returns-3 c first second =
     let a = c .before .before in
     let b = a .before .before .before in
     rw (sym (b .before .before .judge .ensures) ∙ b .f .given .1, le-leb _ _ (a .if1 .left), lt-leb _ _ (c .if2 .taken))
 
 returns-4 : tie.Need-returns-4
 unfolding certificateRow within
-returns-4 c =
+returns-4 c first second =
     let a = c .before .before in
     let b = a .before .before .before in
     rw (sym (b .before .before .judge .ensures) ∙ b .f .given .1, le-leb _ _ (a .if1 .left), le-leb _ _ (c .if2 .left))

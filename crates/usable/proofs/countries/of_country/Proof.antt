@@ -7,7 +7,7 @@ use Rattle.usable.proofs.countries.of_country.Tie as tie
 
 returns : tie.Need-returns
 unfolding homeOf
-returns c flags = c .is-of .ensures ∙ ap (isOf _ _) (c .before .country-of .ensures flags)
+returns c flags a b = c .is-of .ensures ∙ ap (isOf _ _) (c .before .country-of .ensures flags a b)
 
 pub of-country-spec : {M : Type 1} → statement M
 of-country-spec = tie.close (tie.spec (λ c κs. search needs) (λ c κs. search needs) returns)

@@ -9,22 +9,22 @@ use Rattle.usable.proofs.lists.list_row.Tie as tie
 
 returns : tie.Need-returns
 unfolding listRow blank
-returns c kind flags = rw (sym (c .before .before .judge .ensures) ∙ c .enum-told .given .1)
+returns c kind flags first second = rw (sym (c .before .before .judge .ensures) ∙ c .enum-told .given .1)
 
 returns-2 : tie.Need-returns-2
 unfolding listRow blank within
-returns-2 c kind flags = let b = c .before .before .before in rw (sym (b .before .before .judge .ensures) ∙ b .f .given .1, lt-leb _ _ (c .if1 .taken))
+returns-2 c kind flags first second = let b = c .before .before .before in rw (sym (b .before .before .judge .ensures) ∙ b .f .given .1, lt-leb _ _ (c .if1 .taken))
 
 returns-3 : tie.Need-returns-3
 unfolding listRow blank within
-returns-3 c kind flags =
+returns-3 c kind flags first second =
     let a = c .before .before in
     let b = a .before .before .before in
     rw (sym (b .before .before .judge .ensures) ∙ b .f .given .1, le-leb _ _ (a .if1 .left), lt-leb _ _ (c .if2 .taken))
 
 returns-4 : tie.Need-returns-4
 unfolding listRow within
-returns-4 c kind flags =
+returns-4 c kind flags first second =
     let a = c .before .before in
     let b = a .before .before .before in
     rw (sym (b .before .before .judge .ensures) ∙ b .f .given .1, le-leb _ _ (a .if1 .left), le-leb _ _ (c .if2 .left))

@@ -3,7 +3,10 @@
 
 #![forbid(unsafe_code)]
 
+mod versions;
+
 use differ::{compare, run, Answer, Lent, Library, Limits, Plain, Reader};
+use make::image::Image;
 use make::questions::Question;
 use make::time::second_after;
 
@@ -90,16 +93,13 @@ fn backwards(image: &[u8], table: &[u8], moment: u64, target: u64) -> Option<pla
     }
     let head = plain::image(image);
     let n = head.entries as usize;
-    let (mut items, mut kinds, mut flags, mut lengths) = (Vec::new(), Vec::new(), Vec::new(), Vec::new());
+    let mut made = Image::new(head.day as u32);
     for place in (0..head.entries).rev() {
         let entry = plain::entry(image, place);
-        items.extend_from_slice(&image[entry.offset as usize..(entry.offset + entry.length) as usize]);
-        kinds.push(entry.kind as u8);
-        flags.push(entry.flags as u8);
-        lengths.push(entry.length as u32);
+        let item = &image[entry.offset as usize..(entry.offset + entry.length) as usize];
+        made.add(entry.kind as u8, entry.flags as u8, item.to_vec());
     }
-    let mut turned = vec![0; image.len()];
-    plain::write(&items, &kinds, &flags, &lengths, head.day, &mut turned);
+    let turned = made.encode();
     let table: Vec<u8> = table.iter().rev().copied().collect();
     let mut told = plain::chain(&turned, &table, moment, (n - 1) as u64 - target);
     for place in &mut told.places[..told.length as usize] {
@@ -280,7 +280,8 @@ fn writing_touches_a_byte_beyond() {
     found(
         |question, output| {
             let told = plain(question, output);
-            if let Answer::Write(plain::Written { number: 0, length, .. }) = told {
+            if let (Question::Write { .. }, Answer::Write(plain::Written { number: 0, length, .. })) = (question, told)
+            {
                 if let Some(beyond) = output.octets.get_mut(length as usize) {
                     *beyond ^= 1;
                 }

@@ -1,0 +1,2 @@
+pub mod TrueLetters
+pub mod Check

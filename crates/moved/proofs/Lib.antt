@@ -1,0 +1,2 @@
+pub mod LettersApart
+pub mod Theorems

@@ -1,0 +1,4 @@
+pub mod Filled
+pub mod Moves
+pub mod Ready
+pub mod Theorems
