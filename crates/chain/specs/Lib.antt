@@ -4,3 +4,4 @@ pub mod Rounds
 pub mod Answer
 pub mod Demand
 pub mod Proposal
+pub mod Given

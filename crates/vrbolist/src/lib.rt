@@ -4,4 +4,6 @@ mod chains;
 mod images;
 mod items;
 mod lists;
+mod proposals;
+mod told;
 mod trays;

@@ -15,6 +15,7 @@ pub enum Answer {
     Write(plain::Written),
     Chain(plain::Chain),
     Replay(plain::Replayed),
+    Told(plain::Told),
 }
 
 impl Answer {
@@ -31,6 +32,7 @@ impl Answer {
             Answer::Write(told) => (told.number, told.detail),
             Answer::Chain(told) => (told.number, told.detail),
             Answer::Replay(told) => (told.number, told.detail),
+            Answer::Told(told) => (told.number, told.detail),
         }
     }
 }
@@ -83,3 +85,4 @@ same_fields!(Entry, Entry, Entry { kind, flags, length, offset });
 same_fields!(Write, Write, Written { length });
 same_fields!(Chain, Chain, Chain { length, places });
 same_fields!(Replay, Replay, Replayed { faulty });
+same_fields!(Told, Told, Told {});

@@ -18,6 +18,7 @@ pub fn kind(question: &Question) -> &'static str {
         Question::Entry(..) => "entry",
         Question::Write { .. } => "write",
         Question::Chain { .. } => "chain",
+        Question::Proposal { .. } => "proposal",
         Question::Replay { .. } => "replay",
     }
 }
@@ -50,6 +51,11 @@ pub fn show(question: &Question) -> String {
         Question::Chain { image, table, moment, target } => {
             format!("moment {moment}, target {target}, table {}, image {}", hex(table), hex(image))
         }
+        Question::Proposal { image, table, moment, target, places } => format!(
+            "moment {moment}, target {target}, places {places:?}, table {}, image {}",
+            hex(table),
+            hex(image)
+        ),
         Question::Replay { log, room } => format!("room {room}, log {}", hex(log)),
     }
 }

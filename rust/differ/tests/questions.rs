@@ -23,7 +23,7 @@ fn main() {
         Err(difference) => panic!("first: the library, second: the plain reader\n{difference}"),
     }
     // What was compared is worth something only where passes and refusals are there.
-    let wanted: [(&str, &[u64]); 12] = [
+    let wanted: [(&str, &[u64]); 13] = [
         ("walk", &[0, 2, 3]),
         ("integer", &[0, 1, 2, 8]),
         ("certificate", &[0, 1, 2, 4]),
@@ -35,6 +35,7 @@ fn main() {
         ("entry", &[0, 1, 5]),
         ("write", &[0, 1, 3, 9]),
         ("chain", &[0, 1, 5, 7]),
+        ("proposal", &[0, 1, 5, 7]),
         ("replay", &[0, 1, 9]),
     ];
     for (kind, numbers) in wanted {

@@ -7,6 +7,7 @@ use crate::crl::Crl;
 use crate::crl_breaks;
 use crate::der::{self, integer};
 use crate::image::{self, Image, BAD_DAYS};
+use crate::proposal;
 use crate::random::Random;
 use crate::table;
 use crate::time::{second_after, second_before, BAD_MOMENTS};
@@ -46,6 +47,13 @@ pub enum Question {
         table: Vec<u8>,
         moment: u64,
         target: u64,
+    },
+    Proposal {
+        image: Vec<u8>,
+        table: Vec<u8>,
+        moment: u64,
+        target: u64,
+        places: Vec<u8>,
     },
     /// A tray log; `room` is how many numbers the lent list has.
     Replay {
@@ -103,7 +111,8 @@ impl Source {
             78..=80 => self.entry(),
             81..=83 => self.write(),
             84..=86 => self.replay(),
-            _ => self.chain(),
+            87..=95 => self.chain(),
+            _ => self.proposal(),
         }
     }
 
@@ -341,6 +350,18 @@ impl Source {
     }
 
     fn chain(&mut self) -> Question {
+        let (_, image, table, moment, target) = self.asked();
+        Question::Chain { image, table, moment, target }
+    }
+
+    fn proposal(&mut self) -> Question {
+        let (world, image, table, moment, target) = self.asked();
+        let places = proposal::varied(&mut self.random, &self.worlds[world], &table, target);
+        Question::Proposal { image, table, moment, target, places }
+    }
+
+    /// A world by its number, and what is asked of it: image, table, moment and target.
+    fn asked(&mut self) -> (usize, Vec<u8>, Vec<u8>, u64, u64) {
         let random = &mut self.random;
         if self.worlds.len() < WORLDS {
             self.worlds.push(World::varied(random));
@@ -348,7 +369,8 @@ impl Source {
             let place = random.below(WORLDS);
             self.worlds[place] = World::varied(random);
         }
-        let world = random.pick(&self.worlds);
+        let number = random.below(self.worlds.len());
+        let world = &self.worlds[number];
         let mut image = world.image.clone();
         if random.percent(2) {
             (random.pick(&image::BREAKS[2..]).apply)(&mut image, random);
@@ -356,7 +378,7 @@ impl Source {
         let table = table::varied(random, world);
         let moment = moment(random, world);
         let target = target(random, world);
-        Question::Chain { image, table, moment, target }
+        (number, image, table, moment, target)
     }
 }
 

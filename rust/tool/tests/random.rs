@@ -39,13 +39,14 @@ fn questions_get_the_answer_of_the_library() {
 }
 
 fn words(random: &mut Random) -> Vec<Vec<u8>> {
-    const WORDS: [&str; 34] = [
+    const WORDS: [&str; 37] = [
         "item",
         "walk",
         "image",
         "pack",
         "unpack",
         "chain",
+        "propose",
         "days",
         "age",
         "demo",
@@ -65,6 +66,8 @@ fn words(random: &mut Random) -> Vec<Vec<u8>> {
         "--at",
         "20261115120000",
         "--signer",
+        "--chain",
+        "0,3",
         "all",
         "3",
         "x",
@@ -79,7 +82,7 @@ fn words(random: &mut Random) -> Vec<Vec<u8>> {
     for place in 0..random.between(1, 9) {
         out.push(match random.below(12) {
             0 => random.octets(5).into_iter().filter(|b| *b != 0 && *b != b'/').collect(),
-            _ if place == 0 => WORDS[random.below(9)].into(),
+            _ if place == 0 => WORDS[random.below(10)].into(),
             _ => WORDS[random.below(WORDS.len())].into(),
         });
     }

@@ -52,6 +52,7 @@ answer!(Entry, 48 { 16 kind: u64, 24 flags: u64, 32 length: u64, 40 offset: u64 
 answer!(Write, 24 { 16 length: u64 });
 answer!(Chain, 120 { 16 length: u64, 24 places: [u8; 96] });
 answer!(Replay, 24 { 16 faulty: u64 });
+answer!(Told, 16 {});
 
 extern "C" {
     pub fn vrbolist_walk(item: *const u8, item_len: usize) -> Walk;
@@ -84,5 +85,15 @@ extern "C" {
         moment: u64,
         target: u64,
     ) -> Chain;
+    pub fn vrbolist_proposal(
+        image: *const u8,
+        image_len: usize,
+        table: *const u8,
+        table_len: usize,
+        moment: u64,
+        target: u64,
+        places: *const u8,
+        places_len: usize,
+    ) -> Told;
     pub fn vrbolist_replay(log: *const u8, log_len: usize, list: *mut u64, list_len: usize) -> Replay;
 }

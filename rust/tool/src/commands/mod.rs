@@ -7,6 +7,7 @@ pub mod demo;
 pub mod image;
 pub mod item;
 pub mod pack;
+pub mod propose;
 pub mod tray;
 pub mod unpack;
 pub mod walk;
@@ -24,13 +25,14 @@ pub struct Command {
     pub run: fn(&Given) -> Result<Answer, Stop>,
 }
 
-const COMMANDS: [&Command; 10] = [
+const COMMANDS: [&Command; 11] = [
     &item::COMMAND,
     &walk::COMMAND,
     &image::COMMAND,
     &pack::COMMAND,
     &unpack::COMMAND,
     &chain::COMMAND,
+    &propose::COMMAND,
     &days::COMMAND,
     &age::COMMAND,
     &tray::COMMAND,
@@ -47,6 +49,8 @@ vrbolist: judges passport-signing certificates, CRLs, trust images and chains
   vrbolist unpack IMAGE DIR                        its items as files
   vrbolist chain IMAGE --table T --at MOMENT --signer PLACE|all
                                                    the chain to a signer, or why there is none
+  vrbolist propose IMAGE --table T --at MOMENT --signer PLACE --chain PLACE,PLACE,..
+                                                   whether a proposed chain is a good one
   vrbolist days A B                                days from one day to another
   vrbolist age CRL DAY                             how old a CRL is on a day
   vrbolist tray LOG [--append ..]                  replays a tray log, or adds to it
