@@ -53,8 +53,8 @@ fn the_stored_answers_proposed() {
         let line = format!("propose {image}.image --table {image}.table --at {moment} --signer {place} --chain {chain}");
         let run = bench.status(&line, number);
         let told = format!("chain {}\n", chain.replace(',', " > "));
-        assert!(number == 1 || run.out.contains(&told), "{line}\n{}", run.out);
-        assert!(number != 7 || run.out.contains(" fails, "), "{line} is not explained:\n{}", run.out);
+        assert!(run.out.contains(&told), "{line}\n{}", run.out);
+        assert!(number != 7 || run.out.contains("  The first thing that fails is "), "{line} is not explained:\n{}", run.out);
     }
 }
 

@@ -71,7 +71,7 @@ fn answer(base: Json, question: &Question<'_>, world: &World<'_>, target: u64, c
     let places: Vec<u8> = chain.iter().map(|place| u8::try_from(*place).unwrap_or(u8::MAX)).collect();
     match vrbolist::proposal(question.image, question.table, question.at, target, &places) {
         Ok(()) => accepted(base, question, world, target, &places),
-        Err(refusal) if refusal.number == 7 => failed(base, question, world, target, &places, refusal),
+        Err(refusal) if refusal.number == 7 => failed(base, question, world, target, (&places, refusal)),
         Err(refusal) => {
             let mut words = arguments(question, world, target, Some(target));
             words.extend(out_of_range(world, chain));
@@ -94,50 +94,49 @@ fn out_of_range(world: &World<'_>, chain: &[u64]) -> Vec<String> {
     out
 }
 
-fn head(question: &Question<'_>, target: u64, told: &str, places: &[u8]) -> String {
-    let shown: Vec<String> = places.iter().map(u8::to_string).collect();
-    format!("At {} UTC\nsigner {target}  {told}   chain {}\n", moment(question.at), shown.join(" > "))
+fn shown(places: &[u8]) -> String {
+    places.iter().map(u8::to_string).collect::<Vec<_>>().join(" > ")
 }
 
 fn accepted(base: Json, question: &Question<'_>, world: &World<'_>, target: u64, places: &[u8]) -> Answer {
     let each = || places.iter().map(|place| usize::from(*place));
+    let head = format!("At {} UTC\nsigner {target}  PASSED   chain {}\n", moment(question.at), shown(places));
     let lines: String = each().map(|place| certificate_lines(world, place)).collect();
     let json: Vec<Json> = each().map(|place| certificate_json(world, place)).collect();
-    Answer::passed(head(question, target, "PASSED", places) + &lines, base, object! { "chain": json })
+    Answer::passed(head + &lines, base, object! { "chain": json })
 }
 
-fn failed(
-    base: Json,
-    question: &Question<'_>,
-    world: &World<'_>,
-    target: u64,
-    places: &[u8],
-    refusal: Refusal,
-) -> Answer {
+fn failed(base: Json, question: &Question<'_>, world: &World<'_>, target: u64, told: (&[u8], Refusal)) -> Answer {
+    let (places, refusal) = told;
     let chain: Vec<usize> = places.iter().map(|place| usize::from(*place)).collect();
     let found = world.first_failure(&chain, usize::try_from(target).unwrap_or(usize::MAX));
-    let (text, json) = match &found {
-        Some(failure) => (failure_text(world, failure), failure_json(failure)),
-        None => (String::new(), Json::Null),
+    let head = format!(
+        "At {} UTC\nsigner {target}  REFUSED  {}, detail {}: the proposal is no good chain\n  chain {}\n",
+        moment(question.at),
+        refusal.number,
+        refusal.detail,
+        shown(places)
+    );
+    let text = found.as_ref().map_or(String::new(), |failure| failure_text(world, failure));
+    let words = ["The proposal is no good chain.".to_string()];
+    let json = object! {
+        "passed": false, "refusal": explain::json(refusal, &words), "fails": found.as_ref().map(failure_json),
     };
-    let told = format!("REFUSED  {}, detail {}: {}\n", refusal.number, refusal.detail, explain::name(refusal));
-    let head = head(question, target, "PROPOSED", places) + &told;
-    let json = base.with(object! { "passed": false, "refusal": explain::json(refusal, &[]), "fails": json });
-    Answer { status: crate::answer::status(refusal), text: head + &text, json }
+    Answer { status: crate::answer::status(refusal), text: head + &text, json: base.with(json) }
 }
 
 fn failure_text(world: &World<'_>, failure: &Failure) -> String {
     let (place, number) = (failure.place, failure.number + 1);
-    let head = match failure.before {
-        Some(before) => format!("  the step {before} > {place} fails, to number {number} of the chain:\n"),
-        None => format!("  place {place} fails, {}, number {number} of the chain:\n", kind_of(world, place)),
+    let what = match failure.before {
+        Some(before) => format!("  The first thing that fails is the step {before} > {place}, to number {number}:\n"),
+        None => format!("  The first thing that fails is number {number}, place {place} ({}):\n", kind_of(world, place)),
     };
-    head + &failure.reasons.iter().map(|reason| wrapped(&reason.text, 4)).collect::<String>()
+    what + &failure.reasons.iter().map(|reason| wrapped(&reason.text, 15)).collect::<String>()
 }
 
 fn failure_json(failure: &Failure) -> Json {
     object! {
-        "number": failure.number, "place": failure.place, "step_from": failure.before,
+        "number": failure.number + 1, "place": failure.place, "step_from": failure.before,
         "reasons": reasons_json(&failure.reasons),
     }
 }
