@@ -60,7 +60,8 @@ module _ (items : List Item) (at : ℕ → ℕ) (held : Row → List ℕ) (place
   first-waiting : (p : ℕ) → p < length items → isNear near p ≡ false → itemAt items p .kind ≡ 2 → getD near p 0 ≡ 2
   unfolding isNear firstOf
   first-waiting p h e two =
-      ⊎-elim (λ one. false-true (sym e ∙ eq-eqb (getD near p 0) 1 one)) (λ (is : getD near p 0 ≡ firstOf target p (itemAt items p .kind)). rw (is, two) (go (eqb p target) (rw (is, two) at e))) (marks p h)
+      ⊎-elim (λ one. false-true (sym e ∙ eq-eqb (getD near p 0) 1 one))
+      (λ (is : getD near p 0 ≡ firstOf target p (itemAt items p .kind)). rw (is, two) (go (eqb p target) (rw (is, two) at e))) (marks p h)
     where
       go : (a : Bool) → eqb (cond a 1 2) 1 ≡ false → _≡_ {A = ℕ} (cond a 1 2) 2
       go true f = false-true (sym f)
@@ -68,7 +69,9 @@ module _ (items : List Item) (at : ℕ → ℕ) (held : Row → List ℕ) (place
 
   first-end : target < length items → isNear near target ≡ true
   unfolding isNear firstOf
-  first-end h = ⊎-elim (λ one. eq-eqb (getD near target 0) 1 one) (λ (is : getD near target 0 ≡ firstOf target target (itemAt items target .kind)). rw (is, eq-eqb target target refl)) (marks target h)
+  first-end h =
+      ⊎-elim (λ one. eq-eqb (getD near target 0) 1 one)
+      (λ (is : getD near target 0 ≡ firstOf target target (itemAt items target .kind)). rw (is, eq-eqb target target refl)) (marks target h)
 
   first-reach :
       target < length items → {u : ℕ} {c : List ℕ} → Onward (goodOf items table moment) target u c → (length c ≤ 0 + 1) ⊎ (_≡_ {A = ℕ} 0 4)

@@ -297,7 +297,8 @@ module _ (s table : List ℕ) (moment target : ℕ) where
       → Proposed s table moment target (take (r .length) (r .places)) p → p ≡ proposal.Accepted
   shown-accepted r (answers.refused why f w) e p = absurd (let t = w .told in let z : _≡_ {A = ℕ} 0 1 = cc in omega arith)
   shown-accepted r (answers.none f h w) e p = absurd (let t = w .told in let z : _≡_ {A = ℕ} 0 1 = cc in omega arith)
-  shown-accepted r (answers.found {n} c f h w) e p = λ is. best-accepted n c f h p (rw (w .many, w .slots, take-append-seam c (replicate (96 - length c) 255)) at is)
+  shown-accepted r (answers.found {n} c f h w) e p = λ is.
+      best-accepted n c f h p (rw (w .many, w .slots, take-append-seam c (replicate (96 - length c) 255)) at is)
 
   module _ (places : List ℕ) (p : Proposal) (is : Proposed s table moment target places p) where
     -- Where a proposal is accepted a chain is shown that is no longer.
