@@ -302,7 +302,7 @@ impl Source {
         let made = Image::varied(random);
         let mut items = made.items.concat();
         let (mut kinds, mut flags, mut lengths) = (made.kinds.clone(), made.flags.clone(), made.lengths());
-        if random.percent(1) {
+        if random.percent(2) {
             // Around 262,144 bytes.
             lengths = vec![16_384; 16];
             lengths[15] = 16_384 - 8 * 16 - 12 + random.between(0, 2) as u32 - 1;
