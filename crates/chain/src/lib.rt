@@ -1,4 +1,5 @@
-// The chain from an enabled anchor to a document signer at a moment: the shortest, and of those the first.
+// The chain from an enabled anchor to a document signer at a moment: the shortest, and of those the first. And whether a chain that
+// is proposed is a good one.
 mod anchors;
 mod asking;
 mod given;
