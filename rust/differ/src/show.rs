@@ -51,11 +51,9 @@ pub fn show(question: &Question) -> String {
         Question::Chain { image, table, moment, target } => {
             format!("moment {moment}, target {target}, table {}, image {}", hex(table), hex(image))
         }
-        Question::Proposal { image, table, moment, target, places } => format!(
-            "moment {moment}, target {target}, places {places:?}, table {}, image {}",
-            hex(table),
-            hex(image)
-        ),
+        Question::Proposal { image, table, moment, target, places } => {
+            format!("moment {moment}, target {target}, places {places:?}, table {}, image {}", hex(table), hex(image))
+        }
         Question::Replay { log, room } => format!("room {room}, log {}", hex(log)),
     }
 }

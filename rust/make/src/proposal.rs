@@ -41,7 +41,8 @@ fn way(random: &mut Random, world: &World, table: &[u8], target: u64) -> Vec<u8>
     let mut at = target as usize;
     while places.len() < 96 {
         let from = |kind: u8| -> Vec<usize> {
-            let signed = |u: &usize| u.checked_mul(n).and_then(|row| row.checked_add(at)).and_then(|pair| table.get(pair));
+            let signed =
+                |u: &usize| u.checked_mul(n).and_then(|row| row.checked_add(at)).and_then(|pair| table.get(pair));
             world.places(kind).into_iter().filter(|u| signed(u) == Some(&1)).collect()
         };
         let (anchors, more) = (from(ANCHOR), from(LINK));

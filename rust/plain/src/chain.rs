@@ -52,7 +52,8 @@ pub struct Told {
 /// Judges a proposed chain: any good chain to the target is accepted. Its own
 /// range (1) comes after the rest of the question, then 7.
 pub fn proposal(image: &[u8], table: &[u8], moment: u64, target: u64, places: &[u8]) -> Told {
-    let weighed = question(image, table, moment, target).and_then(|mut question| question.weigh(target as usize, places));
+    let weighed =
+        question(image, table, moment, target).and_then(|mut question| question.weigh(target as usize, places));
     let Refusal { number, detail } = weighed.err().unwrap_or(Refusal { number: 0, detail: 0 });
     Told { number, detail }
 }

@@ -133,7 +133,8 @@ impl<'a> World<'a> {
 
     /// Why a step is not good; `None` where the two have nothing to do with each other.
     fn step(&self, from: usize, to: usize) -> Option<Vec<Reason>> {
-        let certificates = self.places.get(from)?.certificate().is_some() && self.places.get(to)?.certificate().is_some();
+        let certificates =
+            self.places.get(from)?.certificate().is_some() && self.places.get(to)?.certificate().is_some();
         let out = self.step_faults(from, to);
         let related = if certificates { out.len() < 3 } else { out.is_empty() };
         related.then_some(out)

@@ -50,11 +50,16 @@ fn the_stored_answers_proposed() {
         let row: Vec<&str> = row.split('\t').collect();
         let (image, moment, place, number) = (row[0], row[1], row[2], row[3].parse().unwrap());
         let chain = if number == 0 { row[6].to_string() } else { format!("0,{place}") };
-        let line = format!("propose {image}.image --table {image}.table --at {moment} --signer {place} --chain {chain}");
+        let line =
+            format!("propose {image}.image --table {image}.table --at {moment} --signer {place} --chain {chain}");
         let run = bench.status(&line, number);
         let told = format!("chain {}\n", chain.replace(',', " > "));
         assert!(run.out.contains(&told), "{line}\n{}", run.out);
-        assert!(number != 7 || run.out.contains("  The first thing that fails is "), "{line} is not explained:\n{}", run.out);
+        assert!(
+            number != 7 || run.out.contains("  The first thing that fails is "),
+            "{line} is not explained:\n{}",
+            run.out
+        );
     }
 }
 

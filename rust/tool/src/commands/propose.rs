@@ -129,7 +129,9 @@ fn failure_text(world: &World<'_>, failure: &Failure) -> String {
     let (place, number) = (failure.place, failure.number + 1);
     let what = match failure.before {
         Some(before) => format!("  The first thing that fails is the step {before} > {place}, to number {number}:\n"),
-        None => format!("  The first thing that fails is number {number}, place {place} ({}):\n", kind_of(world, place)),
+        None => {
+            format!("  The first thing that fails is number {number}, place {place} ({}):\n", kind_of(world, place))
+        }
     };
     what + &failure.reasons.iter().map(|reason| wrapped(&reason.text, 15)).collect::<String>()
 }
