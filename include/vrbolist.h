@@ -147,6 +147,12 @@ typedef struct {
     uint64_t faulty; /* how many records are faulty, and listed */
 } vrbolist_replay_answer;
 
+/* The answer of number and detail alone. */
+typedef struct {
+    uint64_t number;
+    uint64_t detail;
+} vrbolist_told;
+
 /* Walks an item and counts its elements.
  * Refusals: 3 at 0 for more than VRBOLIST_ITEM_LIMIT bytes, then 2 and 3 as the walk meets them. */
 vrbolist_walk_answer vrbolist_walk(const uint8_t *item, size_t item_len);
@@ -215,6 +221,13 @@ vrbolist_letters_answer vrbolist_letters(const uint8_t *image, size_t image_len)
  * or a place that has no document signer, then 7. */
 vrbolist_chain_answer vrbolist_chain(const uint8_t *image, size_t image_len, const uint8_t *table, size_t table_len,
                                      uint64_t moment, uint64_t target);
+
+/* Judges a proposed chain to the document signer at the place `target`: `places` has a byte for each of its places, from the
+ * anchor on. It passes where it is a good chain; it need not be the best one, and a link may stand in it twice.
+ * Refusals: those of vrbolist_chain but 7, then 1 for fewer than 2 or more than VRBOLIST_PLACES places or a place that is not
+ * there, then 7 for what is no good chain. */
+vrbolist_told vrbolist_proposal(const uint8_t *image, size_t image_len, const uint8_t *table, size_t table_len,
+                                uint64_t moment, uint64_t target, const uint8_t *places, size_t places_len);
 
 /* Replays a tray log, records of VRBOLIST_RECORD bytes, and lists the numbers of the faulty records, from 0 and ascending, at
  * the front of `list`; its other numbers stay. A list with a number for each record is always long enough, and the quickest.

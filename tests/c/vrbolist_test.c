@@ -219,6 +219,9 @@ static void layout(void) {
     LAID_OUT(letters, 24, letters_to(to, NULL, 0));
     LAID_OUT(chain, 120, chain_to(to, NULL, 0, NULL, 0, MOMENT, 0));
     LAID_OUT(replay, 24, replay_to(to, NULL, 0, NULL, 0));
+    /* An answer of 16 bytes comes back in registers, so its layout is the header's alone. */
+    CHECK(sizeof(vrbolist_told) == 16);
+    CHECK(offsetof(vrbolist_told, number) == 0 && offsetof(vrbolist_told, detail) == 8);
 }
 
 /* Walk. */
@@ -718,6 +721,40 @@ static void chains(struct item image) {
     CHAIN(NULL, 0, NULL, 0, 0, 0, VRBOLIST_IMAGE, 1, 0);
 }
 
+/* Proposed chains: `image` is an anchor, a signer and a CRL. */
+
+static void told_is(int line, vrbolist_told answer, uint64_t number, uint64_t detail) {
+    HEAD(answer, number, detail);
+}
+
+static void proposals(struct item image) {
+    static const uint8_t both[] = {1, 1, 1, 0, 0, 0, 0, 0, 0}, no_crl[] = {1, 1, 0, 0, 0, 0, 0, 0, 0},
+                         two[] = {1, 1, 1, 0, 0, 0, 0, 0, 2}, good[] = {0, 1}, turned[] = {1, 0}, past[] = {0, 3},
+                         none[] = {0, VRBOLIST_NO_PLACE}, again[] = {0, 0, 1};
+    static uint8_t most[VRBOLIST_PLACES + 1];
+    const uint8_t *table = lend(both, 9), *places = lend(good, 2), *many = lend(most, sizeof most);
+#define PROPOSED(image, image_n, table, table_n, moment, target, places, places_n, number, detail) \
+    told_is(__LINE__, vrbolist_proposal(image, image_n, table, table_n, moment, target, places, places_n), number, detail)
+    PROPOSED(image.at, image.len, table, 9, MOMENT, 1, places, 2, 0, 0);
+    PROPOSED(image.at, image.len, table, 9, 20261101060000, 1, places, 2, 0, 0);
+    PROPOSED(image.at, image.len, table, 9, 20261101055959, 1, places, 2, VRBOLIST_CHAIN, 0);
+    PROPOSED(image.at, image.len, lend(no_crl, 9), 9, MOMENT, 1, places, 2, VRBOLIST_CHAIN, 0);
+    PROPOSED(image.at, image.len, table, 9, MOMENT, 1, lend(turned, 2), 2, VRBOLIST_CHAIN, 0);
+    PROPOSED(image.at, image.len, table, 9, MOMENT, 1, lend(again, 3), 3, VRBOLIST_CHAIN, 0);
+    PROPOSED(image.at, image.len, table, 9, MOMENT, 1, many, VRBOLIST_PLACES, VRBOLIST_CHAIN, 0);
+    PROPOSED(image.at, image.len, table, 9, MOMENT, 1, many, sizeof most, VRBOLIST_ARGUMENT, 0);
+    PROPOSED(image.at, image.len, table, 9, MOMENT, 1, places, 1, VRBOLIST_ARGUMENT, 0);
+    PROPOSED(image.at, image.len, table, 9, MOMENT, 1, NULL, 0, VRBOLIST_ARGUMENT, 0);
+    PROPOSED(image.at, image.len, table, 9, MOMENT, 1, lend(past, 2), 2, VRBOLIST_ARGUMENT, 0);
+    PROPOSED(image.at, image.len, table, 9, MOMENT, 1, lend(none, 2), 2, VRBOLIST_ARGUMENT, 0);
+    PROPOSED(image.at, image.len, lend(two, 9), 9, MOMENT, 1, places, 2, VRBOLIST_ARGUMENT, 0);
+    PROPOSED(image.at, image.len, table, 9, UINT64_MAX, 1, places, 2, VRBOLIST_ARGUMENT, 0);
+    PROPOSED(image.at, image.len, table, 9, MOMENT, 2, places, 2, VRBOLIST_ARGUMENT, 0);
+    PROPOSED(image.at, image.len, table, 9, MOMENT, UINT64_MAX, places, 2, VRBOLIST_ARGUMENT, 0);
+    PROPOSED(image.at + 1, image.len - 1, table, 9, MOMENT, 1, NULL, 0, VRBOLIST_IMAGE, 5);
+    PROPOSED(NULL, 0, NULL, 0, 0, 0, NULL, 0, VRBOLIST_IMAGE, 1);
+}
+
 /* Tray logs. */
 
 static void replay_is(int line, vrbolist_replay_answer answer, uint64_t number, uint64_t detail, uint64_t faulty) {
@@ -808,6 +845,8 @@ int main(int argc, char **argv) {
     moves(one, two);
     chains(one);
     chains(two);
+    proposals(one);
+    proposals(two);
     replays();
     CHECK(all_kept());
     printf("%lu passed, %lu failed\n", passed, failed);

@@ -105,12 +105,21 @@ class Question:
         return chains.get(target)
 
 
+    def good(self, target, places):
+        """Whether these places are a good chain: a usable anchor, usable links, the signer, each step good."""
+        steps = self.steps()
+        return (places[0] in self.anchors and all(place in self.links for place in places[1:-1])
+                and places[-1] == target and target in self.signers
+                and all(pair in steps for pair in zip(places, places[1:])))
+
+
 def rank(places):
     """Shorter chains come first, of those as long the one with the smaller place where they first differ."""
     return len(places), places
 
 
-def ask(items, table, moment, target):
+def check(items, table, moment, target):
+    """Refuses what is no question."""
     number = len(items)
     if len(table) != number * number or any(octet > 1 for octet in table):
         raise Refused(1)
@@ -118,6 +127,10 @@ def ask(items, table, moment, target):
         raise Refused(1)
     if target not in range(number) or items[target][0] != SIGNER:
         raise Refused(1)
+
+
+def ask(items, table, moment, target):
+    check(items, table, moment, target)
     found = Question(items, table, moment).best(target)
     if found is None:
         raise Refused(7)
@@ -138,10 +151,27 @@ def chain(items, table, moment, target):
     return told(ask, items, table, moment, target)
 
 
-def ask_image(image, table, moment, target):
+def items_of(image):
     oracle_image.opened(image)
-    items = [(one.kind, one.flags, image[one.offset:one.offset + one.length]) for one in oracle_image.index(image)]
-    return ask(items, table, moment, target)
+    return [(one.kind, one.flags, image[one.offset:one.offset + one.length]) for one in oracle_image.index(image)]
+
+
+def ask_image(image, table, moment, target):
+    return ask(items_of(image), table, moment, target)
+
+
+def propose(image, table, moment, target, places):
+    """Number and detail of what is told of a proposed chain."""
+    try:
+        items = items_of(image)
+        check(items, table, moment, target)
+        if not 2 <= len(places) <= SLOTS or any(place >= len(items) for place in places):
+            raise Refused(1)
+        if not Question(items, table, moment).good(target, places):
+            raise Refused(7)
+    except Refused as refusal:
+        return refusal.number, refusal.detail
+    return 0, 0
 
 
 def chain_of_image(image, table, moment, target):

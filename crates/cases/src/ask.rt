@@ -5,6 +5,7 @@ use crate::days;
 use crate::images;
 use crate::items;
 use crate::lists;
+use crate::proposals;
 use crate::record::Question;
 use crate::say;
 use crate::trays;
@@ -35,6 +36,7 @@ pub(crate) fn answer(question: Question, bytes: &[u8]) {
         16 => writing::write_filled(bytes, first, second, third),
         17 => chains::best(bytes, first, second, third),
         18 => trays::replay(bytes, first),
+        19 => proposals::weigh(bytes, first, second, third),
         21 => versions::to_2(bytes, first),
         22 => versions::to_1(bytes, first),
         23 => versions::check(bytes),

@@ -6,6 +6,7 @@ mod days;
 mod images;
 mod items;
 mod lists;
+mod proposals;
 mod record;
 mod say;
 mod sums;

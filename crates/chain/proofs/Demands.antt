@@ -22,6 +22,7 @@ use Rattle.image.specs.Index.{entryCount, itemsIn}
 use Rattle.chain.specs.declared.asking.Asked.the-variants as asked
 use Rattle.chain.specs.Answer.{askedOf, goodChains}
 use Rattle.chain.specs.Demand.{EnabledAnchor, UsableAs, Demanded}
+use Rattle.chain.specs.Given.{InRange}
 use Rattle.usable.specs.Items.{itemAt, onCertificate, certificateAt, within}
 use Rattle.chain.specs.Good.{chains}
 use Rattle.usable.specs.Steps.{hasKind}
@@ -114,3 +115,10 @@ module _ (s table : List ℕ) (moment target : ℕ) where
           shortest = λ d h. no-longer d (b .least d h);
           first = λ d h l. no-later d l (b .least d h);
         }
+
+    -- so it is in the range of a proposal
+    pub best-in-range : {n : ℕ} → askedOf s table moment target ≡ asked.Over n → InRange n c
+    best-in-range e =
+        let d = demands e in
+        let o = asked-over s table moment target e in
+        record { two = d .two; most = d .most; inside = λ i h. omega (arith, o .0, d .inside i h) }

@@ -1,4 +1,4 @@
--- The first round: the target is opened first, then of what is near the anchors and CRLs of its country.
+-- The first round: the target is opened first, then of what is near the anchors and CRLs of its country, and what else is marked.
 use Prim.Native.Nat.{ℕ, _+_, _<_, _≤_}
 use mathlib.Core.Path.{_≡_, refl, sym, ap, _∙_}
 use mathlib.Core.Bool.{Bool, true, false, cond, _&&_}
@@ -9,7 +9,7 @@ use borrow.Author.Tests.{eqb-true, eqb-false, eq-eqb}
 use lib.Dec.{eqb}
 use lib.ListN.{length, getD, set, replicate}
 use lib.Seq.{getD-set-same, getD-set-other}
-use Rattle.graph.specs.Chains.{Onward, ends, goes}
+use Rattle.graph.specs.Chains.{Onward, ends, goes, Chain}
 use Rattle.graph.specs.declared.Found.{Found}
 use Rattle.graph.specs.Answer.{NoChain, Answered, none}
 use Rattle.graph.proofs.Targets.{chain-target}
@@ -41,10 +41,12 @@ no-slots : (p : ℕ) → isNear (replicate 96 0) p ≡ true → ⊥
 unfolding isNear
 no-slots p e = false-true (rw (empty-slots {A = ℕ} 96 p) at e)
 
-module _ (items : List Item) (at : ℕ → ℕ) (held : Row → List ℕ) (placed : Placed held items at) (table : List ℕ) (moment target : ℕ) (near : List ℕ) (firsts : (p : ℕ) → p < length items → getD near p 0 ≡ firstOf target p (itemAt items p .kind)) where
+module _ (items : List Item) (at : ℕ → ℕ) (held : Row → List ℕ) (placed : Placed held items at) (table : List ℕ) (moment target : ℕ) (near : List ℕ) (marks : (p : ℕ) → p < length items → (getD near p 0 ≡ 1) ⊎ (getD near p 0 ≡ firstOf target p (itemAt items p .kind))) where
   first-based : Based items near
   unfolding isNear firstOf
-  first-based p h e = go (eqb p target) (eqb (itemAt items p .kind) 2) refl (eqb (itemAt items p .kind) 3) refl (rw (firsts p h) at e)
+  first-based p h e =
+      ⊎-elim (λ one. false-true (sym e ∙ eq-eqb (getD near p 0) 1 one))
+      (λ is. go (eqb p target) (eqb (itemAt items p .kind) 2) refl (eqb (itemAt items p .kind) 3) refl (rw is at e)) (marks p h)
     where
       go :
           (a b : Bool) → eqb (itemAt items p .kind) 2 ≡ b → (c : Bool) → eqb (itemAt items p .kind) 3 ≡ c
@@ -57,7 +59,9 @@ module _ (items : List Item) (at : ℕ → ℕ) (held : Row → List ℕ) (place
 
   first-waiting : (p : ℕ) → p < length items → isNear near p ≡ false → itemAt items p .kind ≡ 2 → getD near p 0 ≡ 2
   unfolding isNear firstOf
-  first-waiting p h e two = rw (firsts p h, two) (go (eqb p target) (rw (firsts p h, two) at e))
+  first-waiting p h e two =
+      ⊎-elim (λ one. false-true (sym e ∙ eq-eqb (getD near p 0) 1 one))
+      (λ (is : getD near p 0 ≡ firstOf target p (itemAt items p .kind)). rw (is, two) (go (eqb p target) (rw (is, two) at e))) (marks p h)
     where
       go : (a : Bool) → eqb (cond a 1 2) 1 ≡ false → _≡_ {A = ℕ} (cond a 1 2) 2
       go true f = false-true (sym f)
@@ -65,7 +69,9 @@ module _ (items : List Item) (at : ℕ → ℕ) (held : Row → List ℕ) (place
 
   first-end : target < length items → isNear near target ≡ true
   unfolding isNear firstOf
-  first-end h = rw (firsts target h, eq-eqb target target refl)
+  first-end h =
+      ⊎-elim (λ one. eq-eqb (getD near target 0) 1 one)
+      (λ (is : getD near target 0 ≡ firstOf target target (itemAt items target .kind)). rw (is, eq-eqb target target refl)) (marks target h)
 
   first-reach :
       target < length items → {u : ℕ} {c : List ℕ} → Onward (goodOf items table moment) target u c → (length c ≤ 0 + 1) ⊎ (_≡_ {A = ℕ} 0 4)
@@ -149,18 +155,21 @@ module _ (items : List Item) (at : ℕ → ℕ) (held : Row → List ℕ) (place
       }
 
 -- a target whose row is blank has no chain
-pub no-row :
-    (items : List Item) (at : ℕ → ℕ) (table : List ℕ) (moment target : ℕ) (signer : List ℕ) {f : Found}
-    → rowFrom signer ≡ rowOf moment (itemAt items target) (at target) → getD signer 0 0 ≡ 0 → NoChain f → Answered (goodOf items table moment) target f
+pub blank-target :
+    (items : List Item) (at : ℕ → ℕ) (table : List ℕ) (moment target : ℕ) (signer : List ℕ)
+    → rowFrom signer ≡ rowOf moment (itemAt items target) (at target) → getD signer 0 0 ≡ 0
+    → (c : List ℕ) → Chain (goodOf items table moment) target c → ⊥
 unfolding chains usable hasKind
-no-row items at table moment target signer is zero empty =
-    none
-    (λ c e.
+blank-target items at table moment target signer is zero c e =
     let usable = chain-target e .1 in
     let kind = first (eqb (itemAt items target .kind) 3) _ usable in
     let times = sym (valid-told items moment target) ∙ first (valid items moment target) _ (second (eqb (itemAt items target .kind) 3) _ usable) in
     let standing : rowOf moment (itemAt items target) (at target) .standing ≡ 0 = ap (λ (r : Row). r .standing) (sym is) ∙ zero in
     false-true
     (ap (λ (m : ℕ). eqb m 3) (sym standing)
-    ∙ standing-signed (reading moment (itemAt items target) (at target)) 3 (omega arith) (omega arith) ∙ both-true _ _ kind times))
-    empty
+    ∙ standing-signed (reading moment (itemAt items target) (at target)) 3 (omega arith) (omega arith) ∙ both-true _ _ kind times)
+
+pub no-row :
+    (items : List Item) (at : ℕ → ℕ) (table : List ℕ) (moment target : ℕ) (signer : List ℕ) {f : Found}
+    → rowFrom signer ≡ rowOf moment (itemAt items target) (at target) → getD signer 0 0 ≡ 0 → NoChain f → Answered (goodOf items table moment) target f
+no-row items at table moment target signer is zero empty = none (blank-target items at table moment target signer is zero) empty

@@ -1,19 +1,21 @@
 -- The rounds over the items of an image: as many as its entries, each held where its entry says.
 use Prim.Native.Nat.{ℕ, _+_, _<_, _≤_}
 use mathlib.Core.Path.{_≡_, sym, ap, _∙_}
-use mathlib.Core.Bool.{false}
+use mathlib.Core.Bool.{true, false}
 use mathlib.Core.List.{List}
 use mathlib.Core.Logic.{_⊎_}
 use lib.ListN.{length, getD, set, replicate}
 use Rattle.graph.specs.declared.Found.{Found}
+use Rattle.graph.specs.Chains.{Chain}
 use Rattle.graph.specs.Answer.{NoChain, Answered}
 use Rattle.image.specs.Items.{Item}
 use Rattle.image.specs.Index.{entryCount, entryIn, itemsIn}
 use Rattle.usable.specs.Items.{itemAt}
-use Rattle.usable.specs.Rows.{heldIn, rowFrom, rowOf, stepOf, Counted, Roles}
+use Rattle.usable.specs.Rows.{heldIn, rowFrom, rowOf, isNear, stepOf, Counted, Roles}
 use Rattle.chain.specs.Answer.{goodChains}
 use Rattle.chain.specs.Near.{firstOf, Wider}
 use Rattle.chain.specs.Rounds.{startsIn, Opens, Searched, Direct}
+use Rattle.chain.specs.Given.{InRange, RolesFit, StepsFit}
 use Rattle.chain.proofs.Meaning.{goodOf}
 use Rattle.image.proofs.Places.{length-items}
 use Rattle.chain.proofs.PlacesMean.{item-told, image-placed}
@@ -22,6 +24,7 @@ use Rattle.chain.proofs.FirstRound as firsts
 use Rattle.chain.proofs.NextRound as nexts
 use Rattle.chain.proofs.LastStep as last
 use Rattle.chain.proofs.DirectMeans as direct
+use Rattle.chain.proofs.GivenChain as given
 
 -- what holds at the start of a round
 abbrev pub Round : ℕ → ℕ → List ℕ → List ℕ → ℕ → ℕ → ℕ → List ℕ → List (List ℕ) → List ℕ → List ℕ → Type 0
@@ -42,20 +45,25 @@ module _ (s table : List ℕ) (moment target n : ℕ) (same : n ≡ entryCount s
   kind h = ap (λ (i : Item). i .kind) (item-told s target (rw same at h))
 
   pub first-round :
-      {near : List ℕ} → ((p : ℕ) → p < n → getD near p 0 ≡ firstOf target p (itemAt (itemsIn s) p .kind)) → (signer : List ℕ)
+      {near : List ℕ} → ((p : ℕ) → p < n → (getD near p 0 ≡ 1) ⊎ (getD near p 0 ≡ firstOf target p (itemAt (itemsIn s) p .kind))) → (signer : List ℕ)
       → {rows : List (List ℕ)} {counting roles : List ℕ} → n ≤ 96 → target < n → entryIn s target .kind ≡ 3
       → rowFrom signer ≡ rowOf moment (itemAt (itemsIn s) target) (startsIn s target) → (getD signer 0 0 ≡ 0 → ⊥)
       → Opens moment (getD signer 1 0) (getD signer 2 0) n table (itemsIn s) (startsIn s) (set (replicate 96 0) target 1) near (set (replicate 96 (replicate 17 0)) target signer) rows
       → Counted n table rows counting → Roles (heldIn s) n (replicate 96 0) rows counting (replicate 96 0) roles
       → Round (getD signer 1 0) (getD signer 2 0) s table moment target 0 near rows counting roles
-  first-round {near} nears signer few h three is some opens counted known =
-      firsts.first-round (itemsIn s) (startsIn s) (heldIn s) (image-placed s) table moment target near (rw all at nears) signer (rw all at few) (inside h) (kind h ∙ three)
+  first-round {near} marks signer few h three is some opens counted known =
+      firsts.first-round (itemsIn s) (startsIn s) (heldIn s) (image-placed s) table moment target near (rw all at marks) signer (rw all at few) (inside h) (kind h ∙ three)
       is some (rw all at opens) (rw all at counted) (rw all at known)
 
   pub no-row :
       (signer : List ℕ) {f : Found} → rowFrom signer ≡ rowOf moment (itemAt (itemsIn s) target) (startsIn s target) → getD signer 0 0 ≡ 0 → NoChain f
       → Answered (goodChains s table moment) target f
   no-row signer is zero empty = told (firsts.no-row (itemsIn s) (startsIn s) table moment target signer is zero empty)
+
+  pub blank-target :
+      (signer : List ℕ) → rowFrom signer ≡ rowOf moment (itemAt (itemsIn s) target) (startsIn s target) → getD signer 0 0 ≡ 0
+      → (c : List ℕ) → Chain (goodChains s table moment) target c → ⊥
+  blank-target signer is zero c d = firsts.blank-target (itemsIn s) (startsIn s) table moment target signer is zero c (rw (← length-items s) at d)
 
   module _ {a b round : ℕ} {near : List ℕ} {rows : List (List ℕ)} {counting roles : List ℕ} (r : Round a b s table moment target round near rows counting roles) where
     pub no-signer : {f : Found} → target < n → (getD roles target 0 ≡ 3 → ⊥) → NoChain f → Answered (goodChains s table moment) target f
@@ -77,6 +85,19 @@ module _ (s table : List ℕ) (moment target n : ℕ) (same : n ≡ entryCount s
         → Answered (goodChains s table moment) target f
     no-last-step unled late empty =
         told (last.no-last-step a b (itemsIn s) (startsIn s) (heldIn s) (image-placed s) table moment target r (rw all at unled) late empty)
+
+    pub fits-good :
+        {c : List ℕ} → InRange n c → RolesFit roles target c → StepsFit (heldIn s) n table rows c → Chain (goodChains s table moment) target c
+    fits-good {c} range fit steps =
+        rw (length-items s) at
+        (given.fits-good a b (itemsIn s) (startsIn s) (heldIn s) (image-placed s) table moment target r c (rw all at range) fit (rw all at steps))
+
+    pub good-fits :
+        {c : List ℕ} → InRange n c → ((i : ℕ) → i < length c → itemAt (itemsIn s) (getD c i 0) .kind ≡ 2 → isNear near (getD c i 0) ≡ true)
+        → Chain (goodChains s table moment) target c → RolesFit roles target c × StepsFit (heldIn s) n table rows c
+    good-fits {c} range links d =
+        rw all
+        (given.good-fits a b (itemsIn s) (startsIn s) (heldIn s) (image-placed s) table moment target r c (rw all at range) links (rw (← length-items s) at d))
 
     module _ {wider : List ℕ} (w : Wider n table (round + 1) roles near wider) where
       pub closed-answer :

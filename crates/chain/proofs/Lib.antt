@@ -17,4 +17,6 @@ pub mod LastStep
 pub mod DirectMeans
 pub mod SpeakingUp
 pub mod OpeningLaws
+pub mod GivenChain
+pub mod Proposals
 pub mod ImageRounds

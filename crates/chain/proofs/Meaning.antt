@@ -1,19 +1,19 @@
 -- The chains of the tables are good chains of the items, those that are within, since roles and steps mean the definitions.
 use Prim.Native.Nat.{ℕ, _≤_}
-use mathlib.Core.Path.{_≡_}
+use mathlib.Core.Path.{_≡_, refl}
 use mathlib.Core.Bool.{Bool, cond}
 use mathlib.Core.List.{List}
 use borrow.Author.Tests.{le-leb}
-use lib.Dec.{leb}
-use lib.ListN.{length}
+use lib.Dec.{leb, eqb}
+use lib.ListN.{length, getD}
 use Rattle.graph.specs.Chains.{Graph, graphOf}
 use Rattle.image.specs.Items.{Item}
 use Rattle.usable.specs.declared.opened.Row.{Row}
 use Rattle.usable.specs.Table.{verdictIn}
-use Rattle.usable.specs.Rows.{Matched}
+use Rattle.usable.specs.Rows.{stepOf, Matched}
 use Rattle.usable.proofs.Scope.{Placed, Told, Scope}
 use Rattle.usable.proofs.RolesMean.{Known}
-use Rattle.usable.proofs.StepsMean.{step-means}
+use Rattle.usable.proofs.StepsMean.{step-told, step-means}
 use Rattle.chain.specs.Good.{chains}
 use Rattle.chain.proofs.Transfer.{Part}
 
@@ -37,4 +37,30 @@ tables-part items at held placed table moment scope rows roles steps few told kn
       signer = λ u h. known u (rw here at h) .signer;
       step = λ u v hu hv.
           step-means items at table moment scope rows told held placed roles known steps matched u v (rw here at hu) (rw here at hv);
+    }
+
+-- the graph of roles and rows, with no table of steps
+abbrev pub rowsGraph : (Row → List ℕ) → ℕ → List ℕ → List (List ℕ) → List ℕ → Graph
+rowsGraph held n table rows roles =
+    record {
+      places = n;
+      anchor = λ u. eqb (getD roles u 0) 1;
+      link = λ u. eqb (getD roles u 0) 2;
+      signer = λ u. eqb (getD roles u 0) 3;
+      step = stepOf held n table rows roles;
+    }
+
+pub rows-part :
+    (items : List Item) (at : ℕ → ℕ) (held : Row → List ℕ) → Placed held items at → (table : List ℕ) (moment : ℕ) {there within : ℕ → Bool}
+    → Scope items (verdictIn (length items) table) moment there within → (rows : List (List ℕ)) (roles : List ℕ)
+    → Told moment items at there rows → Known items table moment within roles
+    → Part within (rowsGraph held (length items) table rows roles) (goodOf items table moment)
+unfolding chains
+rows-part items at held placed table moment scope rows roles told known =
+    record {
+      places = refl;
+      anchor = λ u h. known u h .anchor;
+      link = λ u h. known u h .link;
+      signer = λ u h. known u h .signer;
+      step = λ u v hu hv. step-told items at table moment scope rows told held placed roles known u v hu hv;
     }

@@ -37,7 +37,7 @@ module _ (items : List Item) (table : List ℕ) (moment : ℕ) where
   abbrev good : Graph
   good = goodOf items table moment
 
-  link-kind : (v : ℕ) → good .link v ≡ true → itemAt items v .kind ≡ 2
+  pub link-kind : (v : ℕ) → good .link v ≡ true → itemAt items v .kind ≡ 2
   unfolding chains hasKind
   link-kind v e = eqb-true (itemAt items v .kind) 2 (first (eqb (itemAt items v .kind) 2) _ e)
 

@@ -1,20 +1,21 @@
 -- What the definition of good chains over items says, taken apart test by test; and what an answer settles, case by case of
 -- the answers.
-use Prim.Native.Nat.{ℕ, zero, suc, _<_, _-_}
+use Prim.Native.Nat.{ℕ, zero, suc, _<_, _≤_, _-_}
 use mathlib.Core.Path.{_≡_, refl, sym, ap, _∙_}
 use mathlib.Core.Bool.{Bool, true, false, cond, _&&_, _||_, not}
-use mathlib.Core.List.{List, _∷_, _++_}
+use mathlib.Core.List.{List, [], _∷_, _++_}
 use mathlib.Core.Logic.{_⊎_, inl, inr, ⊎-elim}
 use native.Mathlib.Nat.{eq-or-lt-of-le}
 use native.Mathlib.Omega.{arith}
 use borrow.Author.Tests.{eqb-true, not-true}
 use lib.Dec.{eqb, ltb}
-use lib.ListN.{length, replicate}
+use lib.ListN.{length, take, replicate}
+use lib.Seq.{take-append-seam}
 use Rattle.refusal.specs.declared.Refusal.{Refusal}
 use Rattle.refusal.specs.declared.Refusal.the-variants as refusal
 use Rattle.refusal.specs.Rules.{firstBroken}
 use Rattle.calendar.specs.Days.{realMoment}
-use Rattle.graph.specs.Chains.{Chain, chain, Best}
+use Rattle.graph.specs.Chains.{Chain, chain, NotLater, Best}
 use Rattle.graph.proofs.Theorems as graph
 use Rattle.image.specs.declared.Opened.{Opened}
 use Rattle.image.specs.declared.Opened.the-variants as opened
@@ -25,6 +26,8 @@ use Rattle.image.specs.Answer.{graded, openedWithin, openedOf}
 use Rattle.chain.specs.declared.asking.Asked.the-variants as asked
 use Rattle.chain.specs.declared.Answer.{Answer}
 use Rattle.chain.specs.declared.Outcome.the-variants.{Shown, Refused}
+use Rattle.chain.specs.declared.proposal.Proposal.{Proposal}
+use Rattle.chain.specs.declared.proposal.Proposal.the-variants as proposal
 use Rattle.usable.specs.Items.{itemAt, someBelow, somePlace}
 use Rattle.usable.specs.Usable.{valid, usableAnchor, counts, covers, lists, speaksOf, usable}
 use Rattle.chain.specs.Good.{chains}
@@ -33,8 +36,12 @@ use Rattle.usable.specs.Table.{tableGood}
 use Rattle.chain.specs.Answer as answers
 use Rattle.chain.specs.Answer.{onImage, askedOf, goodChains, With, Answered}
 use Rattle.chain.specs.Demand.{Demanded}
-use Rattle.chain.proofs.Demands.{demands}
+use Rattle.chain.specs.Proposal as proposed
+use Rattle.chain.specs.Proposal.{rangeGood, Proposed}
+use Rattle.usable.proofs.Booleans.{false-true}
+use Rattle.chain.proofs.Demands.{demands, best-in-range}
 use Rattle.chain.proofs.Homes.{step-verdict}
+use Rattle.chain.proofs.Proposals.{range-good}
 
 both : (p q : Bool) → (p && q) ≡ true → (p ≡ true) × (q ≡ true)
 both true q e = (refl, e)
@@ -237,3 +244,78 @@ module _ (s table : List ℕ) (moment target : ℕ) where
         go (answers.refused why f w) = absurd (let z : _≡_ {A = ℕ} 0 1 = cc in omega arith)
         go (answers.none f h w) = absurd (h c good)
         go (answers.found d f h w) = w .told
+
+module _ (s table : List ℕ) (moment target : ℕ) where
+  -- a range is good or not
+  apart :
+      (n m : ℕ) (places : List ℕ) → askedOf s table moment target ≡ asked.Over n → askedOf s table moment target ≡ asked.Over m
+      → rangeGood n places ≡ false → rangeGood m places ≡ true → ⊥
+  apart n m places e f a b = let same : n ≡ m = cc in false-true (sym a ∙ (rw (← same) at b))
+
+  -- what is accepted is a good chain
+  accepted-good :
+      (places : List ℕ) (p : Proposal) → Proposed s table moment target places p → p ≡ proposal.Accepted
+      → ((n : ℕ) × (askedOf s table moment target ≡ asked.Over n)) × Chain (goodChains s table moment) target places
+  accepted-good places p (proposed.refused why f w) e = absurd (let z : _≡_ {A = ℕ} 0 1 = cc in omega arith)
+  accepted-good places p (proposed.outside f b w) e = absurd (let z : _≡_ {A = ℕ} 0 1 = cc in omega arith)
+  accepted-good places p (proposed.accepted {n} f b g w) e = ((n, f), g)
+  accepted-good places p (proposed.unfounded f b g w) e = absurd (let z : _≡_ {A = ℕ} 0 1 = cc in omega arith)
+
+  -- and a best chain is accepted
+  best-accepted :
+      (n : ℕ) (c : List ℕ) → askedOf s table moment target ≡ asked.Over n → Best (goodChains s table moment) target c → (p : Proposal)
+      → Proposed s table moment target c p → p ≡ proposal.Accepted
+  best-accepted n c e b p (proposed.refused why f w) = absurd (let z : _≡_ {A = ℕ} 0 1 = cc in omega arith)
+  best-accepted n c e b p (proposed.outside {n = m} f a w) = absurd (apart m n c f e a (range-good n c (best-in-range s table moment target b e)))
+  best-accepted n c e b p (proposed.accepted f a g w) = w
+  best-accepted n c e b p (proposed.unfounded f a g w) = absurd (g (b .good))
+
+  -- No second answer fits a proposal.
+  pub one-verdict :
+      (places : List ℕ) (p q : Proposal) → Proposed s table moment target places p → Proposed s table moment target places q → p ≡ q
+  one-verdict places p q (proposed.refused why e w) (proposed.refused other f v) =
+      let same : why ≡ other = cc in w ∙ ap proposal.Refused same ∙ sym v
+  one-verdict places p q (proposed.refused why e w) (proposed.outside f b v) = absurd (let z : _≡_ {A = ℕ} 0 1 = cc in omega arith)
+  one-verdict places p q (proposed.refused why e w) (proposed.accepted f b g v) = absurd (let z : _≡_ {A = ℕ} 0 1 = cc in omega arith)
+  one-verdict places p q (proposed.refused why e w) (proposed.unfounded f b g v) = absurd (let z : _≡_ {A = ℕ} 0 1 = cc in omega arith)
+  one-verdict places p q (proposed.outside e a w) (proposed.refused why f v) = absurd (let z : _≡_ {A = ℕ} 0 1 = cc in omega arith)
+  one-verdict places p q (proposed.outside e a w) (proposed.outside f b v) = w ∙ sym v
+  one-verdict places p q (proposed.outside {n} e a w) (proposed.accepted {n = m} f b g v) = absurd (apart n m places e f a b)
+  one-verdict places p q (proposed.outside {n} e a w) (proposed.unfounded {n = m} f b g v) = absurd (apart n m places e f a b)
+  one-verdict places p q (proposed.accepted e a h w) (proposed.refused why f v) = absurd (let z : _≡_ {A = ℕ} 0 1 = cc in omega arith)
+  one-verdict places p q (proposed.accepted {n} e a h w) (proposed.outside {n = m} f b v) = absurd (apart m n places f e b a)
+  one-verdict places p q (proposed.accepted e a h w) (proposed.accepted f b g v) = w ∙ sym v
+  one-verdict places p q (proposed.accepted e a h w) (proposed.unfounded f b g v) = absurd (g h)
+  one-verdict places p q (proposed.unfounded e a h w) (proposed.refused why f v) = absurd (let z : _≡_ {A = ℕ} 0 1 = cc in omega arith)
+  one-verdict places p q (proposed.unfounded {n} e a h w) (proposed.outside {n = m} f b v) = absurd (apart m n places f e b a)
+  one-verdict places p q (proposed.unfounded e a h w) (proposed.accepted f b g v) = absurd (h g)
+  one-verdict places p q (proposed.unfounded e a h w) (proposed.unfounded f b g v) = w ∙ sym v
+
+  -- The chain that is shown is always accepted.
+  pub shown-accepted :
+      (r : Answer) → Answered s table moment target r → r .outcome ≡ Shown → (p : Proposal)
+      → Proposed s table moment target (take (r .length) (r .places)) p → p ≡ proposal.Accepted
+  shown-accepted r (answers.refused why f w) e p = absurd (let t = w .told in let z : _≡_ {A = ℕ} 0 1 = cc in omega arith)
+  shown-accepted r (answers.none f h w) e p = absurd (let t = w .told in let z : _≡_ {A = ℕ} 0 1 = cc in omega arith)
+  shown-accepted r (answers.found {n} c f h w) e p = λ is.
+      best-accepted n c f h p (rw (w .many, w .slots, take-append-seam c (replicate (96 - length c) 255)) at is)
+
+  module _ (places : List ℕ) (p : Proposal) (is : Proposed s table moment target places p) where
+    -- Where a proposal is accepted a chain is shown that is no longer.
+    pub never-shorter : (r : Answer) → Answered s table moment target r → p ≡ proposal.Accepted → (r .outcome ≡ Shown) × (r .length ≤ length places)
+    never-shorter r a e = go a (accepted-good places p is e)
+      where
+        least : (c : List ℕ) → (length c < length places) ⊎ ((length c ≡ length places) × NotLater c places) → length c ≤ length places
+        least c (inl k) = omega arith
+        least c (inr k) = omega (arith, k .0)
+
+        go :
+            Answered s table moment target r → ((n : ℕ) × (askedOf s table moment target ≡ asked.Over n)) × Chain (goodChains s table moment) target places
+            → (r .outcome ≡ Shown) × (r .length ≤ length places)
+        go (answers.refused why f w) ((n, x), g) = absurd (let z : _≡_ {A = ℕ} 0 1 = cc in omega arith)
+        go (answers.none f h w) (x, g) = absurd (h places g)
+        go (answers.found c f h w) (x, g) = (w .told, omega (arith, w .many, least c (h .least places g)))
+
+    -- Where the answer is 7 no proposal is accepted.
+    pub none-accepted : (r : Answer) → Answered s table moment target r → r .outcome ≡ Refused refusal.Chain → p ≡ proposal.Accepted → ⊥
+    none-accepted r a seven e = none-sound s table moment target r a seven .1 places (accepted-good places p is e .1)

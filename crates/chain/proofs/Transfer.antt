@@ -59,18 +59,19 @@ module _ {near : ℕ → Bool} {g h : Graph} (a : Part near g h) {t : ℕ} where
       let is : g .link v ≡ true = a .link v here ∙ both-true (near v) (h .link v) n link in
       goes {v = v} here is (a .step u v l here from (inl is) ∙ step) (inward here (inr is) rest-near rest)
 
+  -- a chain of the whole that is near is one of what is near
+  pub chain-near : {c : List ℕ} → AllNear near c → Chain h t c → Chain g t c
+  chain-near (more n others) (chain {u = u} l anchor rest) =
+      let here : u < g .places = omega (arith, a .places) in
+      let is : g .anchor u ≡ true = a .anchor u here ∙ both-true (near u) (h .anchor u) n anchor in
+      chain {u = u} here is (inward here (inl is) others rest)
+
   -- a chain of the whole is one of what is near, or longer than the one found
   chain-in :
       (r : Found) {d : List ℕ} → NearOrLonger near h t r → Chain h t d
       → Chain g t d ⊎ ((r .length ≡ 0 → ⊥) × (r .length < length d))
   chain-in r ways (chain {u = u} {rest = c} l anchor rest) =
-      ⊎-elim (λ n. inl (within n)) (λ k. inr (k .0, omega (arith, k .1))) (ways u c l anchor rest)
-    where
-      within : AllNear near (u ∷ c) → Chain g t (u ∷ c)
-      within (more n others) =
-          let here : u < g .places = omega (arith, a .places) in
-          let is : g .anchor u ≡ true = a .anchor u here ∙ both-true (near u) (h .anchor u) n anchor in
-          chain {u = u} here is (inward here (inl is) others rest)
+      ⊎-elim (λ n. inl (chain-near n (chain {u = u} l anchor rest))) (λ k. inr (k .0, omega (arith, k .1))) (ways u c l anchor rest)
 
   pub answer-out : {r : Found} → NearOrLonger near h t r → Answered g t r → Answered h t r
   answer-out {r} ways (found c b l p) =

@@ -3,3 +3,5 @@ pub mod Near
 pub mod Rounds
 pub mod Answer
 pub mod Demand
+pub mod Proposal
+pub mod Given

@@ -1,14 +1,19 @@
-// The chain from an enabled anchor to a document signer at a moment: the shortest, and of those the first.
+// The chain from an enabled anchor to a document signer at a moment: the shortest, and of those the first. And whether a chain that
+// is proposed is a good one.
 mod anchors;
 mod asking;
+mod given;
 mod matching;
 mod near;
 mod opening;
+mod proposal;
 mod rounds;
 
 use asking::Asked;
 use asking::question;
 use graph::Found;
+pub use proposal::Proposal;
+pub use proposal::propose;
 use refusal::Refusal;
 use rounds::chain_among;
 ghost use mathlib.Core.Path.{_≡_};

@@ -63,6 +63,32 @@ module _ {g : Graph} {t : ℕ} where
   pub two-places : {c : List ℕ} → Chain g t c → 2 ≤ length c
   two-places (chain l k o) = omega (arith, some-place o)
 
+  -- and what is so of its places and steps is a good chain
+  onward-by :
+      (u : ℕ) (c : List ℕ) → 0 < length c → ((i : ℕ) → i < length c → getD c i 0 < g .places)
+      → ((i : ℕ) → i + 1 < length c → g .link (getD c i 0) ≡ true) → ((i : ℕ) → i + 1 ≡ length c → getD c i 0 ≡ t) → g .signer t ≡ true
+      → ((i : ℕ) → i < length c → g .step (getD (u ∷ c) i 0) (getD c i 0) ≡ true) → Onward g t u c
+  onward-by u [] some inside links ends-at signer steps = absurd (omega arith)
+  onward-by u (v ∷ []) some inside links ends-at signer steps =
+      let e : v ≡ t = ends-at 0 refl in
+      let here : v < g .places = inside 0 (omega arith) in
+      let step : g .step u v ≡ true = steps 0 (omega arith) in
+      rw e (ends (rw e at here) signer (rw e at step))
+  onward-by u (v ∷ w ∷ rest) some inside links ends-at signer steps =
+      goes {v = v} (inside 0 (omega arith)) (links 0 (omega arith)) (steps 0 (omega arith))
+      (onward-by v (w ∷ rest) (omega arith) (λ i h. inside (suc i) (omega arith)) (λ i h. links (suc i) (omega arith))
+      (λ i h. ends-at (suc i) (omega arith)) signer (λ i h. steps (suc i) (omega arith)))
+
+  pub by-places :
+      (c : List ℕ) → 2 ≤ length c → ((i : ℕ) → i < length c → getD c i 0 < g .places) → g .anchor (getD c 0 0) ≡ true
+      → ((i : ℕ) → 0 < i → i + 1 < length c → g .link (getD c i 0) ≡ true) → ((i : ℕ) → i + 1 ≡ length c → getD c i 0 ≡ t)
+      → g .signer t ≡ true → ((i : ℕ) → i + 1 < length c → g .step (getD c i 0) (getD c (i + 1) 0) ≡ true) → Chain g t c
+  by-places [] two inside anchor links ends-at signer steps = absurd (omega arith)
+  by-places (u ∷ c) two inside anchor links ends-at signer steps =
+      chain {u = u} (inside 0 (omega arith)) anchor
+      (onward-by u c (omega arith) (λ i h. inside (suc i) (omega arith)) (λ i h. links (suc i) (omega arith) (omega arith))
+      (λ i h. ends-at (suc i) (omega arith)) signer (λ i h. rw (add-one i) at (steps i (omega arith))))
+
   -- the way on from a place of a chain that is not the last
   onward-from : {u : ℕ} {c : List ℕ} → Onward g t u c → (j : ℕ) → j + 1 < length c → (d : List ℕ) × Onward g t (getD c j 0) d × (length d < length c)
   onward-from (ends l k e) j h = absurd (omega arith)

@@ -1,12 +1,14 @@
--- No second answer fits the promise of the question for a chain: the answer that it forwards has none.
+-- No second answer fits the promise of the question for a chain, or that of a proposal: the answer that is told has none.
 use Prim.Native.Nat.{ℕ}
 use mathlib.Core.Path.{_≡_, refl, sym, ap, _∙_}
 use mathlib.Core.List.{List}
 use Rattle.chain.specs.declared.Answer.{Answer}
 use Rattle.chain.specs.declared.Outcome.{Outcome}
 use Rattle.chain.proofs.Theorems as chain
+use Rattle.vrbolist.specs.declared.told.ToldAnswer.{ToldAnswer}
 use Rattle.vrbolist.specs.declared.chains.ChainAnswer.{ChainAnswer}
 use Rattle.vrbolist.specs.Chains.{chainTold, outcomeNumber, outcomeDetail, Forwarded, forwarded}
+use Rattle.vrbolist.specs.Proposals.{proposalTold, Weighed, weighed}
 
 told-same :
     (a b : Answer) → a .outcome ≡ b .outcome → a .length ≡ b .length → a .places ≡ b .places → chainTold a ≡ chainTold b
@@ -19,3 +21,9 @@ pub one-answer :
 one-answer s table moment target r q (forwarded a e f) (forwarded b g h) =
     let o = chain.one-answer s table moment target a b e g in
     f ∙ told-same a b (o .0) (o .1) (o .2) ∙ sym h
+
+pub one-verdict :
+    (s table : List ℕ) (moment target : ℕ) (places : List ℕ) (r q : ToldAnswer) → Weighed s table moment target places r
+    → Weighed s table moment target places q → r ≡ q
+one-verdict s table moment target places r q (weighed a e f) (weighed b g h) =
+    f ∙ ap proposalTold (chain.one-verdict s table moment target places a b e g) ∙ sym h

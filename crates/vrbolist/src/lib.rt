@@ -4,5 +4,7 @@ mod chains;
 mod images;
 mod items;
 mod lists;
+mod proposals;
+mod told;
 mod trays;
 mod versions;

@@ -1,5 +1,6 @@
 //! The questions by name, each made alone from a fixed seed.
 
+use differ::{Answer, Lent, Plain, Reader};
 use make::certificate::{Certificate, ANCHOR, LINK, SIGNER};
 use make::columns::Columns;
 use make::crl::Crl;
@@ -56,6 +57,9 @@ pub const QUESTIONS: &[&str] = &[
     "signers-dense",
     "signers-sparse",
     "signers-line",
+    "proposal-dense",
+    "proposal-sparse",
+    "proposal-line",
     "replay-good",
     "replay-faulty",
     "replay-short-list",
@@ -125,6 +129,7 @@ pub fn named(name: &str) -> Option<Vec<Question>> {
         ("chain", usual) if usual.starts_with("usual-") => images::usual(&usual["usual-".len()..]),
         ("chain", shape) => chain(shape, 96, 40, false),
         ("signers", shape) => chain(shape, 96, 40, true),
+        ("proposal", shape) => Some(chain(shape, 96, 40, false)?.into_iter().filter_map(proposed).collect()),
         ("worst", "certificate") => Some(worst::CERTIFICATE.asked()),
         ("worst", "crl") => Some(worst::LIST.asked()),
         ("worst", "chain") => Some(worst::CHAIN.asked()),
@@ -176,6 +181,14 @@ fn item(name: &str) -> Option<Question> {
         "replay-short-list" => Question::Replay { log: yesterday(), room: RECORDS - 1 },
         _ => return None,
     })
+}
+
+/// The best chain of a question, as a proposal.
+fn proposed(mut question: Question) -> Option<Question> {
+    let Answer::Chain(told) = Plain.answer(&mut question, &mut Lent::default()) else { return None };
+    let Question::Chain { image, table, moment, target } = question else { return None };
+    let places = told.places[..told.length as usize].to_vec();
+    Some(Question::Proposal { image, table, moment, target, places })
 }
 
 fn written(image: Image) -> Question {

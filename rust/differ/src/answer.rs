@@ -16,6 +16,7 @@ pub enum Answer {
     Letters(plain::Letters),
     Chain(plain::Chain),
     Replay(plain::Replayed),
+    Told(plain::Told),
 }
 
 impl Answer {
@@ -33,6 +34,7 @@ impl Answer {
             Answer::Letters(told) => (told.number, told.detail),
             Answer::Chain(told) => (told.number, told.detail),
             Answer::Replay(told) => (told.number, told.detail),
+            Answer::Told(told) => (told.number, told.detail),
         }
     }
 }
@@ -86,3 +88,4 @@ same_fields!(Write, Write, Written { length });
 same_fields!(Letters, Letters, Letters { letters_true });
 same_fields!(Chain, Chain, Chain { length, places });
 same_fields!(Replay, Replay, Replayed { faulty });
+same_fields!(Told, Told, Told {});

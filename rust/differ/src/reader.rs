@@ -48,6 +48,9 @@ macro_rules! reader {
                     Question::Chain { image, table, moment, target } => {
                         $of::chain(image, table, *moment, *target).into()
                     }
+                    Question::Proposal { image, table, moment, target, places } => {
+                        $of::proposal(image, table, *moment, *target, places).into()
+                    }
                     Question::Replay { log, .. } => $of::replay(log, &mut output.list).into(),
                 }
             }

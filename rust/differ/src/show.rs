@@ -21,6 +21,7 @@ pub fn kind(question: &Question) -> &'static str {
         Question::MoveTo1(..) => "move to 1",
         Question::Letters(_) => "letters",
         Question::Chain { .. } => "chain",
+        Question::Proposal { .. } => "proposal",
         Question::Replay { .. } => "replay",
     }
 }
@@ -54,6 +55,9 @@ pub fn show(question: &Question) -> String {
         ),
         Question::Chain { image, table, moment, target } => {
             format!("moment {moment}, target {target}, table {}, image {}", hex(table), hex(image))
+        }
+        Question::Proposal { image, table, moment, target, places } => {
+            format!("moment {moment}, target {target}, places {places:?}, table {}, image {}", hex(table), hex(image))
         }
         Question::Replay { log, room } => format!("room {room}, log {}", hex(log)),
     }

@@ -130,6 +130,28 @@ fn moments_and_targets() {
 }
 
 #[test]
+fn proposals() {
+    let propose = |moment, target, places: &[u8]| {
+        let table = vec![1, 1, 1, 0, 0, 0, 0, 0, 0];
+        ask(Question::Proposal { image: image(), table, moment, target, places: places.to_vec() }).head()
+    };
+    for number in numbers(&[MOMENT, 19500101000000, 20991231235959]) {
+        propose(number, 1, &[0, 1]);
+    }
+    for number in numbers(&[1]) {
+        assert_eq!(propose(MOMENT, number, &[0, 1]) == (1, 0), number != 1);
+    }
+    for place in 0..=255 {
+        assert_eq!(propose(MOMENT, 1, &[place, 1]) == (1, 0), place > 2);
+        assert_eq!(propose(MOMENT, 1, &[0, place]) == (1, 0), place > 2);
+        assert_eq!(propose(MOMENT, 1, &[0, place, 1]) == (1, 0), place > 2);
+    }
+    for length in (0..=300).chain([65_535, 65_536, 65_538]) {
+        assert_eq!(propose(MOMENT, 1, &vec![0; length]) == (1, 0), !(2..=96).contains(&length));
+    }
+}
+
+#[test]
 fn columns_of_the_writer() {
     let write = |items: usize, kinds: &[u8], flags: &[u8], lengths: &[u32]| {
         let (items, kinds, flags, lengths) = (vec![9; items], kinds.to_vec(), flags.to_vec(), lengths.to_vec());
@@ -256,7 +278,9 @@ fn empty_slices() {
         for target in ends {
             for image in [none(), no_entries.clone(), image()] {
                 for table in [none(), vec![0], vec![1; 9]] {
-                    ask(Question::Chain { image: image.clone(), table, moment: number, target });
+                    ask(Question::Chain { image: image.clone(), table: table.clone(), moment: number, target });
+                    let (image, places) = (image.clone(), none());
+                    ask(Question::Proposal { image, table, moment: number, target, places });
                 }
             }
         }

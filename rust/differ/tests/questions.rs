@@ -23,7 +23,7 @@ fn main() {
         Err(difference) => panic!("first: the library, second: the plain reader\n{difference}"),
     }
     // What was compared is worth something only where passes and refusals are there.
-    let wanted: [(&str, &[u64]); 15] = [
+    let wanted: [(&str, &[u64]); 16] = [
         ("walk", &[0, 2, 3]),
         ("integer", &[0, 1, 2, 8]),
         ("certificate", &[0, 1, 2, 4]),
@@ -38,6 +38,7 @@ fn main() {
         ("move to 1", &[0, 5, 9]),
         ("letters", &[0, 5]),
         ("chain", &[0, 1, 5, 7]),
+        ("proposal", &[0, 1, 5, 7]),
         ("replay", &[0, 1, 9]),
     ];
     for (kind, numbers) in wanted {

@@ -8,6 +8,7 @@ use crate::crl::Crl;
 use crate::crl_breaks;
 use crate::der::{self, integer};
 use crate::image::{self, Image, BAD_DAYS};
+use crate::proposal;
 use crate::random::Random;
 use crate::table;
 use crate::time::{second_after, second_before, BAD_MOMENTS};
@@ -54,6 +55,13 @@ pub enum Question {
         table: Vec<u8>,
         moment: u64,
         target: u64,
+    },
+    Proposal {
+        image: Vec<u8>,
+        table: Vec<u8>,
+        moment: u64,
+        target: u64,
+        places: Vec<u8>,
     },
     /// A tray log; `room` is how many numbers the lent list has.
     Replay {
@@ -114,6 +122,7 @@ impl Source {
             87..=88 => self.move_to_2(),
             89..=90 => self.move_to_1(),
             91..=92 => Question::Letters(self.image_of(2)),
+            93..=96 => self.proposal(),
             _ => self.chain(),
         }
     }
@@ -360,6 +369,17 @@ impl Source {
         Question::Replay { log, room }
     }
 
+    fn chain(&mut self) -> Question {
+        let (_, image, table, moment, target) = self.asked();
+        Question::Chain { image, table, moment, target }
+    }
+
+    fn proposal(&mut self) -> Question {
+        let (world, image, table, moment, target) = self.asked();
+        let places = proposal::varied(&mut self.random, &self.worlds[world], &table, target);
+        Question::Proposal { image, table, moment, target, places }
+    }
+
     /// The number of a world that is kept.
     fn world(&mut self) -> usize {
         let random = &mut self.random;
@@ -372,10 +392,11 @@ impl Source {
         random.below(self.worlds.len())
     }
 
-    fn chain(&mut self) -> Question {
-        let world = self.world();
+    /// A world by its number, and what is asked of it: image, table, moment and target.
+    fn asked(&mut self) -> (usize, Vec<u8>, Vec<u8>, u64, u64) {
+        let number = self.world();
         let random = &mut self.random;
-        let world = &self.worlds[world];
+        let world = &self.worlds[number];
         let mut image = if random.percent(50) { world.image.clone() } else { world.lettered.clone() };
         // What the letters say is nothing to a chain.
         if random.percent(20) {
@@ -387,7 +408,7 @@ impl Source {
         let table = table::varied(random, world);
         let moment = moment(random, world);
         let target = target(random, world);
-        Question::Chain { image, table, moment, target }
+        (number, image, table, moment, target)
     }
 }
 

@@ -42,6 +42,22 @@ pub fn chain(image: &[u8], table: &[u8], moment: u64, target: u64) -> Chain {
     }
 }
 
+/// The answer to a proposal: number and detail alone.
+#[derive(Clone, Copy, Debug, PartialEq, Eq)]
+pub struct Told {
+    pub number: u64,
+    pub detail: u64,
+}
+
+/// Judges a proposed chain: any good chain to the target is accepted. Its own
+/// range (1) comes after the rest of the question, then 7.
+pub fn proposal(image: &[u8], table: &[u8], moment: u64, target: u64, places: &[u8]) -> Told {
+    let weighed =
+        question(image, table, moment, target).and_then(|mut question| question.weigh(target as usize, places));
+    let Refusal { number, detail } = weighed.err().unwrap_or(Refusal { number: 0, detail: 0 });
+    Told { number, detail }
+}
+
 /// Question order: image (5), then table, moment and target (all 1).
 fn question<'a>(image: &'a [u8], table: &'a [u8], moment: u64, target: u64) -> Result<Question<'a>, Refusal> {
     let open = image::read(image)?;
@@ -167,6 +183,33 @@ impl<'a> Question<'a> {
             layer = following;
         }
         None
+    }
+
+    fn weigh(&mut self, target: usize, places: &[u8]) -> Result<(), Refusal> {
+        let there = places.iter().all(|&place| usize::from(place) < self.open.entries);
+        if !there || !(2..=PLACES).contains(&places.len()) {
+            return Err(Refusal::ARGUMENT);
+        }
+        match self.proposed(target, places) {
+            true => Ok(()),
+            false => Err(Refusal::CHAIN),
+        }
+    }
+
+    /// Whether these places are an anchor, then links, then the target, all
+    /// usable, with a good step from each to the next.
+    fn proposed(&mut self, target: usize, places: &[u8]) -> bool {
+        let last = places.len() - 1;
+        places.iter().map(|&place| usize::from(place)).enumerate().all(|(number, place)| {
+            let (role, fits) = match number {
+                0 => (Role::Anchor, self.anchors >> place & 1 == 1),
+                _ if number == last => (Role::Signer, place == target),
+                _ => (Role::Link, self.links >> place & 1 == 1),
+            };
+            let before = number.checked_sub(1).map(|before| usize::from(places[before]));
+            let signed = before.map_or(true, |before| self.verdict(before, place));
+            fits && signed && self.usable(place, role) && before.map_or(true, |before| self.matches(before, place))
+        })
     }
 
     /// Whether a good step leads from this anchor or link, and it is usable; the

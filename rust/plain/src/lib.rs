@@ -25,7 +25,7 @@ mod writer;
 
 pub use calendar::{day_difference, Days};
 pub use certificate::{certificate, Certificate};
-pub use chain::{chain, Chain};
+pub use chain::{chain, proposal, Chain, Told};
 pub use crl::{crl, crl_age, Crl};
 pub use der::{walk, Walk};
 pub use image::{entry, image, image_for_day, Entry, Image};

@@ -5,7 +5,7 @@ use make::crl::{self, Crl};
 use make::image::Image;
 use make::name;
 use make::time::{second_after, second_before};
-use plain::{chain, Chain};
+use plain::{chain, proposal, Chain, Told};
 
 const MOMENT: u64 = 20240301120000;
 const ANCHOR: u8 = 1;
@@ -78,6 +78,13 @@ impl Store {
 
     fn ask(&self, moment: u64, target: u64) -> Chain {
         chain(&self.image.encode(), &self.table(), moment, target)
+    }
+
+    /// What is told of a proposal: 0, 1 or 7.
+    fn propose(&self, target: usize, places: &[u8]) -> u64 {
+        let Told { number, detail } = proposal(&self.image.encode(), &self.table(), MOMENT, target as u64, places);
+        assert_eq!(detail, 0);
+        number
     }
 
     /// The chain to a target, or nothing with 7.
@@ -386,4 +393,58 @@ fn order_of_the_question() {
     // No items.
     let empty = Image::new(20240301).encode();
     assert_eq!(chain(&empty, &[], MOMENT, 0), refused(1, 0));
+}
+
+/// An anchor, two links that signed each other and themselves, a signer, a CRL; the anchor signed all.
+fn tied() -> Store {
+    let mut store = Store::new();
+    store.put(ANCHOR, &says(1));
+    store.put(LINK, &says(2));
+    store.put(LINK, &says(3));
+    store.put(SIGNER, &says(4));
+    store.put_crl(&crl_says(&[]));
+    store.verdicts = vec![(0, 1), (0, 2), (0, 3), (0, 4), (1, 1), (1, 2), (2, 1), (2, 2), (1, 3), (2, 3)];
+    store
+}
+
+#[test]
+fn any_good_chain_may_be_proposed() {
+    let store = tied();
+    assert_eq!(store.places(3), [0, 3]);
+    let long: Vec<u8> = [&[0][..], &[1; 94], &[3]].concat();
+    for places in [&[0, 3][..], &[0, 1, 3], &[0, 2, 3], &[0, 2, 1, 3], &[0, 1, 1, 2, 1, 3], &long] {
+        assert_eq!(store.propose(3, places), 0, "{places:?}");
+    }
+    for places in [&[3, 0][..], &[0, 0, 3], &[1, 3], &[0, 1], &[0, 4, 3], &[0, 3, 3], &[0, 3, 1, 3], &[0, 1, 4]] {
+        assert_eq!(store.propose(3, places), 7, "{places:?}");
+    }
+}
+
+#[test]
+fn proposals_have_a_range() {
+    let store = tied();
+    let many: Vec<u8> = [&[0][..], &[1; 95], &[3]].concat();
+    for places in [&[][..], &[3], &[0, 5], &[0, 255, 3], &many] {
+        assert_eq!(store.propose(3, places), 1, "{places:?}");
+    }
+    // The question itself comes first.
+    let told = proposal(&[], &store.table(), MOMENT, 3, &[]);
+    assert_eq!(told, Told { number: 5, detail: 1 });
+    assert_eq!(store.propose(1, &[0, 3]), 1);
+}
+
+#[test]
+fn a_proposal_of_what_may_not_be_used() {
+    let mut listed = tied();
+    listed.put_crl(&crl_says(&[2]));
+    assert_eq!(listed.propose(3, &[0, 1, 3]), 0);
+    listed.verdicts.push((0, 5));
+    assert_eq!(listed.propose(3, &[0, 1, 3]), 7);
+    assert_eq!(listed.propose(3, &[0, 2, 3]), 0);
+    let mut disabled = tied();
+    disabled.image.flags[0] = 0;
+    assert_eq!(disabled.propose(3, &[0, 3]), 7);
+    let mut uncovered = tied();
+    uncovered.verdicts.retain(|pair| *pair != (0, 4));
+    assert_eq!(uncovered.propose(3, &[0, 3]), 7);
 }

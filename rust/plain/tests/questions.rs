@@ -45,6 +45,9 @@ fn ask(question: &Question) -> (&'static str, u64, u64) {
             let found = chain(image, table, *moment, *target);
             answer("chain", found.number, if found.number == 0 { found.length } else { found.detail })
         }
+        Question::Proposal { image, table, moment, target, places } => {
+            answer("proposal", plain::proposal(image, table, *moment, *target, places).number, 0)
+        }
         Question::Replay { log, room } => answer("replay", plain::replay(log, &mut vec![7; *room]).number, 0),
     };
     (name, number, if number == 2 || number == 3 { 0 } else { detail })
@@ -80,6 +83,7 @@ fn every_answer_is_reached() {
     wanted.extend([0, 1, 5].map(|number| ("entry", number, 0)));
     wanted.extend([("write", 0, 1), ("write", 0, 2)]);
     wanted.extend([1, 3, 9].map(|number| ("write", number, 0)));
+    wanted.extend([0, 1, 5, 7].map(|number| ("proposal", number, 0)));
     wanted.extend([("chain", 1, 0), ("chain", 7, 0)]);
     wanted.extend([0, 1, 9].map(|number| ("replay", number, 0)));
     wanted.extend((2..=7).map(|length| ("chain", 0, length)));
@@ -114,6 +118,24 @@ fn chains_follow_the_definition() {
             }
         }
     }
+}
+
+/// A chain that is shown may be proposed, and nothing may that is shorter.
+#[test]
+fn what_is_shown_is_accepted() {
+    let (mut source, mut accepted) = (Source::new(1003), 0);
+    for _ in 0..8_000 {
+        if let Question::Proposal { image, table, moment, target, places } = source.next() {
+            let shown = chain(&image, &table, moment, target);
+            let own = plain::proposal(&image, &table, moment, target, &shown.places[..shown.length as usize]);
+            assert!(shown.number != 0 || own.number == 0);
+            if plain::proposal(&image, &table, moment, target, &places).number == 0 {
+                assert!(shown.number == 0 && shown.length <= places.len() as u64);
+                accepted += 1;
+            }
+        }
+    }
+    assert!(accepted > 20, "{accepted}");
 }
 
 /// An item of the slow search.

@@ -21,6 +21,14 @@ pub struct Reason {
     pub text: String,
 }
 
+/// The first thing of a proposed chain that fails: its place number from 0, or where `before` is there the step to it.
+pub struct Failure {
+    pub number: usize,
+    pub place: usize,
+    pub before: Option<usize>,
+    pub reasons: Vec<Reason>,
+}
+
 /// An anchor or a link that could have led to another place.
 pub struct Source {
     pub from: usize,
@@ -125,14 +133,21 @@ impl<'a> World<'a> {
 
     /// Why a step is not good; `None` where the two have nothing to do with each other.
     fn step(&self, from: usize, to: usize) -> Option<Vec<Reason>> {
-        let (u, v) = (self.places.get(from)?, self.places.get(to)?);
+        let certificates =
+            self.places.get(from)?.certificate().is_some() && self.places.get(to)?.certificate().is_some();
+        let out = self.step_faults(from, to);
+        let related = if certificates { out.len() < 3 } else { out.is_empty() };
+        related.then_some(out)
+    }
+
+    /// Verdict, names and keys of a step; names and keys only where both certificates pass.
+    fn step_faults(&self, from: usize, to: usize) -> Vec<Reason> {
         let mut out = Vec::new();
         if !self.verdict(from, to) {
             out.push(reason("verdict", format!("verdict 0: the table says that {from} did not sign {to}")));
         }
-        let (Some(upper), Some(lower)) = (u.certificate(), v.certificate()) else {
-            return out.is_empty().then_some(out);
-        };
+        let certificate = |place: usize| self.places.get(place).and_then(Place::certificate);
+        let (Some(upper), Some(lower)) = (certificate(from), certificate(to)) else { return out };
         if upper.subject != lower.issuer {
             out.push(reason("names", format!("names differ: the issuer of {to} is not the subject of {from}")));
         }
@@ -141,7 +156,38 @@ impl<'a> World<'a> {
             let keys = format!("{} wanted, {} found", shown(lower.authority_key_id), shown(upper.subject_key_id));
             out.push(reason("keys", format!("keys differ: {keys}")));
         }
-        (out.len() < 3).then_some(out)
+        out
+    }
+
+    /// The first place of a proposed chain, or step to one, that fails.
+    pub fn first_failure(&self, chain: &[usize], target: usize) -> Option<Failure> {
+        let mut before = None;
+        for (number, &place) in chain.iter().enumerate() {
+            let mut reasons = self.misplaced(number, chain.len(), place, target);
+            reasons.extend(self.unusable.get(place).into_iter().flatten().cloned());
+            if !reasons.is_empty() {
+                return Some(Failure { number, place, before: None, reasons });
+            }
+            let reasons = before.map_or(Vec::new(), |before| self.step_faults(before, place));
+            if !reasons.is_empty() {
+                return Some(Failure { number, place, before, reasons });
+            }
+            before = Some(place);
+        }
+        None
+    }
+
+    /// A chain is an anchor, then links, then the signer asked for.
+    fn misplaced(&self, number: usize, length: usize, place: usize, target: usize) -> Vec<Reason> {
+        let kind = self.places.get(place).map(|place| place.entry.kind);
+        let fault = match number {
+            0 if kind != Some(1) => "a chain starts at an anchor",
+            0 => return Vec::new(),
+            _ if number + 1 == length && place != target => "a chain ends at the signer asked for",
+            _ if number + 1 < length && kind != Some(2) => "between anchor and signer a chain has links alone",
+            _ => return Vec::new(),
+        };
+        vec![reason("kind", fault)]
     }
 
     /// What could have led to a signer, from the signer upwards through usable links and good steps.

@@ -39,6 +39,30 @@ fn both_forms_of_a_table() {
     assert_eq!(ask("two.table").status, Some(1));
 }
 
+/// The answer to each signer is accepted as a proposal, and where there is none nothing is.
+#[test]
+fn the_stored_answers_proposed() {
+    let bench = Bench::new("proposed");
+    bench.pack("yesterday");
+    bench.pack("today");
+    let rows = std::fs::read_to_string(root().join(MADE).join("chains.tsv")).unwrap();
+    for row in rows.lines().skip(1) {
+        let row: Vec<&str> = row.split('\t').collect();
+        let (image, moment, place, number) = (row[0], row[1], row[2], row[3].parse().unwrap());
+        let chain = if number == 0 { row[6].to_string() } else { format!("0,{place}") };
+        let line =
+            format!("propose {image}.image --table {image}.table --at {moment} --signer {place} --chain {chain}");
+        let run = bench.status(&line, number);
+        let told = format!("chain {}\n", chain.replace(',', " > "));
+        assert!(run.out.contains(&told), "{line}\n{}", run.out);
+        assert!(
+            number != 7 || run.out.contains("  The first thing that fails is "),
+            "{line} is not explained:\n{}",
+            run.out
+        );
+    }
+}
+
 /// Where there is no chain, a condition fails at the signer, or no anchor leads to it by steps at which nothing fails.
 fn explained(out: &str, place: &str) {
     if !out.contains("nothing fails at the signer itself") {

@@ -111,6 +111,22 @@ fn chains() {
 }
 
 #[test]
+fn proposals() {
+    let bench = Bench::new("expected-proposals");
+    bench.pack("today");
+    let ask = |rest: &str| bench.line(&format!("propose today.image --table today.table --at 20261115120000 {rest}"));
+    held("propose.txt", &ask("--signer 8 --chain 1,3,8"));
+    held("propose-json.txt", &ask("--signer 8 --chain 0,4,3,8 --json"));
+    held("propose-step.txt", &ask("--signer 8 --chain 0,3,8"));
+    held("propose-step-json.txt", &ask("--signer 8 --chain 0,3,8 --json"));
+    held("propose-listed.txt", &ask("--signer 7 --chain 1,7"));
+    held("propose-order.txt", &ask("--signer 8 --chain 3,1,8"));
+    held("propose-end.txt", &ask("--signer 8 --chain 1,3,6"));
+    held("propose-range.txt", &ask("--signer 8 --chain 1,13"));
+    held("propose-one.txt", &ask("--signer 8 --chain 8"));
+}
+
+#[test]
 fn trays() {
     let bench = Bench::new("expected-trays");
     held("tray-append.txt", &bench.line("tray night.log --append --open 20261115 --load 20261114 --burn 1-40"));

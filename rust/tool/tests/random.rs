@@ -51,7 +51,7 @@ fn questions_get_the_answer_of_the_library() {
 }
 
 fn words(random: &mut Random) -> Vec<Vec<u8>> {
-    const WORDS: [&str; 39] = [
+    const WORDS: [&str; 42] = [
         "item",
         "walk",
         "image",
@@ -59,6 +59,7 @@ fn words(random: &mut Random) -> Vec<Vec<u8>> {
         "unpack",
         "convert",
         "chain",
+        "propose",
         "days",
         "age",
         "demo",
@@ -78,6 +79,8 @@ fn words(random: &mut Random) -> Vec<Vec<u8>> {
         "--at",
         "20261115120000",
         "--signer",
+        "--chain",
+        "0,3",
         "all",
         "--version",
         "--to",

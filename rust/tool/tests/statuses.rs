@@ -42,6 +42,12 @@ fn refusal_1_arguments() {
         "chain today.image --table today.table --at 20261115120000 --signer 4",
         "chain today.image --table today.table --at 20261115120000 --signer 13",
         "chain today.image --table tests/data/made/ut-anchor-1.der --at 20261115120000 --signer 5",
+        "propose today.image --table today.table --at 20261115240000 --signer 8 --chain 1,3,8",
+        "propose today.image --table today.table --at 20261115120000 --signer 4 --chain 0,4",
+        "propose today.image --table today.table --at 20261115120000 --signer 8 --chain 8",
+        "propose today.image --table today.table --at 20261115120000 --signer 8 --chain=",
+        "propose today.image --table today.table --at 20261115120000 --signer 8 --chain 1,13",
+        "propose today.image --table today.table --at 20261115120000 --signer 8 --chain 1,300,8",
     ] {
         let run = bench.status(line, 1);
         assert!(run.out.contains("REFUSED  1, detail 0"), "{line}: {}", run.out);

@@ -4,7 +4,7 @@
 #![allow(unsafe_code)]
 
 use crate::raw;
-pub use crate::raw::{Certificate, Chain, Crl, Days, Entry, Image, Integer, Letters, Replay, Walk, Write};
+pub use crate::raw::{Certificate, Chain, Crl, Days, Entry, Image, Integer, Letters, Replay, Told, Walk, Write};
 
 // Each call lends slices for its own time only, and a slice's pointer and length are what the archive asks for: not null,
 // and none of them overlaps the one that is written, which Rust's borrows see to.
@@ -90,6 +90,21 @@ pub fn letters(image: &[u8]) -> Letters {
 
 pub fn chain(image: &[u8], table: &[u8], moment: u64, target: u64) -> Chain {
     unsafe { raw::vrbolist_chain(image.as_ptr(), image.len(), table.as_ptr(), table.len(), moment, target) }
+}
+
+pub fn proposal(image: &[u8], table: &[u8], moment: u64, target: u64, places: &[u8]) -> Told {
+    unsafe {
+        raw::vrbolist_proposal(
+            image.as_ptr(),
+            image.len(),
+            table.as_ptr(),
+            table.len(),
+            moment,
+            target,
+            places.as_ptr(),
+            places.len(),
+        )
+    }
 }
 
 pub fn replay(log: &[u8], list: &mut [u64]) -> Replay {

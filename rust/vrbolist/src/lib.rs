@@ -169,6 +169,12 @@ pub fn chain(image: &[u8], table: &[u8], moment: u64, target: u64) -> Result<Vec
     passed(told.number, told.detail, ()).map(|()| part(&told.places, 0, told.length).to_vec())
 }
 
+/// Whether these places, from the anchor on, are a good chain to a document signer; it need not be the best one.
+pub fn proposal(image: &[u8], table: &[u8], moment: u64, target: u64, places: &[u8]) -> Result<(), Refusal> {
+    let told = answers::proposal(image, table, moment, target, places);
+    passed(told.number, told.detail, ())
+}
+
 /// Replays a tray log, records of 8 bytes, and gives the numbers of the faulty records, from 0. The list is lent: it has to
 /// have room for them, and its rest stays.
 pub fn replay<'a>(log: &[u8], list: &'a mut [u64]) -> Result<&'a [u64], Refusal> {

@@ -53,6 +53,7 @@ answer!(Write, 24 { 16 length: u64 });
 answer!(Letters, 24 { 16 letters_true: u64 });
 answer!(Chain, 120 { 16 length: u64, 24 places: [u8; 96] });
 answer!(Replay, 24 { 16 faulty: u64 });
+answer!(Told, 16 {});
 
 extern "C" {
     pub fn vrbolist_walk(item: *const u8, item_len: usize) -> Walk;
@@ -91,5 +92,15 @@ extern "C" {
         moment: u64,
         target: u64,
     ) -> Chain;
+    pub fn vrbolist_proposal(
+        image: *const u8,
+        image_len: usize,
+        table: *const u8,
+        table_len: usize,
+        moment: u64,
+        target: u64,
+        places: *const u8,
+        places_len: usize,
+    ) -> Told;
     pub fn vrbolist_replay(log: *const u8, log_len: usize, list: *mut u64, list_len: usize) -> Replay;
 }

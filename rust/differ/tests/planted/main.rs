@@ -126,6 +126,37 @@ fn the_last_moment_is_not_counted() {
 }
 
 #[test]
+fn a_link_may_not_stand_twice() {
+    found(
+        |question, output| match (plain(question, output), question) {
+            (Answer::Told(told), Question::Proposal { places, .. }) if told.number == 0 => {
+                let twice = (1..places.len()).any(|at| places[..at].contains(&places[at]));
+                Answer::Told(plain::Told { number: if twice { 7 } else { 0 }, ..told })
+            }
+            (told, _) => told,
+        },
+        |question| matches!(question, Question::Proposal { .. }),
+    );
+}
+
+#[test]
+fn a_proposal_may_end_anywhere() {
+    found(
+        |question, output| match question {
+            Question::Proposal { image, table, moment, target, places } => {
+                let mut ended = places.clone();
+                if let Some(last) = ended.last_mut().filter(|last| u64::from(**last) < plain::image(image).entries) {
+                    *last = *target as u8;
+                }
+                plain::proposal(image, table, *moment, *target, &ended).into()
+            }
+            _ => plain(question, output),
+        },
+        |question| matches!(question, Question::Proposal { .. }),
+    );
+}
+
+#[test]
 fn age_before_this_update_is_off_by_one() {
     found(
         |question, output| match (plain(question, output), question) {

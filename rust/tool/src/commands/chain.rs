@@ -39,10 +39,10 @@ Example:
 };
 
 /// What is asked of the library, but for the place.
-struct Question<'a> {
-    image: &'a [u8],
-    table: &'a [u8],
-    at: u64,
+pub struct Question<'a> {
+    pub image: &'a [u8],
+    pub table: &'a [u8],
+    pub at: u64,
 }
 
 fn run(given: &Given) -> Result<Answer, Stop> {
@@ -98,7 +98,7 @@ fn answer(base: Json, question: &Question<'_>, world: &World<'_>, asked: Option<
 }
 
 /// Which arguments are out of their range.
-fn arguments(question: &Question<'_>, world: &World<'_>, target: u64, asked: Option<u64>) -> Vec<String> {
+pub fn arguments(question: &Question<'_>, world: &World<'_>, target: u64, asked: Option<u64>) -> Vec<String> {
     let count = world.places.len();
     let mut out = Vec::new();
     if question.table.len() != count.saturating_mul(count) {
@@ -147,7 +147,7 @@ fn subject_and_key(world: &World<'_>, place: usize) -> (String, Option<String>) 
     (subject, told.and_then(|told| told.subject_key_id).map(hex))
 }
 
-fn kind_of(world: &World<'_>, place: usize) -> &'static str {
+pub fn kind_of(world: &World<'_>, place: usize) -> &'static str {
     world.places.get(place).map_or("unknown", |place| kind_name(place.entry.kind))
 }
 
@@ -158,7 +158,7 @@ pub fn certificate_lines(world: &World<'_>, place: usize) -> String {
     format!("{}\n               key {}\n", clip(&first, WIDTH), clip(&key, WIDTH - 19))
 }
 
-fn certificate_json(world: &World<'_>, place: usize) -> Json {
+pub fn certificate_json(world: &World<'_>, place: usize) -> Json {
     let (subject, key) = subject_and_key(world, place);
     object! { "place": place, "kind": kind_of(world, place), "subject": subject, "subject_key_id": key }
 }
@@ -205,7 +205,7 @@ fn source_text(world: &World<'_>, source: &Source) -> String {
     }
 }
 
-fn reasons_json(reasons: &[Reason]) -> Vec<Json> {
+pub fn reasons_json(reasons: &[Reason]) -> Vec<Json> {
     reasons.iter().map(|reason| object! { "code": reason.code, "words": reason.text.as_str() }).collect()
 }
 

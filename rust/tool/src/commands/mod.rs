@@ -8,6 +8,7 @@ pub mod demo;
 pub mod image;
 pub mod item;
 pub mod pack;
+pub mod propose;
 pub mod tray;
 pub mod unpack;
 pub mod walk;
@@ -33,6 +34,7 @@ const COMMANDS: [&Command; 11] = [
     &unpack::COMMAND,
     &convert::COMMAND,
     &chain::COMMAND,
+    &propose::COMMAND,
     &days::COMMAND,
     &age::COMMAND,
     &tray::COMMAND,
@@ -50,6 +52,8 @@ vrbolist: judges passport-signing certificates, CRLs, trust images and chains
   vrbolist convert IMAGE OUT --to 1|2              the same image in the other version
   vrbolist chain IMAGE --table T --at MOMENT --signer PLACE|all
                                                    the chain to a signer, or why there is none
+  vrbolist propose IMAGE --table T --at MOMENT --signer PLACE --chain PLACE,PLACE,..
+                                                   whether a proposed chain is a good one
   vrbolist days A B                                days from one day to another
   vrbolist age CRL DAY                             how old a CRL is on a day
   vrbolist tray LOG [--append ..]                  replays a tray log, or adds to it

@@ -2,6 +2,7 @@
 use Prim.Native.Nat.{ℕ, _-_, _<_, _≤_}
 use mathlib.Core.Path.{_≡_, refl, sym, _∙_}
 use mathlib.Core.List.{List}
+use mathlib.Core.Logic.{inr}
 use native.Mathlib.Omega.{arith}
 use borrow.Author.Needs.{needs}
 use borrow.Author.Tests.{not-true}
@@ -91,7 +92,7 @@ returns c =
     let n = marked m in
     let s = start n in
     no-signer _ _ _ _ _ (s .pre .0) {roles = w .roles-of .result}
-    (first-round _ _ _ _ _ (s .pre .0) (n .near-first .ensures) (s .args .t6) (s .pre .1) (s .pre .2) (s .pre .3) (s .pre .4) (s .pre .5)
+    (first-round _ _ _ _ _ (s .pre .0) (λ p h. inr (n .near-first .ensures p h)) (s .args .t6) (s .pre .1) (s .pre .2) (s .pre .3) (s .pre .4) (s .pre .5)
     (m .before .open-items .ensures .1) (w .before .before .counting-lists .ensures .0 (s .pre .1)) (w .roles-of .ensures .0 (s .pre .1)))
     (s .pre .2) (c .before .if1 .taken) (c .no-chain .ensures)
 
@@ -105,7 +106,7 @@ returns-2 c =
     let n = marked m in
     let s = start n in
     direct-answer _ _ _ _ _ (s .pre .0)
-    (first-round _ _ _ _ _ (s .pre .0) (n .near-first .ensures) (s .args .t6) (s .pre .1) (s .pre .2) (s .pre .3) (s .pre .4) (s .pre .5)
+    (first-round _ _ _ _ _ (s .pre .0) (λ p h. inr (n .near-first .ensures p h)) (s .args .t6) (s .pre .1) (s .pre .2) (s .pre .3) (s .pre .4) (s .pre .5)
     (m .before .open-items .ensures .1) (w .before .before .counting-lists .ensures .0 (s .pre .1)) (w .roles-of .ensures .0 (s .pre .1)))
     (s .pre .2) (c .before .before .before .if1 .left) (c .before .direct-chain .ensures (c .if2 .taken))
 
@@ -122,7 +123,7 @@ loop-holds c =
       early = omega arith;
       slots = m .before .open-items .ensures .0;
       holds =
-          first-round _ _ _ _ _ (s .pre .0) (n .near-first .ensures) (s .args .t6) (s .pre .1) (s .pre .2) (s .pre .3) (s .pre .4) (s .pre .5)
+          first-round _ _ _ _ _ (s .pre .0) (λ p h. inr (n .near-first .ensures p h)) (s .args .t6) (s .pre .1) (s .pre .2) (s .pre .3) (s .pre .4) (s .pre .5)
           (m .before .open-items .ensures .1) (w .before .before .counting-lists .ensures .0 (s .pre .1)) (w .roles-of .ensures .0 (s .pre .1));
     }
 

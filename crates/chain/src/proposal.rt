@@ -1,0 +1,152 @@
+// A chain that is proposed: it need not be the best one, only a good one.
+use crate::asking::Asked;
+use crate::asking::question;
+use crate::given::roles_fit;
+use crate::given::steps_fit;
+use crate::near::near_first;
+use crate::opening::open_items;
+use image::entry_in;
+use octets::part;
+use refusal::Refusal;
+use usable::counting_lists;
+use usable::open_item;
+use usable::roles_of;
+ghost use mathlib.Core.Path.{_≡_};
+ghost use Prim.Native.Nat.{_≤_, _<_};
+ghost use lib.ListN.{getD};
+ghost use Rattle.graph.specs.Chains.{Chain};
+ghost use Rattle.image.specs.Index.{entryCount, entryIn, itemsIn};
+ghost use Rattle.usable.specs.Items.{itemAt};
+ghost use Rattle.usable.specs.Rows.{rowFrom, rowOf};
+ghost use Rattle.chain.specs.Answer.{goodChains};
+ghost use Rattle.chain.specs.Rounds.{startsIn};
+ghost use Rattle.chain.specs.Given.{Decides, InRange, Named};
+ghost use Rattle.chain.specs.Proposal.{Proposed, rangeGood, inside};
+
+pub enum Proposal {
+    Accepted,
+    Refused(Refusal),
+}
+
+// Refusals in order: those of the question (5, 1); 1 for the proposal's own range; 7 where it is no good chain to the target.
+pub fn propose(image: &[u8], table: &[u8], moment: u64, target: u64, places: &[u8]) -> Proposal
+    ensures { λ r. ⌜ Proposed (now (image .entry)) (now (table .entry)) moment target (now (places .entry)) r ⌝ }
+{
+    let count = match question(image, table, moment, target) {
+        Asked::Refused(refusal) => {
+            return Proposal::Refused(refusal);
+        }
+        Asked::Over { places: entries } => entries,
+    };
+    if !range_good(count, places) {
+        return Proposal::Refused(Refusal::Argument);
+    }
+    if !good_chain(image, table, count, moment, target as usize, places) {
+        return Proposal::Refused(Refusal::Chain);
+    }
+    Proposal::Accepted
+}
+
+// 2 to 96 places, all in the image.
+fn range_good(count: usize, places: &[u8]) -> bool
+    ensures { λ r. ⌜ r ≡ rangeGood count (now (places .entry)) ⌝ }
+{
+    if places.len() < 2 {
+        return false;
+    }
+    if 96 < places.len() {
+        return false;
+    }
+    all_there(count, places)
+}
+
+fn all_there(count: usize, places: &[u8]) -> bool
+    ensures { λ r. ⌜ r ≡ inside count (now (places .entry)) ⌝ }
+{
+    let mut i = 0;
+    while i < places.len() {
+        if count <= places[i] as usize {
+            return false;
+        }
+        i += 1;
+    }
+    true
+}
+
+// The target is opened first: where it cannot stand in a chain there is none.
+fn good_chain(
+    image: &[u8],
+    table: &[u8],
+    count: usize,
+    moment: u64,
+    target: usize,
+    places: &[u8],
+) -> bool
+    requires { ⌜ (count ≡ entryCount (now image)) × (count ≤ 96) × (target < count) × (entryIn (now image) target .kind ≡ 3) × InRange count (now places) ⌝ }
+    ensures { λ r. ⌜ Decides (Chain (goodChains (now (image .entry)) (now (table .entry)) moment) target (now (places .entry))) r ⌝ }
+{
+    let e = entry_in(image, target);
+    let item = part(image, e.offset, e.length);
+    let signer = open_item(item, e.kind, e.flags, e.offset, moment);
+    if signer[0] == 0 {
+        return false;
+    }
+    good_home(image, table, count, moment, target, signer, places)
+}
+
+// Of the other items the links that are named are opened, and the anchors and CRLs of the target's country.
+fn good_home(
+    image: &[u8],
+    table: &[u8],
+    count: usize,
+    moment: u64,
+    target: usize,
+    signer: [usize; 17],
+    places: &[u8],
+) -> bool
+    requires { ⌜ (count ≡ entryCount (now image)) × (count ≤ 96) × (target < count) × (entryIn (now image) target .kind ≡ 3) × (rowFrom signer ≡ rowOf moment (itemAt (itemsIn (now image)) target) (startsIn (now image) target)) × (getD signer 0 0 ≡ 0 → ⊥) × InRange count (now places) ⌝ }
+    ensures { λ r. ⌜ Decides (Chain (goodChains (now (image .entry)) (now (table .entry)) moment) target (now (places .entry))) r ⌝ }
+{
+    let nothing = [0u8; 96];
+    let first = signer[1];
+    let second = signer[2];
+    let mut rows = [[0usize; 17]; 96];
+    rows[target] = signer;
+    let mut opened = [0u8; 96];
+    opened[target] = 1;
+    let near = near_named(near_first(image, count, target), places);
+    open_items(
+        image,
+        table,
+        count,
+        moment,
+        first,
+        second,
+        opened,
+        near,
+        &mut rows,
+    );
+    let counting = counting_lists(table, count, &rows);
+    let roles = roles_of(image, count, nothing, &rows, counting, nothing);
+    if !roles_fit(roles, target, places) {
+        return false;
+    }
+    steps_fit(image, table, count, &rows, places)
+}
+
+// The links that are named are near too.
+fn near_named(near: [u8; 96], places: &[u8]) -> [u8; 96]
+    requires { ⌜ InRange 96 (now places) ⌝ }
+    ensures { λ r. ⌜ Named (now (places .entry)) near r ⌝ }
+{
+    let mut more = near;
+    let mut i = 0;
+    while i < places.len() {
+        let place = places[i] as usize;
+        if near[place] == 2 {
+            more[place] = 1;
+        }
+        i += 1;
+    }
+    more
+}
