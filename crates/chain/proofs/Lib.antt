@@ -19,3 +19,4 @@ pub mod DirectMeans
 pub mod SpeakingUp
 pub mod OpeningLaws
 pub mod ImageRounds
+pub mod WholeMeans

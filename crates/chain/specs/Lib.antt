@@ -3,3 +3,4 @@ pub mod Near
 pub mod Rounds
 pub mod Answer
 pub mod Demand
+pub mod Whole

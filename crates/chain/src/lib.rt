@@ -1,13 +1,16 @@
 // The chain from an enabled anchor to a document signer at a moment: the shortest, and of those the first.
 mod anchors;
 mod asking;
+mod by_rounds;
 mod matching;
 mod near;
 mod opening;
 mod rounds;
+mod whole;
 
 use asking::Asked;
 use asking::question;
+pub use by_rounds::best_chain_by_rounds;
 use graph::Found;
 use refusal::Refusal;
 use rounds::chain_among;
