@@ -191,6 +191,11 @@ vrbolist_write_answer vrbolist_write(const uint8_t *items, size_t items_len, con
 vrbolist_chain_answer vrbolist_chain(const uint8_t *image, size_t image_len, const uint8_t *table, size_t table_len,
                                      uint64_t moment, uint64_t target);
 
+/* The same answer to every question, by a second and plainer search: it opens every item, then goes from the anchors round by
+ * round. For audits; vrbolist_chain is the quicker. */
+vrbolist_chain_answer vrbolist_chain_by_rounds(const uint8_t *image, size_t image_len, const uint8_t *table, size_t table_len,
+                                               uint64_t moment, uint64_t target);
+
 /* Replays a tray log, records of VRBOLIST_RECORD bytes, and lists the numbers of the faulty records, from 0 and ascending, at
  * the front of `list`; its other numbers stay. A list with a number for each record is always long enough, and the quickest.
  * Refusals: 1 for a log that is not of whole records, then 9 for a list that is shorter than the faulty records. */

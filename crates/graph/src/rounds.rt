@@ -5,6 +5,7 @@ use crate::no_chain;
 use crate::wide;
 use octets::octet;
 ghost use mathlib.Core.Path.{_≡_};
+ghost use mathlib.Core.Bool.{true, false};
 ghost use mathlib.Core.List.{List, _++_};
 ghost use Prim.Native.Nat.{ℕ, _+_, _-_, _<_, _≤_};
 ghost use lib.ListN.{length, getD, replicate};
@@ -64,14 +65,22 @@ fn round(places: usize, roles: &[u8], steps: &[u8], far: u8, distance: &mut [u8;
     let mut marked = 0;
     let mut u = 0;
     while u < places {
-        if distance[u] == far {
-            if octet(roles, u) != 3 {
-                marked = reach(places, roles, steps, u, far, distance, marked);
-            }
+        if onward(roles, u, distance[u], far) {
+            marked = reach(places, roles, steps, u, far, distance, marked);
         }
         u += 1;
     }
     marked
+}
+
+// Whether a place is so far and no signer: then its steps lead on.
+fn onward(roles: &[u8], u: usize, distance: u8, far: u8) -> bool
+    ensures { λ r. ⌜ (r ≡ true → (distance ≡ far) × (getD (now (roles .entry)) u 0 ≡ 3 → ⊥)) × (r ≡ false → distance ≡ far → getD (now (roles .entry)) u 0 ≡ 3) ⌝ }
+{
+    if distance != far {
+        return false;
+    }
+    octet(roles, u) != 3
 }
 
 // From one place that is so far, or from outside, which is `places`, to each that no round has marked; how many are new so far.
@@ -143,11 +152,9 @@ fn one_back(
     let mut more = ways;
     let mut u = 0;
     while u < places {
-        if distance[u] == far {
-            if octet(roles, u) != 3 {
-                if next(places, roles, steps, u, far + 1, more) < places {
-                    more[u] = far;
-                }
+        if onward(roles, u, distance[u], far) {
+            if next(places, roles, steps, u, far + 1, more) < places {
+                more[u] = far;
             }
         }
         u += 1;
@@ -161,14 +168,15 @@ fn next(places: usize, roles: &[u8], steps: &[u8], u: usize, far: u8, ways: [u8;
     requires { ⌜ (u < places → (getD (now roles) u 0 ≡ 3 → ⊥)) ⌝ }
     ensures { λ r. ⌜ Next places (followed places (graphOf places (now (roles .entry)) (now (steps .entry)))) ways u far r ⌝ }
 {
-    let mut v = 0;
-    while v < places {
+    let mut looked = 0;
+    while looked < places {
+        looked += 1;
+        let v = looked - 1;
         if ways[v] == far {
             if follows(places, roles, steps, u, v) {
                 return v;
             }
         }
-        v += 1;
     }
     places
 }

@@ -1,4 +1,4 @@
--- No second answer fits the promise of the question for a chain: the answer that it forwards has none.
+-- No second answer fits the promise of the question for a chain: the answer that it forwards has none. So both searches tell the same.
 use Prim.Native.Nat.{ℕ}
 use mathlib.Core.Path.{_≡_, refl, sym, ap, _∙_}
 use mathlib.Core.List.{List}
@@ -19,3 +19,9 @@ pub one-answer :
 one-answer s table moment target r q (forwarded a e f) (forwarded b g h) =
     let o = chain.one-answer s table moment target a b e g in
     f ∙ told-same a b (o .0) (o .1) (o .2) ∙ sym h
+
+-- So what `vrbolist_chain` and `vrbolist_chain_by_rounds` answer to one question, each by its own search, is the same.
+pub same-engines :
+    (s table : List ℕ) (moment target : ℕ) (queue rounds : ChainAnswer) → Forwarded s table moment target queue
+    → Forwarded s table moment target rounds → queue ≡ rounds
+same-engines = one-answer

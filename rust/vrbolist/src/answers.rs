@@ -67,6 +67,10 @@ pub fn chain(image: &[u8], table: &[u8], moment: u64, target: u64) -> Chain {
     unsafe { raw::vrbolist_chain(image.as_ptr(), image.len(), table.as_ptr(), table.len(), moment, target) }
 }
 
+pub fn chain_by_rounds(image: &[u8], table: &[u8], moment: u64, target: u64) -> Chain {
+    unsafe { raw::vrbolist_chain_by_rounds(image.as_ptr(), image.len(), table.as_ptr(), table.len(), moment, target) }
+}
+
 pub fn replay(log: &[u8], list: &mut [u64]) -> Replay {
     unsafe { raw::vrbolist_replay(log.as_ptr(), log.len(), list.as_mut_ptr(), list.len()) }
 }

@@ -84,5 +84,13 @@ extern "C" {
         moment: u64,
         target: u64,
     ) -> Chain;
+    pub fn vrbolist_chain_by_rounds(
+        image: *const u8,
+        image_len: usize,
+        table: *const u8,
+        table_len: usize,
+        moment: u64,
+        target: u64,
+    ) -> Chain;
     pub fn vrbolist_replay(log: *const u8, log_len: usize, list: *mut u64, list_len: usize) -> Replay;
 }

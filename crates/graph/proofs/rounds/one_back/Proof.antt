@@ -28,12 +28,9 @@ module _ {places : ℕ} {roles steps : List ℕ} {target far : ℕ} {distance mo
   passed : (getD distance u 0 ≡ far → (v : ℕ) → v < places → getD more v 0 ≡ far + 1 → followed places (graphOf places roles steps) u v ≡ true → ⊥) → Turn places roles steps target far distance more (u + 1)
   passed none = record { small = t .small; short = t .short; inside = omega arith; stands = back-passed (t .small) h (t .stands) none }
 
-  -- a place that is not so far, a signer, and one that leads to none of the ways
-  other-row : (getD distance u 0 ≡ far → ⊥) → Turn places roles steps target far distance more (u + 1)
-  other-row d = passed (λ is v l on f. d is)
-
-  signer-row : getD roles u 0 ≡ 3 → Turn places roles steps target far distance more (u + 1)
-  signer-row e = passed (λ is v l on f. clash f (from-signer places (graphOf places roles steps) v h (eq-eqb _ _ e)))
+  -- a place that is not so far or a signer, and one that leads to none of the ways
+  passed-row : (getD distance u 0 ≡ far → getD roles u 0 ≡ 3) → Turn places roles steps target far distance more (u + 1)
+  passed-row signer = passed (λ is v l on f. clash f (from-signer places (graphOf places roles steps) v h (eq-eqb _ _ (signer is))))
 
   module _ {w : ℕ} (x : Next places (followed places (graphOf places roles steps)) more u (far + 1) w) where
     lost-row : places ≤ w → Turn places roles steps target far distance more (u + 1)
@@ -59,41 +56,43 @@ abbrev μ-loop : tie.MeasureT-loop
 loop-holds : tie.Need-loop-holds Inv-loop μ-loop
 loop-holds c = let p = c .before .before .pre in record { small = p .0 .0; short = p .0 .1; inside = omega arith; stands = p .1 }
 
-array-read-if1 : tie.Need-array-read-if1 Inv-loop μ-loop
-array-read-if1 c = omega (arith, c .before .loop .inv .small, c .loop-test .taken)
+array-read-onward : tie.Need-array-read-onward Inv-loop μ-loop
+array-read-onward c = omega (arith, c .before .loop .inv .small, c .loop-test .taken)
+
+-- the point before a row, from where it may be on the ways
+abbrev turn : tie.After-onward Inv-loop μ-loop → tie.In-loop Inv-loop μ-loop
+turn c = c .before
 
 add-next : tie.Need-add-next Inv-loop μ-loop
-add-next c = let t = c .before .before .before .before .loop .inv in omega (arith, t .short, t .stands .most)
+add-next c = let t = turn (c .before) .before .loop .inv in omega (arith, t .short, t .stands .most)
 
 next-requires : tie.Need-next-requires Inv-loop μ-loop
 next-requires c κs =
-    let t = c .before .before .before .before .loop .inv in
-    ((t .small, t .inside), λ l e. c .if2 .taken (c .before .octet .ensures ∙ e))
-
--- the point before a row, from where it is on the ways
-abbrev turn : tie.Then2 Inv-loop μ-loop → tie.In-loop Inv-loop μ-loop
-turn c = c .before .before .before
+    let t = turn (c .before) .before .loop .inv in
+    ((t .small, t .inside), λ l. c .before .onward .ensures .0 (c .if1 .taken) .1)
 
 array-write-more : tie.Need-array-write-more Inv-loop μ-loop
-array-write-more c = let r = turn (c .before .before) in omega (arith, r .before .loop .inv .small, r .loop-test .taken)
+array-write-more c = let r = turn (c .before .before .before) in omega (arith, r .before .loop .inv .small, r .loop-test .taken)
 
 add-u : tie.Need-add-u Inv-loop μ-loop
-add-u c = omega (arith, c .before .before .loop .inv .small, c .before .loop-test .taken)
+add-u c = let r = turn (c .before) in omega (arith, r .before .loop .inv .small, r .loop-test .taken)
 
 loop-less : tie.Need-loop-less Inv-loop μ-loop
-loop-less c = omega (arith, c .before .loop-test .taken)
+loop-less c = omega (arith, turn (c .before) .loop-test .taken)
 
 loop-again : tie.Need-loop-again Inv-loop μ-loop
 loop-again c =
-    let t = c .before .before .loop .inv in
-    let h = c .before .loop-test .taken in
+    let r = turn (c .before) in
+    let t = r .before .loop .inv in
+    let h = r .loop-test .taken in
+    let onward = c .before .onward .ensures in
     ⊎-elim
-    (λ w. rw (w .5) (way-row t h (w .3 .ensures) (w .0 .taken) (w .4 .taken)))
-    (λ j.
+    (λ w. rw (w .3) (way-row t h (w .1 .ensures) (onward .0 (w .0 .taken) .0) (w .2 .taken)))
+    (λ k.
     ⊎-elim
-    (λ w. rw (w .5) (lost-row t h (w .3 .ensures) (w .4 .left)))
-    (λ k. ⊎-elim (λ w. rw (w .3) (signer-row t h (sym (w .1 .ensures) ∙ w .2 .left))) (λ w. rw (w .1) (other-row t h (w .0 .left))) k)
-    j)
+    (λ w. rw (w .3) (lost-row t h (w .1 .ensures) (w .2 .left)))
+    (λ w. rw (w .1) (passed-row t h (onward .1 (w .0 .left))))
+    k)
     (c .if1 .came)
 
 returns : tie.Need-returns Inv-loop μ-loop
@@ -109,7 +108,7 @@ one-back-spec =
     Inv-loop
     μ-loop
     loop-holds
-    array-read-if1
+    array-read-onward
     (λ c κs. search needs)
     add-next
     next-requires

@@ -29,16 +29,17 @@ module _ {places : ℕ} {roles steps : List ℕ} {far : ℕ} {distance : List �
   one-row : {more : List ℕ} {count : ℕ} → InRound places (followed places (graphOf places roles steps)) more far (u + 1) 0 count → Turn places roles steps far more count (u + 1)
   one-row a = record { small = t .small; late = t .late; inside = omega arith; stands = a }
 
-  -- a row that is followed, one of a signer, and one of a place that is not so far
+  -- a row that is followed, and one of a place that is not so far or a signer
   followed-row : {more : List ℕ} {count : ℕ} → InRound places (followed places (graphOf places roles steps)) more far u places count → Turn places roles steps far more count (u + 1)
   followed-row a = one-row (row-done (t .small) (t .inside) a)
 
-  signer-row : getD roles u 0 ≡ 3 → Turn places roles steps far distance marked (u + 1)
-  signer-row e =
-      one-row (row-passed (t .small) (t .inside) (t .stands) (λ is v l f. clash f (from-signer places (graphOf places roles steps) v h (eq-eqb _ _ e))))
-
-  other-row : (getD distance u 0 ≡ far → ⊥) → Turn places roles steps far distance marked (u + 1)
-  other-row d = one-row (row-passed (t .small) (t .inside) (t .stands) (λ is v l f. d (sym (distance-place places distance u h) ∙ is)))
+  passed-row : (getD distance u 0 ≡ far → getD roles u 0 ≡ 3) → Turn places roles steps far distance marked (u + 1)
+  passed-row signer =
+      one-row
+      (row-passed (t .small) (t .inside) (t .stands)
+      (λ is v l f.
+      let e = signer (sym (distance-place places distance u h) ∙ is) in
+      clash f (from-signer places (graphOf places roles steps) v h (eq-eqb _ _ e))))
 
 abbrev Inv-loop : tie.InvT-loop
 Inv-loop places roles steps far distance₀ marked₀ u₀ distance marked u = Turn places roles steps far distance marked u
@@ -49,40 +50,35 @@ abbrev μ-loop : tie.MeasureT-loop
 loop-holds : tie.Need-loop-holds Inv-loop μ-loop
 loop-holds c = let p = c .before .before .pre in record { small = p .0 .0; late = p .0 .1; inside = omega arith; stands = p .1 }
 
-element-copy-out-if1 : tie.Need-element-copy-out-if1 Inv-loop μ-loop
-element-copy-out-if1 c = omega (arith, c .before .loop .inv .small, c .loop-test .taken)
+element-copy-out-onward : tie.Need-element-copy-out-onward Inv-loop μ-loop
+element-copy-out-onward c = omega (arith, c .before .loop .inv .small, c .loop-test .taken)
 
--- the point before a row, from where it is followed
-abbrev turn : tie.After-octet Inv-loop μ-loop → tie.In-loop Inv-loop μ-loop
-turn c = c .before .before .before
+-- the point before a row, from where it may be followed
+abbrev turn : tie.After-onward Inv-loop μ-loop → tie.In-loop Inv-loop μ-loop
+turn c = c .before .before
 
 reach-requires : tie.Need-reach-requires Inv-loop μ-loop
 reach-requires c κs =
     let o = c .before .before in
     let r = turn o in
     let t = r .before .loop .inv in
-    let h = r .loop-test .taken in (
-      (t .small, t .inside, distance-place _ _ _ h ∙ o .before .if1 .taken),
-      (λ l e. c .before .if2 .taken (o .octet .ensures ∙ e), t .stands),
-    )
+    let leads = o .onward .ensures .0 (c .before .if1 .taken) in
+    ((t .small, t .inside, distance-place _ _ _ (r .loop-test .taken) ∙ leads .0), (λ l. leads .1, t .stands))
 
 add-u : tie.Need-add-u Inv-loop μ-loop
-add-u c = omega (arith, c .before .before .before .loop .inv .small, c .before .before .loop-test .taken)
+add-u c = let r = turn (c .before) in omega (arith, r .before .loop .inv .small, r .loop-test .taken)
 
 loop-less : tie.Need-loop-less Inv-loop μ-loop
-loop-less c = omega (arith, c .before .before .loop-test .taken)
+loop-less c = omega (arith, turn (c .before) .loop-test .taken)
 
 loop-again : tie.Need-loop-again Inv-loop μ-loop
 loop-again c =
-    let t = c .before .before .before .loop .inv in
-    let h = c .before .before .loop-test .taken in
+    let r = turn (c .before) in
+    let t = r .before .loop .inv in
+    let h = r .loop-test .taken in
     ⊎-elim
-    (λ w. rw (w .5, w .6) (followed-row t h (w .4 .ensures)))
-    (λ k.
-    ⊎-elim
-    (λ w. rw (w .3, w .4) (signer-row t h (sym (w .1 .ensures) ∙ w .2 .left)))
-    (λ w. rw (w .1, w .2) (other-row t h (w .0 .left)))
-    k)
+    (λ w. rw (w .3, w .4) (followed-row t h (w .2 .ensures)))
+    (λ w. rw (w .1, w .2) (passed-row t h (c .before .onward .ensures .1 (w .0 .left))))
     (c .if1 .came)
 
 returns : tie.Need-returns Inv-loop μ-loop
@@ -98,7 +94,7 @@ round-spec =
     Inv-loop
     μ-loop
     loop-holds
-    element-copy-out-if1
+    element-copy-out-onward
     (λ c κs. search needs)
     reach-requires
     add-u
