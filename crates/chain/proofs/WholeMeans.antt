@@ -64,5 +64,5 @@ pub whole-image :
 whole-image s table moment target n same rows counting roles steps few told counted is matched answer =
     let all : n ≡ length (itemsIn s) = same ∙ sym (length-items s) in
     rw (length-items s) at
-    (whole-answer (itemsIn s) (startsIn s) (heldIn s) (image-placed s) table moment target rows counting roles steps (rw all at few) (rw all at told) (rw all at counted) (rw all at is)
-    (rw all at matched) (rw all at answer))
+    (whole-answer (itemsIn s) (startsIn s) (heldIn s) (image-placed s) table moment target rows counting roles steps
+    (rw all at few) (rw all at told) (rw all at counted) (rw all at is) (rw all at matched) (rw all at answer))

@@ -16,7 +16,9 @@ module _ (places : ℕ) (roles steps : List ℕ) {target : ℕ} {table : List �
   pub unreached : getD table target 0 ≡ 255 → NoChain r → Answered (graphOf places roles steps) target r
   unreached e n = none (no-chain-found (all-places places roles steps small) small (roles-apart places roles steps) s e) n
 
-  pub reached : target < places → getD roles target 0 ≡ 3 → Reached table target → r .length ≡ length (s .path target) → r .places ≡ s .path target ++ replicate (96 - length (s .path target)) 255 → Answered (graphOf places roles steps) target r
+  pub reached :
+      target < places → getD roles target 0 ≡ 3 → Reached table target → r .length ≡ length (s .path target)
+      → r .places ≡ s .path target ++ replicate (96 - length (s .path target)) 255 → Answered (graphOf places roles steps) target r
   reached h e f l p =
       found (s .path target)
       (best (all-places places roles steps small) small (roles-apart places roles steps) s h (eq-eqb _ _ e) f)

@@ -67,7 +67,9 @@ module _ {n : ℕ} {step : ℕ → ℕ → Bool} {distance : List ℕ} {target :
   numbered v k e m f = omega arith
 
   -- a place that leads on to the ways is on them
-  joins : {u v : ℕ} → Seen n distance u → v < n → Reached ways v → getD ways v 0 ≡ distanceOf n distance u + 1 → step u v ≡ true → distanceOf n ways u ≡ distanceOf n distance u
+  joins :
+      {u v : ℕ} → Seen n distance u → v < n → Reached ways v → getD ways v 0 ≡ distanceOf n distance u + 1 → step u v ≡ true
+      → distanceOf n ways u ≡ distanceOf n distance u
   joins {u} {v} seen l on e good =
       seen-by seen (λ o. distance-outside n ways u o ∙ sym (distance-outside n distance u o))
       (λ m q.
@@ -137,7 +139,9 @@ module _ {n : ℕ} {step : ℕ → ℕ → Bool} {distance : List ℕ} {target :
           (less? v n)
 
       -- a walk of one place more, whose last step is to a place of the ways
-      least-more : (u : ℕ) (q : List ℕ) → Walk n step u q → length q ≡ i + 1 → distanceOf n ways u ≡ i + 1 → (rank (f .read ++ (v ∷ [])) < rank q) ⊎ ((f .read ++ (v ∷ []) ≡ q) × (v ≡ u))
+      least-more :
+          (u : ℕ) (q : List ℕ) → Walk n step u q → length q ≡ i + 1 → distanceOf n ways u ≡ i + 1
+          → (rank (f .read ++ (v ∷ [])) < rank q) ⊎ ((f .read ++ (v ∷ []) ≡ q) × (v ≡ u))
       least-more u q (begun e z) l d = absurd (omega (arith, distance-outside n ways u e))
       least-more u q (gone {u = t} {p = p} w k good e) l d =
           let long : length p ≡ i = omega (arith, longer-by-one p u e) in
@@ -198,8 +202,11 @@ module _ {n : ℕ} {step : ℕ → ℕ → Bool} {distance : List ℕ} {target :
         let d = distance-place n distance target h in
         let on : distanceOf n ways target ≡ getD distance target 0 = distance-place n ways target h ∙ b .told target h (b .end) in
         ⊎-elim
-        (λ (lt : getD distance target 0 < length (q .path target)). absurd (omega (arith, no-later, rank-shorter (q .path target) (walk-small small own) (omega (arith, f .long)))))
-        (λ (le : length (q .path target) ≤ getD distance target 0). ⊎-elim (λ (o : rank (f .read) < rank (q .path target)). absurd (omega (arith, no-later))) (λ o. o .0) (f .least target (q .path target) w (omega arith) on))
+        (λ (lt : getD distance target 0 < length (q .path target)).
+        absurd (omega (arith, no-later, rank-shorter (q .path target) (walk-small small own) (omega (arith, f .long)))))
+        (λ (le : length (q .path target) ≤ getD distance target 0).
+        ⊎-elim (λ (o : rank (f .read) < rank (q .path target)). absurd (omega (arith, no-later))) (λ o. o .0)
+        (f .least target (q .path target) w (omega arith) on))
         (less? (getD distance target 0) (length (q .path target)))
 
     pub forward-end : (q : Searched n step distance) → slots ≡ q .path target ++ replicate (96 - length (q .path target)) 255

@@ -59,7 +59,9 @@ module _ (n : ℕ) (step : ℕ → ℕ → Bool) (distance : List ℕ) where
   seen-in : {u : ℕ} → Seen n distance u → (u ≡ n) ⊎ (u < n)
   seen-in s = seen-by s (λ e. inl e) (λ l r. inr l)
 
-  back-least : (k v u : ℕ) → Seen n distance u → distanceOf n distance u ≡ k → step u v ≡ true → (leads k v (back k v) ≡ true) × (rank (pathBy k (back k v)) ≤ rank (pathBy k u))
+  back-least :
+      (k v u : ℕ) → Seen n distance u → distanceOf n distance u ≡ k → step u v ≡ true
+      → (leads k v (back k v) ≡ true) × (rank (pathBy k (back k v)) ≤ rank (pathBy k u))
   unfolding back
   back-least k v u s e good = least-of (leads k v) (λ w. rank (pathBy k w)) n n u (seen-in s) (leads-so e good)
 
@@ -77,7 +79,9 @@ module _ {n : ℕ} {step : ℕ → ℕ → Bool} {distance : List ℕ} (small : 
       (place l (y .0), omega (arith, x .1, y .1, longer-by-one p v q, distance-place n distance v l))
 
   -- one place back on a path
-  one-back : (k v : ℕ) → v < n → Reached distance v → getD distance v 0 ≡ suc k → Seen n distance (back n step distance k v) × (distanceOf n distance (back n step distance k v) ≡ k) × (step (back n step distance k v) v ≡ true)
+  one-back :
+      (k v : ℕ) → v < n → Reached distance v → getD distance v 0 ≡ suc k
+      → Seen n distance (back n step distance k v) × (distanceOf n distance (back n step distance k v) ≡ k) × (step (back n step distance k v) v ≡ true)
   one-back k v l r e =
       let b = back n step distance k v in
       let x = s .from v l r in
@@ -113,7 +117,8 @@ module _ {n : ℕ} {step : ℕ → ℕ → Bool} {distance : List ℕ} (small : 
             (λ (o : k < distanceOf n distance v).
             let e : distanceOf n distance v ≡ suc k = omega (arith, y .1) in
             let b = back-least n step distance k v u (x .0) refl good in
-            rw (e, path-grows n step distance k v, rank-snoc (pathBy n step distance k (back n step distance k v)) v, q, rank-snoc p v) (omega (arith, b .1, x .1)))
+            let before : List ℕ = pathBy n step distance k (back n step distance k v) in
+            rw (e, path-grows n step distance k v, rank-snoc before v, q, rank-snoc p v) (omega (arith, b .1, x .1)))
             (λ (o : distanceOf n distance v ≤ k).
             let t = path-walk (distanceOf n distance v) seen refl in
             let long : length (pathBy n step distance (distanceOf n distance v) v) < length (pathBy n step distance k u ++ (v ∷ [])) =

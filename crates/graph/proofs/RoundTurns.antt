@@ -50,7 +50,11 @@ module _ {n : ℕ} {step : ℕ → ℕ → Bool} {distance : List ℕ} {far : �
   round-room a = omega (arith, a .count, filled-le distance, a .slots)
 
   -- the table unchanged, at a later row or column
-  moved : {row column new : ℕ} (a : InRound n step distance far row column new) (down along : ℕ) → ((u v : ℕ) → Seen n distance u → v < n → far * 9409 + row * 97 + column ≤ turn n distance u v → turn n distance u v < far * 9409 + down * 97 + along → step u v ≡ true → Tried n distance u v) → InRound n step distance far down along new
+  moved :
+      {row column new : ℕ} (a : InRound n step distance far row column new) (down along : ℕ)
+      → ((u v : ℕ) → Seen n distance u → v < n → far * 9409 + row * 97 + column ≤ turn n distance u v
+      → turn n distance u v < far * 9409 + down * 97 + along → step u v ≡ true → Tried n distance u v)
+      → InRound n step distance far down along new
   moved {row} {column} a down along tried =
       record {
         slots = a .slots;
@@ -64,7 +68,9 @@ module _ {n : ℕ} {step : ℕ → ℕ → Bool} {distance : List ℕ} {far : �
 
   module _ {row new : ℕ} (inside : row ≤ n) where
     -- a column that gives nothing new
-    pub column-passed : {column : ℕ} → column < n → InRound n step distance far row column new → Reached distance column ⊎ (step row column ≡ false) → InRound n step distance far row (column + 1) new
+    pub column-passed :
+        {column : ℕ} → column < n → InRound n step distance far row column new → Reached distance column ⊎ (step row column ≡ false)
+        → InRound n step distance far row (column + 1) new
     column-passed {column} h a w =
         moved a row (column + 1)
         (λ u v s l o k e.
@@ -75,7 +81,9 @@ module _ {n : ℕ} {step : ℕ → ℕ → Bool} {distance : List ℕ} {far : �
         ⊎-elim (λ r. let q : Reached distance v = rw ev r in (q, omega (arith, a .near v l q))) (λ f. absurd (clash (rw (eu, ev) at e) f)) w)
 
     -- a whole row that gives nothing
-    pub row-passed : InRound n step distance far row 0 new → (distanceOf n distance row ≡ far → (v : ℕ) → v < n → step row v ≡ true → ⊥) → InRound n step distance far (row + 1) 0 new
+    pub row-passed :
+        InRound n step distance far row 0 new → (distanceOf n distance row ≡ far → (v : ℕ) → v < n → step row v ≡ true → ⊥)
+        → InRound n step distance far (row + 1) 0 new
     row-passed a w =
         moved a (row + 1) 0
         (λ u v s l o k e.
@@ -161,7 +169,9 @@ module _ {n : ℕ} {step : ℕ → ℕ → Bool} {distance : List ℕ} {far : �
     from-more : {v : ℕ} → v < n → Reached more v → Nearer n step more v
     from-more {v} l r =
         ⊎-elim
-        (λ (e : v ≡ column). let s = seen-far n distance row far inside this low in record { back = row; seen = seen-more s; one = rw (e, here, kept-far s, this); good = rw e good })
+        (λ (e : v ≡ column).
+        let s = seen-far n distance row far inside this low in
+        record { back = row; seen = seen-more s; one = rw (e, here, kept-far s, this); good = rw e good })
         (λ d.
         let x = a .from v l (reached-before v d r) in
         record { back = x .back; seen = seen-more (x .seen); one = kept d ∙ x .one ∙ rw (kept-far (x .seen)); good = x .good })

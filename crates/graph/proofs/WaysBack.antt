@@ -40,7 +40,9 @@ module _ (n far target : ℕ) (small : n ≤ 96) (h : target < n) where
       (λ d. absurd (q (slot-kept (replicate 96 255) target far start-room d ∙ getD-replicate 96 v 255 0 (omega arith))))
       (same? v target)
 
-  pub back-begin : (step : ℕ → ℕ → Bool) (distance : List ℕ) → far ≡ getD distance target 0 → Reached distance target → Back n step distance target (set (replicate 96 255) target far) far n
+  pub back-begin :
+      (step : ℕ → ℕ → Bool) (distance : List ℕ) → far ≡ getD distance target 0 → Reached distance target
+      → Back n step distance target (set (replicate 96 255) target far) far n
   unfolding start
   back-begin step distance is r =
       record {
@@ -69,7 +71,9 @@ module _ {n : ℕ} {step : ℕ → ℕ → Bool} {distance : List ℕ} {target :
 
     module _ {far row : ℕ} (h : row < n) (b : Back n step distance target ways far row) where
       -- a place that is not so far, or leads to none of the ways
-      pub back-passed : (getD distance row 0 ≡ far → (v : ℕ) → v < n → getD ways v 0 ≡ far + 1 → step row v ≡ true → ⊥) → Back n step distance target ways far (row + 1)
+      pub back-passed :
+          (getD distance row 0 ≡ far → (v : ℕ) → v < n → getD ways v 0 ≡ far + 1 → step row v ≡ true → ⊥)
+          → Back n step distance target ways far (row + 1)
       back-passed none =
           record {
             slots = b .slots;
@@ -137,7 +141,9 @@ module _ {n : ℕ} {step : ℕ → ℕ → Bool} {distance : List ℕ} {target :
         onto-here =
             by w l (omega (arith, nearer)) (same-slot w (numbered w (far + 1) on (omega (arith, low))) ∙ on ∙ rw this) good
 
-        all-more : (u v : ℕ) → u < n → v < n → far * 97 + u < getD distance u 0 * 97 + (row + 1) → Reached more v → getD more v 0 ≡ getD distance u 0 + 1 → step u v ≡ true → Reached more u
+        all-more :
+            (u v : ℕ) → u < n → v < n → far * 97 + u < getD distance u 0 * 97 + (row + 1) → Reached more v
+            → getD more v 0 ≡ getD distance u 0 + 1 → step u v ≡ true → Reached more u
         all-more u v k m o q e f =
             ⊎-elim
             (λ x. let z : far ≡ getD distance u 0 + 1 = sym here ∙ (rw x at e) in absurd (omega arith))

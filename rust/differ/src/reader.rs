@@ -27,7 +27,7 @@ pub trait Reader {
 pub struct Library;
 
 /// The proved library by its second search for chains.
-struct ByRounds;
+pub struct ByRounds;
 
 /// The plain reader.
 pub struct Plain;

@@ -59,7 +59,8 @@ loop-again c =
       i .1,
       omega (arith, inside),
       rw length-set (i .3),
-      row-set _ (i .4) (omega (arith, i .1, i .3, inside)) (row-read _ _ there (c .before .before .entry-in .ensures) (c .before .part .ensures) _ (c .open-item .ensures)),
+      row-set _ (i .4) (omega (arith, i .1, i .3, inside))
+          (row-read _ _ there (c .before .before .entry-in .ensures) (c .before .part .ensures) _ (c .open-item .ensures)),
     )
 
 returns : tie.Need-returns Inv-loop μ-loop

@@ -52,7 +52,8 @@ returns-5 c =
     let s = sized o in
     let a = start s .args in
     let found = round-searched (s .if1 .left) (d .distances .ensures) in
-    reached (a .places) (a .roles .now) (a .steps .now) (s .if1 .left) found (o .before .if2 .left) (sym (o .octet .ensures) ∙ d .before .if3 .left) (e .if4 .left)
+    reached (a .places) (a .roles .now) (a .steps .now) (s .if1 .left) found (o .before .if2 .left)
+    (sym (o .octet .ensures) ∙ d .before .if3 .left) (e .if4 .left)
     (c .wide .ensures ∙ round-long (s .if1 .left) (d .distances .ensures) (o .before .if2 .left)) (r .read-off .ensures found)
 
 pub chain-by-rounds-spec : {M : Type 1} → statement M

@@ -37,7 +37,9 @@ module _ {places : ℕ} {roles steps : List ℕ} {u far : ℕ} {ways : List ℕ}
       }
 
   -- the one that is meant
-  meant : getD ways v 0 ≡ far → followed places (graphOf places roles steps) u v ≡ true → Next places (followed places (graphOf places roles steps)) ways u far v
+  meant :
+      getD ways v 0 ≡ far → followed places (graphOf places roles steps) u v ≡ true
+      → Next places (followed places (graphOf places roles steps)) ways u far v
   meant on good = record { inside = omega arith; is = λ l. (on, good); first = λ w l f g. t .none w (omega arith) f g }
 
 abbrev Inv-loop : tie.InvT-loop

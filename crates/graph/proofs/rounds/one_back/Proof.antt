@@ -25,7 +25,9 @@ record Turn (places : ℕ) (roles steps : List ℕ) (target far : ℕ) (distance
   stands : Back places (followed places (graphOf places roles steps)) distance target more far u
 
 module _ {places : ℕ} {roles steps : List ℕ} {target far : ℕ} {distance more : List ℕ} {u : ℕ} (t : Turn places roles steps target far distance more u) (h : u < places) where
-  passed : (getD distance u 0 ≡ far → (v : ℕ) → v < places → getD more v 0 ≡ far + 1 → followed places (graphOf places roles steps) u v ≡ true → ⊥) → Turn places roles steps target far distance more (u + 1)
+  passed :
+      (getD distance u 0 ≡ far → (v : ℕ) → v < places → getD more v 0 ≡ far + 1 → followed places (graphOf places roles steps) u v ≡ true → ⊥)
+      → Turn places roles steps target far distance more (u + 1)
   passed none = record { small = t .small; short = t .short; inside = omega arith; stands = back-passed (t .small) h (t .stands) none }
 
   -- a place that is not so far or a signer, and one that leads to none of the ways

@@ -35,7 +35,9 @@ module _ {places : ℕ} {roles steps : List ℕ} {u far : ℕ} {distance : List 
         stands = column-passed (t .small) (t .known) h (t .stands) w;
       }
 
-  one-new : getD distance v 0 ≡ 255 → followed places (graphOf places roles steps) u v ≡ true → Turn places roles steps u far (set distance v (far + 1)) (count + 1) (v + 1)
+  one-new :
+      getD distance v 0 ≡ 255 → followed places (graphOf places roles steps) u v ≡ true
+      → Turn places roles steps u far (set distance v (far + 1)) (count + 1) (v + 1)
   one-new new good =
       record {
         small = t .small;

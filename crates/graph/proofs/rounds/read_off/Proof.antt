@@ -31,7 +31,9 @@ module _ {places : ℕ} {roles steps ways : List ℕ} {target : ℕ} {distance s
   short = t .table .short target (t .there) (t .marked)
 
   -- all places are read off
-  ended : getD distance target 0 ≤ far → (s : Searched places (followed places (graphOf places roles steps)) distance) → slots ≡ s .path target ++ replicate (96 - length (s .path target)) 255
+  ended :
+      getD distance target 0 ≤ far → (s : Searched places (followed places (graphOf places roles steps)) distance)
+      → slots ≡ s .path target ++ replicate (96 - length (s .path target)) 255
   ended k s =
       let e : far ≡ getD distance target 0 = omega (arith, t .inside) in
       forward-end (t .small) (t .table) (t .ways-are) (t .there) (t .marked) (rw e at (t .stands)) s

@@ -26,11 +26,15 @@ record Turn (places : ℕ) (roles steps : List ℕ) (far : ℕ) (distance : List
   stands : InRound places (followed places (graphOf places roles steps)) distance far u 0 marked
 
 module _ {places : ℕ} {roles steps : List ℕ} {far : ℕ} {distance : List ℕ} {marked u : ℕ} (t : Turn places roles steps far distance marked u) (h : u < places) where
-  one-row : {more : List ℕ} {count : ℕ} → InRound places (followed places (graphOf places roles steps)) more far (u + 1) 0 count → Turn places roles steps far more count (u + 1)
+  one-row :
+      {more : List ℕ} {count : ℕ} → InRound places (followed places (graphOf places roles steps)) more far (u + 1) 0 count
+      → Turn places roles steps far more count (u + 1)
   one-row a = record { small = t .small; late = t .late; inside = omega arith; stands = a }
 
   -- a row that is followed, and one of a place that is not so far or a signer
-  followed-row : {more : List ℕ} {count : ℕ} → InRound places (followed places (graphOf places roles steps)) more far u places count → Turn places roles steps far more count (u + 1)
+  followed-row :
+      {more : List ℕ} {count : ℕ} → InRound places (followed places (graphOf places roles steps)) more far u places count
+      → Turn places roles steps far more count (u + 1)
   followed-row a = one-row (row-done (t .small) (t .inside) a)
 
   passed-row : (getD distance u 0 ≡ far → getD roles u 0 ≡ 3) → Turn places roles steps far distance marked (u + 1)
