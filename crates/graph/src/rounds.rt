@@ -135,7 +135,7 @@ fn ways_back(
     ways
 }
 
-// One distance back.
+// One distance back; the target is named for the promise alone.
 fn one_back(
     places: usize,
     roles: &[u8],
