@@ -41,8 +41,9 @@ fn engines() {
     }
     // A refused question is refused by each.
     for engine in ["queue", "rounds", "both"] {
-        bench.status(&format!("chain today.image --table today.table --at 20261115240000 --signer 5 --engine {engine}"), 1);
-        bench.status(&format!("chain today.table --table today.table --at 20261115120000 --signer 5 --engine {engine}"), 5);
+        for (image, at, status) in [("today.image", "20261115240000", 1), ("today.table", "20261115120000", 5)] {
+            bench.status(&format!("chain {image} --table today.table --at {at} --signer 5 --engine {engine}"), status);
+        }
     }
 }
 
