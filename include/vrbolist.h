@@ -222,6 +222,11 @@ vrbolist_letters_answer vrbolist_letters(const uint8_t *image, size_t image_len)
 vrbolist_chain_answer vrbolist_chain(const uint8_t *image, size_t image_len, const uint8_t *table, size_t table_len,
                                      uint64_t moment, uint64_t target);
 
+/* The same answer to every question, by a second and plainer search: it opens every item, then goes from the anchors round by
+ * round. For audits; vrbolist_chain is the quicker. */
+vrbolist_chain_answer vrbolist_chain_by_rounds(const uint8_t *image, size_t image_len, const uint8_t *table, size_t table_len,
+                                               uint64_t moment, uint64_t target);
+
 /* Judges a proposed chain to the document signer at the place `target`: `places` has a byte for each of its places, from the
  * anchor on. It passes where it is a good chain; it need not be the best one, and a link may stand in it twice.
  * Refusals: those of vrbolist_chain but 7, then 1 for fewer than 2 or more than VRBOLIST_PLACES places or a place that is not

@@ -185,6 +185,8 @@ void move_to_1_to(void *answer, const uint8_t *image, size_t len, uint8_t *out, 
 void letters_to(void *answer, const uint8_t *image, size_t len) __asm__("vrbolist_letters");
 void chain_to(void *answer, const uint8_t *image, size_t image_len, const uint8_t *table, size_t table_len, uint64_t moment,
               uint64_t target) __asm__("vrbolist_chain");
+void chain_by_rounds_to(void *answer, const uint8_t *image, size_t image_len, const uint8_t *table, size_t table_len,
+                        uint64_t moment, uint64_t target) __asm__("vrbolist_chain_by_rounds");
 void replay_to(void *answer, const uint8_t *log, size_t log_len, uint64_t *list, size_t list_len) __asm__("vrbolist_replay");
 
 /* The header has these sizes and offsets, and the library wrote each field. */
@@ -218,6 +220,7 @@ static void layout(void) {
     LAID_OUT(write, 24, move_to_1_to(to, NULL, 0, NULL, 0));
     LAID_OUT(letters, 24, letters_to(to, NULL, 0));
     LAID_OUT(chain, 120, chain_to(to, NULL, 0, NULL, 0, MOMENT, 0));
+    LAID_OUT(chain, 120, chain_by_rounds_to(to, NULL, 0, NULL, 0, MOMENT, 0));
     LAID_OUT(replay, 24, replay_to(to, NULL, 0, NULL, 0));
     /* An answer of 16 bytes comes back in registers, so its layout is the header's alone. */
     CHECK(sizeof(vrbolist_told) == 16);
@@ -703,7 +706,8 @@ static void chains(struct item image) {
                          no_signer[] = {1, 0, 1, 0, 0, 0, 0, 0, 0}, two[] = {1, 1, 1, 0, 0, 0, 0, 0, 2}, places[] = {0, 1};
     const uint8_t *table = lend(both, 9);
 #define CHAIN(image, image_n, table, table_n, moment, target, number, detail, length) \
-    chain_is(__LINE__, vrbolist_chain(image, image_n, table, table_n, moment, target), number, detail, length, places)
+    (chain_is(__LINE__, vrbolist_chain(image, image_n, table, table_n, moment, target), number, detail, length, places), \
+     chain_is(__LINE__, vrbolist_chain_by_rounds(image, image_n, table, table_n, moment, target), number, detail, length, places))
     CHAIN(image.at, image.len, table, 9, MOMENT, 1, 0, 0, 2);
     CHAIN(image.at, image.len, table, 9, 20261101060000, 1, 0, 0, 2);
     CHAIN(image.at, image.len, table, 9, 20261101055959, 1, VRBOLIST_CHAIN, 0, 0);

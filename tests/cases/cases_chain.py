@@ -18,10 +18,12 @@ B = named('B')
 
 
 def words(number, detail, places):
-    """The answer of the program: in a refusal the length is 0, and every slot beyond the length holds 255."""
+    """The answer of the program, by both searches: in a refusal the length is 0, and every slot beyond the length holds 255."""
     if number:
-        return Refused(number, detail).words() + ', length 0, other slots 255'
-    return 'chain of %d:%s, other slots 255' % (len(places), ''.join(' %d' % place for place in places))
+        told = Refused(number, detail).words() + ', length 0, other slots 255'
+    else:
+        told = 'chain of %d:%s, other slots 255' % (len(places), ''.join(' %d' % place for place in places))
+    return told + '; by rounds ' + told
 
 
 def asked(label, one, verdicts, stated, moment=MOMENT, target=0):

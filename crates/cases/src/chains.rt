@@ -1,4 +1,4 @@
-// Questions about chains. The first bytes are the image, those behind it the table of verdicts.
+// Questions about chains, asked of both searches. The first bytes are the image, those behind it the table of verdicts.
 use crate::say;
 use chain::Answer;
 use chain::Outcome;
@@ -11,6 +11,8 @@ pub(crate) fn best(bytes: &[u8], image: u64, moment: u64, target: u64) {
     }
     let middle = image as usize;
     tell(chain::best_chain(&bytes[0..middle], &bytes[middle..end], moment, target));
+    say::text(b"; by rounds ");
+    tell(chain::best_chain_by_rounds(&bytes[0..middle], &bytes[middle..end], moment, target));
 }
 
 fn tell(answer: Answer) {

@@ -37,7 +37,7 @@ use Rattle.chain.proofs.NearRows.{told-next}
 use Rattle.chain.proofs.Transfer.{AllNear, done, more}
 use Rattle.chain.proofs.RoundsHold.{Round}
 
-no-slots : (p : ℕ) → isNear (replicate 96 0) p ≡ true → ⊥
+pub no-slots : (p : ℕ) → isNear (replicate 96 0) p ≡ true → ⊥
 unfolding isNear
 no-slots p e = false-true (rw (empty-slots {A = ℕ} 96 p) at e)
 

@@ -20,3 +20,4 @@ pub mod OpeningLaws
 pub mod GivenChain
 pub mod Proposals
 pub mod ImageRounds
+pub mod WholeMeans

@@ -189,6 +189,12 @@ module _ (s table : List ℕ) (moment target : ℕ) where
         w .slots ∙ ap (λ (x : List ℕ). x ++ replicate (96 - length x) 255) same ∙ sym (v .slots),
       )
 
+  -- So what `best_chain` and `best_chain_by_rounds` answer to one question, each by its own search, is the same.
+  pub same-engines :
+      (queue rounds : Answer) → Answered s table moment target queue → Answered s table moment target rounds
+      → (queue .outcome ≡ rounds .outcome) × (queue .length ≡ rounds .length) × (queue .places ≡ rounds .places)
+  same-engines = one-answer
+
   module _ (r : Answer) (a : Answered s table moment target r) where
     -- What is shown is the best of the good chains.
     pub answer-sound : r .outcome ≡ Shown → (c : List ℕ) × Best (goodChains s table moment) target c × With c r

@@ -5,3 +5,4 @@ pub mod Answer
 pub mod Demand
 pub mod Proposal
 pub mod Given
+pub mod Whole

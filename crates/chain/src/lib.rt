@@ -2,15 +2,18 @@
 // is proposed is a good one.
 mod anchors;
 mod asking;
+mod by_rounds;
 mod given;
 mod matching;
 mod near;
 mod opening;
 mod proposal;
 mod rounds;
+mod whole;
 
 use asking::Asked;
 use asking::question;
+pub use by_rounds::best_chain_by_rounds;
 use graph::Found;
 pub use proposal::Proposal;
 pub use proposal::propose;

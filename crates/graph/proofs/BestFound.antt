@@ -1,23 +1,20 @@
--- What the tables of any search tell is the best chain: its path is a chain step by step, and along any other chain each
--- place has a path that is no larger a number than the chain up to there.
-use Prim.Native.Nat.{ℕ, zero, suc, _+_, _<_, _≤_}
-use mathlib.Core.Path.{_≡_, refl, ap, _∙_}
+-- What the table of any search tells is the best chain: good chains are walks and walks to a signer good chains, so the first of
+-- these walks is the first of those chains.
+use Prim.Native.Nat.{ℕ, _<_, _≤_}
+use mathlib.Core.Path.{_≡_, refl, subst}
 use mathlib.Core.Bool.{true, false}
-use mathlib.Core.List.{List, _++_}
-use mathlib.Core.Logic.{⊎-elim}
+use mathlib.Core.List.{List, [], _++_}
+use mathlib.Core.Logic.{_⊎_, inl, inr, ⊎-elim}
 use native.Mathlib.Omega.{arith}
-use native.Mathlib.Nat.{le-refl}
-use lib.ListN.{length, getD, length-append}
+use lib.ListN.{getD}
 use lib.Seq.{append-snoc}
 use Rattle.graph.specs.Chains.{Graph, Onward, ends, goes, Chain, chain, Best}
-use Rattle.graph.specs.Search.{followed, rank, rankFrom, Reached, Seen, outside, place, Searched}
+use Rattle.graph.specs.Search.{followed, rank, Reached, Walk, begun, gone, Searched}
 use Rattle.graph.proofs.Cases.{clash}
 use Rattle.graph.proofs.Ranks.{Small, no-place, one-more, rank-first}
 use Rattle.graph.proofs.Steps.{Apart, opens, opened, to-link, to-signer, stepped}
-
-seen-by : {A : Type 0} {n : ℕ} {parent : List ℕ} {v : ℕ} → Seen n parent v → (v ≡ n → A) → (v < n → Reached parent v → A) → A
-seen-by (outside e) f h = f e
-seen-by (place l r) f h = h l r
+use Rattle.graph.proofs.Targets.{chain-target}
+use Rattle.graph.proofs.Walks.{walk-end}
 
 module _ {g : Graph} {n t : ℕ} (size : g .places ≡ n) (small : n ≤ 96) where
   small-onward : {u : ℕ} {c : List ℕ} → Onward g t u c → Small c
@@ -27,47 +24,48 @@ module _ {g : Graph} {n t : ℕ} (size : g .places ≡ n) (small : n ≤ 96) whe
   small-chain : {c : List ℕ} → Chain g t c → Small c
   small-chain (chain {u = u} l a o) = one-more {v = u} (omega arith) (small-onward o)
 
-  module _ {parent distance : List ℕ} (apart : Apart g) (s : Searched n (followed n g) parent distance) where
-    -- along a chain each place is reached, by a path no larger
-    onward-reached : {u a : ℕ} {c : List ℕ} → Onward g t u c → u < n → Reached parent u → g .signer u ≡ false → rank (s .path u) ≤ a → Reached parent t × (rank (s .path t) ≤ rankFrom a c)
-    unfolding rankFrom
-    onward-reached {u} {a} (ends l k e) h r f b =
-        let x = s .closed u t (place h r) (omega arith) (to-signer n g h f k e) in (x .0, omega (arith, x .1))
-    onward-reached {u} {a} (goes {v = v} l k e o) h r f b =
-        let x = s .closed u v (place h r) (omega arith) (to-link n g h f k e) in
-        onward-reached o (omega arith) (x .0) (apart .links k) (omega (arith, x .1))
+  module _ (apart : Apart g) where
+    -- a chain is a walk
+    onward-walk : {u : ℕ} {p c : List ℕ} → Walk n (followed n g) u p → u < n → g .signer u ≡ false → Onward g t u c → Walk n (followed n g) t (p ++ c)
+    onward-walk w h f (ends l k e) = gone {v = t} w (omega arith) (to-signer n g h f k e) refl
+    onward-walk {p = p} w h f (goes {v = v} {rest = rest} l k e o) =
+        subst (λ (q : List ℕ). Walk n (followed n g) t q) (append-snoc p v rest)
+        (onward-walk (gone {v = v} w (omega arith) (to-link n g h f k e) refl) (omega arith) (apart .links k) o)
 
-    pub chain-reached : {c : List ℕ} → Chain g t c → Reached parent t × (rank (s .path t) ≤ rank c)
-    unfolding rankFrom
-    chain-reached (chain {u = u} l k o) =
-        let x = s .closed n u (outside refl) (omega arith) (opens n g k) in
-        let z : rank (s .path n) ≡ 0 = rw (s .start) in
-        onward-reached o (omega arith) (x .0) (apart .anchors k) (omega (arith, x .1))
+    chain-walk : {c : List ℕ} → Chain g t c → Walk n (followed n g) t c
+    chain-walk (chain {u = u} l k o) = onward-walk (gone {v = u} (begun refl refl) (omega arith) (opens n g k) refl) (omega arith) (apart .anchors k) o
 
-    -- the path to a place, and on from there, is a chain
-    path-chain : (k : ℕ) {u : ℕ} {c : List ℕ} → length (s .path u) ≤ k → u < n → Reached parent u → g .signer u ≡ false → Onward g t u c → Chain g t (s .path u ++ c)
-    path-chain zero {u} b h r f o =
-        let x = s .grows u h r in absurd (omega (arith, simp length-append at (ap length (x .longer))))
-    path-chain (suc k) {u} {c} b h r f o =
-        let x = s .grows u h r in
-        let l : length (s .path u) ≡ length (s .path (getD parent u 0)) + 1 = ap length (x .longer) ∙ simp length-append in
-        seen-by (x .from)
-        (λ e. rw (x .longer, e, s .start) (chain {u = u} (omega arith) (opened n g (rw e at (x .good))) o))
-        (λ m q.
-        let y = stepped n g m (x .good) in
+    -- a walk, and on from its last place, is a chain
+    walk-chain : {u : ℕ} {p c : List ℕ} → Walk n (followed n g) u p → u < n → g .signer u ≡ false → Onward g t u c → Chain g t (p ++ c)
+    walk-chain (begun e z) h f o = absurd (omega arith)
+    walk-chain {u} (gone {u = w} {p = p} rest l s q) h f o =
+        ⊎-elim
+        (λ x. rw (q, x .1) (chain {u = u} (omega arith) (opened n g (rw (x .0) at s)) o))
+        (λ m.
+        let y = stepped n g m s in
         let i : g .link u ≡ true = ⊎-elim (λ z. z) (λ z. absurd (clash z f)) (y .2) in
-        rw (x .longer, append-snoc) (path-chain k (omega arith) m q (y .0) (goes {v = u} (omega arith) i (y .1) o)))
+        rw (q, append-snoc) (walk-chain rest m (y .0) (goes {v = u} (omega arith) i (y .1) o)))
+        (walk-end rest)
 
-    pub best : t < n → g .signer t ≡ true → Reached parent t → Best g t (s .path t)
-    best h f r =
-        let x = s .grows t h r in
-        record {
-          good =
-              seen-by (x .from)
-              (λ e. absurd (clash f (apart .anchors (opened n g (rw e at (x .good))))))
-              (λ m q. let y = stepped n g m (x .good) in rw (x .longer) (path-chain _ (le-refl _) m q (y .0) (ends (omega arith) f (y .1))));
-          least = λ d c. rank-first (s .path t) (small-chain c) (chain-reached c .1);
-        }
+    signer-chain : {p : List ℕ} → Walk n (followed n g) t p → t < n → g .signer t ≡ true → Chain g t p
+    signer-chain (begun e z) h f = absurd (omega arith)
+    signer-chain (gone rest l s q) h f =
+        ⊎-elim
+        (λ x. absurd (clash f (apart .anchors (opened n g (rw (x .0) at s)))))
+        (λ m. let y = stepped n g m s in rw q (walk-chain rest m (y .0) (ends (omega arith) f (y .1))))
+        (walk-end rest)
 
-    pub no-chain-found : getD parent t 0 ≡ 255 → (c : List ℕ) → Chain g t c → ⊥
-    no-chain-found e c d = chain-reached d .0 e
+    module _ {table : List ℕ} (s : Searched n (followed n g) table) where
+      -- a chain's end is reached, by a path that is no larger a number
+      pub chain-reached : {c : List ℕ} → Chain g t c → Reached table t × (rank (s .path t) ≤ rank c)
+      chain-reached {c} d = s .first t c (omega (arith, chain-target d .0)) (chain-walk d)
+
+      pub best : t < n → g .signer t ≡ true → Reached table t → Best g t (s .path t)
+      best h f r =
+          record {
+            good = signer-chain (s .walks t h r) h f;
+            least = λ d c. rank-first (s .path t) (small-chain c) (chain-reached c .1);
+          }
+
+      pub no-chain-found : getD table t 0 ≡ 255 → (c : List ℕ) → Chain g t c → ⊥
+      no-chain-found e c d = chain-reached d .0 e

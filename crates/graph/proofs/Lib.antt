@@ -3,9 +3,17 @@ pub mod Slots
 pub mod Ranks
 pub mod Turns
 pub mod Steps
+pub mod Walks
+pub mod QueuePaths
 pub mod BestFound
+pub mod Answers
 pub mod Theorems
 pub mod Traces
 pub mod Targets
 pub mod Places
 pub mod Tables
+pub mod Least
+pub mod RoundTurns
+pub mod RoundPaths
+pub mod WaysBack
+pub mod ReadingOff

@@ -48,15 +48,17 @@ first-from a (u ∷ p) (one-more {v} s m) l r =
     (less? v u))
     (same? u v)
 
+-- the shorter of two chains is the smaller number
+pub rank-shorter : (p : List ℕ) {q : List ℕ} → Small q → length q < length p → rank q < rank p
+unfolding rankFrom
+rank-shorter [] m h = absurd (omega arith)
+rank-shorter (u ∷ p) m h = rank-less p 0 (0 * 97 + u + 1) m (omega arith) (omega arith)
+
 pub rank-first : (p : List ℕ) {q : List ℕ} → Small q → rank p ≤ rank q → (length p < length q) ⊎ ((length p ≡ length q) × NotLater p q)
 unfolding rankFrom
 rank-first p {q} m r = go (less? (length p) (length q)) (less? (length q) (length p))
   where
-    longer : (p : List ℕ) → length q < length p → rank q < rank p
-    longer [] h = absurd (omega arith)
-    longer (u ∷ p) h = rank-less p 0 (0 * 97 + u + 1) m (omega arith) (omega arith)
-
     go : (length p < length q) ⊎ (length q ≤ length p) → (length q < length p) ⊎ (length p ≤ length q) → (length p < length q) ⊎ ((length p ≡ length q) × NotLater p q)
     go (inl h) k = inl h
-    go (inr h) (inl k) = absurd (omega (arith, longer p k))
+    go (inr h) (inl k) = absurd (omega (arith, rank-shorter p m k))
     go (inr h) (inr k) = let l : length p ≡ length q = omega arith in inr (l, first-from 0 p m l r)

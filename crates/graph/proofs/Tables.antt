@@ -9,10 +9,11 @@ use native.Mathlib.Omega.{arith}
 use lib.ListN.{getD}
 use Rattle.graph.specs.Search.{Searched, At}
 use Rattle.graph.proofs.Cases.{same?, less?, either}
+use Rattle.graph.proofs.QueuePaths.{searched}
 use Rattle.graph.proofs.Turns.{begin, next, finish, row-room, passed, taken}
 
 pub data Table (n : ℕ) (step : ℕ → ℕ → Bool) : Type 0 where
-  table : {parent distance : List ℕ} → Searched n step parent distance → Table n step
+  table : {marks : List ℕ} → Searched n step marks → Table n step
 
 data Row (n : ℕ) (step : ℕ → ℕ → Bool) (head : ℕ) : Type 0 where
   row : {queue parent distance : List ℕ} {tail : ℕ} → At n step queue parent distance tail head n → Row n step head
@@ -35,7 +36,7 @@ module _ {n : ℕ} {step : ℕ → ℕ → Bool} (small : n ≤ 96) where
     where
       go : ((queue parent distance : List ℕ) (tail : ℕ) → head + 1 < tail → At n step queue parent distance tail head n → Table n step) → Row n step head → Table n step
       go more (row {tail = tail} b) =
-          ⊎-elim (λ l. more _ _ _ tail l b) (λ l. table (finish small b (omega (arith, b .within)))) (less? (head + 1) tail)
+          ⊎-elim (λ l. more _ _ _ tail l b) (λ l. table (searched (finish small b (omega (arith, b .within))))) (less? (head + 1) tail)
 
   pub some-table : Table n step
   some-table = rows 97 (omega arith) (begin n step small)

@@ -1,5 +1,5 @@
--- What the contract of `chain_to` settles: no second answer fits, an answer has a length where there is a chain, and no best
--- chain is too long for the slots, since a search finds it in a table of 96.
+-- What the contract of `chain_to` and `chain_by_rounds` settles: no second answer fits, an answer has a length where there is a
+-- chain, and no best chain is too long for the slots, since a search finds it in a table of 96.
 use Prim.Native.Nat.{ℕ, _<_, _≤_, _-_}
 use mathlib.Core.Path.{_≡_, refl, sym, ap, _∙_}
 use mathlib.Core.List.{List, _∷_, _++_}
@@ -43,6 +43,10 @@ module _ {g : Graph} {t : ℕ} where
   one-answer (found c b l p) (none f m) = absurd (f c (b .good))
   one-answer (none f l) (found d e m q) = absurd (f d (e .good))
   one-answer (none f l) (none h m) = (l .empty ∙ sym (m .empty), l .slots ∙ sym (m .slots))
+
+  -- so what `chain_to` and `chain_by_rounds` answer to one question, each by its own search, is the same
+  pub same-engines : {queue rounds : Found} → Answered g t queue → Answered g t rounds → (queue .length ≡ rounds .length) × (queue .places ≡ rounds .places)
+  same-engines = one-answer
 
   -- an answer's length is 0 where there is no chain, and only there
   pub found-or-none : {r : Found} → Answered g t r → ((r .length ≡ 0 → ⊥) × ((c : List ℕ) × Chain g t c)) ⊎ ((r .length ≡ 0) × ((c : List ℕ) → Chain g t c → ⊥))

@@ -7,10 +7,10 @@ use mathlib.Core.List.{List, [], _∷_, _++_, append-nil}
 use native.Mathlib.Omega.{arith}
 use lib.ListN.{length, getD, set, replicate, length-append, length-replicate, replicate-append-replicate}
 use lib.Seq.{append-snoc, set-at}
-use Rattle.graph.specs.Search.{Reached, Seen, outside, place, Searched, Paths}
+use Rattle.graph.specs.Search.{Reached, Seen, outside, place, QueueTables, Paths}
 use Rattle.graph.proofs.Turns.{seen-le}
 
-abbrev pub paths : {n : ℕ} {step : ℕ → ℕ → Bool} {parent distance : List ℕ} → Searched n step parent distance → Paths n parent distance
+abbrev pub paths : {n : ℕ} {step : ℕ → ℕ → Bool} {parent distance : List ℕ} → QueueTables n step parent distance → Paths n parent distance
 paths s =
     record {
       path = s .path;

@@ -11,7 +11,7 @@ use borrow.Author.Tests.{eq-eqb, ne-eqb}
 use lib.Dec.{eqb}
 use lib.ListN.{length, getD, set, replicate, length-set, length-append, length-replicate, getD-replicate}
 use lib.Seq.{getD-set-same, getD-set-other}
-use Rattle.graph.specs.Search.{rank, rankFrom, Reached, Seen, outside, place, distanceOf, Grown, Searched, At}
+use Rattle.graph.specs.Search.{rank, rankFrom, Reached, Seen, outside, place, distanceOf, Grown, QueueTables, At}
 use Rattle.graph.proofs.Cases.{same?, less?, clash}
 use Rattle.graph.proofs.Slots.{filled-le, filled-set, filled-none}
 use Rattle.graph.proofs.Ranks.{rank-snoc}
@@ -88,7 +88,7 @@ module _ {n : ℕ} {step : ℕ → ℕ → Bool} {queue parent distance : List �
       (λ j v k l m s. a .closed j v k l (omega arith) s)
 
   -- no row is left
-  pub finish : (a : At n step queue parent distance tail head n) → head + 1 ≡ tail → Searched n step parent distance
+  pub finish : (a : At n step queue parent distance tail head n) → head + 1 ≡ tail → QueueTables n step parent distance
   finish a h =
       record {
         path = a .path;

@@ -1,3 +1,4 @@
 pub mod Chains
 pub mod Answer
 pub mod Search
+pub mod Rounds

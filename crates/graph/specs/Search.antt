@@ -1,4 +1,4 @@
--- What a search for chains knows between two of its steps, and what its tables tell at the end: of each place the parent, which
+-- What a search tells at the end, and what the search by a queue knows between two of its steps: of each place the parent, which
 -- is 255 where no path was found, and the distance. No public promise cites this.
 use Prim.Native.Nat.{ℕ, suc, _+_, _*_, _<_, _≤_}
 use mathlib.Core.Path.{_≡_}
@@ -45,9 +45,20 @@ pub record Grown (n : ℕ) (step : ℕ → ℕ → Bool) (parent distance : List
   pub longer : path v ≡ path (getD parent v 0) ++ (v ∷ [])
   pub far : getD distance v 0 ≡ length (path v)
 
--- what the tables tell at the end of any search: a path to each place that they hold, and they hold the first of all paths to
--- each place
-pub record Searched (n : ℕ) (step : ℕ → ℕ → Bool) (parent distance : List ℕ) : Type 0 where
+-- a walk from outside to a place: places one after another, each step followed
+pub data Walk (n : ℕ) (step : ℕ → ℕ → Bool) : ℕ → List ℕ → Type 0 where
+  begun : {v : ℕ} {p : List ℕ} → v ≡ n → p ≡ [] → Walk n step v p
+  gone : {u v : ℕ} {p q : List ℕ} → Walk n step u p → v < n → step u v ≡ true → q ≡ p ++ (v ∷ []) → Walk n step v q
+
+-- what a table tells at the end of any search: it marks the places to which a walk leads, and of each there is the first walk
+pub record Searched (n : ℕ) (step : ℕ → ℕ → Bool) (table : List ℕ) : Type 0 where
+  pub path : ℕ → List ℕ
+  pub walks : (v : ℕ) → v < n → Reached table v → Walk n step v (path v)
+  pub first : (v : ℕ) (p : List ℕ) → v < n → Walk n step v p → Reached table v × (rank (path v) ≤ rank p)
+  pub short : (v : ℕ) → v < n → Reached table v → length (path v) ≤ 96
+
+-- what the tables of the search by a queue tell: the paths that the parents make, and their lengths
+pub record QueueTables (n : ℕ) (step : ℕ → ℕ → Bool) (parent distance : List ℕ) : Type 0 where
   pub path : ℕ → List ℕ
   pub start : path n ≡ []
   pub grows : (v : ℕ) → v < n → Reached parent v → Grown n step parent distance path v

@@ -1,12 +1,15 @@
 // The best chain over places: the shortest from an anchor to a signer, and among those the first by place number.
+mod rounds;
+
 use octets::octet;
+pub use rounds::chain_by_rounds;
 ghost use mathlib.Core.Path.{_≡_};
 ghost use mathlib.Core.List.{List, _++_};
 ghost use Prim.Native.Nat.{ℕ, _+_, _-_, _<_, _≤_};
 ghost use lib.ListN.{length, getD, replicate};
 ghost use Rattle.graph.specs.Chains.{graphOf};
 ghost use Rattle.graph.specs.Answer.{NoChain, Answered};
-ghost use Rattle.graph.specs.Search.{followed, Reached, Searched, At, Paths};
+ghost use Rattle.graph.specs.Search.{followed, Reached, QueueTables, At, Paths};
 
 // The length of a chain and its places, unused slots 255; length 0 where there is none.
 pub struct Found {
@@ -89,7 +92,7 @@ fn row(
 // Anchors have distance 1, and each other place one more than its parent.
 fn search(places: usize, roles: &[u8], steps: &[u8]) -> Marks
     requires { ⌜ places ≤ 96 ⌝ }
-    ensures { λ r. ⌜ Searched places (followed places (graphOf places (now (roles .entry)) (now (steps .entry)))) (r .parent) (r .distance) ⌝ }
+    ensures { λ r. ⌜ QueueTables places (followed places (graphOf places (now (roles .entry)) (now (steps .entry)))) (r .parent) (r .distance) ⌝ }
 {
     let mut queue = [0u8; 97];
     let mut parent = [255u8; 96];
@@ -148,7 +151,7 @@ pub fn no_chain() -> Found
 fn chain_in(places: usize, roles: &[u8], marks: Marks, target: usize) -> Found
     requires { ⌜ places ≤ 96 ⌝ }
     requires { ⌜ Paths places (marks .parent) (marks .distance) ⌝ }
-    ensures { λ r. ⌜ ((steps : List ℕ) → Searched places (followed places (graphOf places (now (roles .entry)) steps)) (marks .parent) (marks .distance) → Answered (graphOf places (now (roles .entry)) steps) target r) ⌝ }
+    ensures { λ r. ⌜ ((steps : List ℕ) → QueueTables places (followed places (graphOf places (now (roles .entry)) steps)) (marks .parent) (marks .distance) → Answered (graphOf places (now (roles .entry)) steps) target r) ⌝ }
 {
     if places <= target {
         return no_chain();

@@ -1,4 +1,5 @@
--- No second answer fits the promise of the question for a chain, or that of a proposal: the answer that is told has none.
+-- No second answer fits the promise of the question for a chain, or that of a proposal: the answer that is told has none. So both searches
+-- tell the same.
 use Prim.Native.Nat.{ℕ}
 use mathlib.Core.Path.{_≡_, refl, sym, ap, _∙_}
 use mathlib.Core.List.{List}
@@ -27,3 +28,9 @@ pub one-verdict :
     → Weighed s table moment target places q → r ≡ q
 one-verdict s table moment target places r q (weighed a e f) (weighed b g h) =
     f ∙ ap proposalTold (chain.one-verdict s table moment target places a b e g) ∙ sym h
+
+-- So what `vrbolist_chain` and `vrbolist_chain_by_rounds` answer to one question, each by its own search, is the same.
+pub same-engines :
+    (s table : List ℕ) (moment target : ℕ) (queue rounds : ChainAnswer) → Forwarded s table moment target queue
+    → Forwarded s table moment target rounds → queue ≡ rounds
+same-engines = one-answer

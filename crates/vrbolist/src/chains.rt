@@ -24,6 +24,20 @@ pub extern "C" fn vrbolist_chain(
     chain_told(chain::best_chain(image, table, moment, target))
 }
 
+// The same by the second search.
+#[no_mangle]
+pub extern "C" fn vrbolist_chain_by_rounds(
+    image: &[u8],
+    table: &[u8],
+    moment: u64,
+    target: u64,
+) -> ChainAnswer
+    ensures { λ r. ⌜ Forwarded (now (image .entry)) (now (table .entry)) moment target r ⌝ }
+{
+    let answer = chain::best_chain_by_rounds(image, table, moment, target);
+    chain_told(answer)
+}
+
 fn chain_told(answer: Answer) -> ChainAnswer
     ensures { λ r. ⌜ r ≡ chainTold answer ⌝ }
 {

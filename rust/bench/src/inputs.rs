@@ -1,6 +1,6 @@
 //! The questions by name, each made alone from a fixed seed.
 
-use differ::{Answer, Lent, Plain, Reader};
+use differ::{Answer, ByRounds, Lent, Library, Plain, Reader};
 use make::certificate::{Certificate, ANCHOR, LINK, SIGNER};
 use make::columns::Columns;
 use make::crl::Crl;
@@ -54,6 +54,9 @@ pub const QUESTIONS: &[&str] = &[
     "chain-dense",
     "chain-sparse",
     "chain-line",
+    "rounds-dense",
+    "rounds-sparse",
+    "rounds-line",
     "signers-dense",
     "signers-sparse",
     "signers-line",
@@ -112,6 +115,15 @@ fn yesterday() -> Vec<u8> {
 /// The most bytes of an image.
 const ROOM: usize = 262_144;
 
+/// The library as a name asks it: by rounds, or as it answers first.
+pub fn library(name: &str) -> &'static dyn Reader {
+    if name.starts_with("rounds-") {
+        &ByRounds
+    } else {
+        &Library
+    }
+}
+
 /// The questions of a name.
 pub fn named(name: &str) -> Option<Vec<Question>> {
     if let Some((what, number)) = name.rsplit_once('-') {
@@ -127,7 +139,7 @@ pub fn named(name: &str) -> Option<Vec<Question>> {
         ("chain", "long-names") => Some(images::long_names()),
         ("chain", "extended") => Some(images::extended()),
         ("chain", usual) if usual.starts_with("usual-") => images::usual(&usual["usual-".len()..]),
-        ("chain", shape) => chain(shape, 96, 40, false),
+        ("chain" | "rounds", shape) => chain(shape, 96, 40, false),
         ("signers", shape) => chain(shape, 96, 40, true),
         ("proposal", shape) => Some(chain(shape, 96, 40, false)?.into_iter().filter_map(proposed).collect()),
         ("worst", "certificate") => Some(worst::CERTIFICATE.asked()),

@@ -18,7 +18,7 @@ mod timing;
 mod worst;
 
 use ask::Asker;
-use differ::{Library, Plain, Reader};
+use differ::{Plain, Reader};
 use inputs::{GROWTH, QUESTIONS, WORST};
 
 fn main() {
@@ -62,7 +62,7 @@ fn bounds() -> bool {
 /// Asks one question on one side only.
 fn count(name: &str, side: &str, number: &str) -> bool {
     let reader: &dyn Reader = match side {
-        "library" => &Library,
+        "library" => inputs::library(name),
         "plain" => &Plain,
         _ => return false,
     };

@@ -2,7 +2,7 @@
 
 use std::time::Instant;
 
-use differ::{Library, Plain, Reader};
+use differ::{Plain, Reader};
 
 use crate::ask::Asker;
 use crate::inputs;
@@ -24,19 +24,19 @@ pub fn table(names: &[&str]) -> bool {
             eprintln!("{name}: the sides do not answer alike");
             return false;
         };
-        let (library, plain) = times(&mut asker);
+        let (library, plain) = times(&mut asker, inputs::library(name));
         println!("{name:24} {plain:12.1} {library:12.1} {:7.2}  {told}", library / plain);
     }
     true
 }
 
 /// The best round of each side, in nanoseconds for one repetition; the sides take turns.
-fn times(asker: &mut Asker) -> (f64, f64) {
+fn times(asker: &mut Asker, reader: &dyn Reader) -> (f64, f64) {
     let once = round(asker, &Plain, 3).max(1.0);
     let repetitions = (ROUND as f64 / once).clamp(1.0, 100_000.0) as u64;
     let (mut library, mut plain) = (f64::MAX, f64::MAX);
     for _ in 0..ROUNDS {
-        library = library.min(round(asker, &Library, repetitions));
+        library = library.min(round(asker, reader, repetitions));
         plain = plain.min(round(asker, &Plain, repetitions));
     }
     (library, plain)

@@ -47,8 +47,17 @@ impl fmt::Display for Difference {
     }
 }
 
-/// Both answers are one answer; else the difference, with seed and index 0.
+/// Both answers are one answer, and that of the first reader by another way, where it has one; else the difference, with seed and
+/// index 0.
 pub fn compare(first: &dyn Reader, second: &dyn Reader, question: &Question) -> Result<Answer, Box<Difference>> {
+    let answer = pair(first, second, question)?;
+    match first.other(question) {
+        Some(other) => pair(first, other, question),
+        None => Ok(answer),
+    }
+}
+
+fn pair(first: &dyn Reader, second: &dyn Reader, question: &Question) -> Result<Answer, Box<Difference>> {
     let told = [ask(first, question), ask(second, question)];
     if told[0] == told[1] && told[0].kept {
         return Ok(told[0].answer);

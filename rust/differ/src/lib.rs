@@ -10,5 +10,5 @@ mod show;
 
 pub use answer::Answer;
 pub use compare::{compare, run, Difference, Limits};
-pub use reader::{Lent, Library, Plain, Reader};
+pub use reader::{ByRounds, Lent, Library, Plain, Reader};
 pub use show::{hex, kind, show};

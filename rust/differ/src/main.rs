@@ -1,4 +1,4 @@
-//! Compares the library with the plain reader.
+//! Compares the library with the plain reader, and its two searches for chains with each other.
 //!
 //!     differ [--seed N] [--count N] [--seconds N]
 //!
@@ -45,7 +45,7 @@ fn main() -> ExitCode {
             ExitCode::SUCCESS
         }
         Err(difference) => {
-            println!("first: the library, second: the plain reader");
+            println!("first: the library, second: the plain reader, or the library's second search");
             println!("{difference}");
             ExitCode::from(1)
         }

@@ -16,16 +16,24 @@ pub struct Lent {
 /// the question says. A reader keeps the question as it is.
 pub trait Reader {
     fn answer(&self, question: &mut Question, output: &mut Lent) -> Answer;
+
+    /// The same reader by another way to this answer, where it has one.
+    fn other(&self, _question: &Question) -> Option<&dyn Reader> {
+        None
+    }
 }
 
 /// The proved library.
 pub struct Library;
 
+/// The proved library by its second search for chains.
+pub struct ByRounds;
+
 /// The plain reader.
 pub struct Plain;
 
 macro_rules! reader {
-    ($name:ident, $of:ident) => {
+    ($name:ident, $of:ident, $chain:ident $(, $other:item)?) => {
         impl Reader for $name {
             fn answer(&self, question: &mut Question, output: &mut Lent) -> Answer {
                 match question {
@@ -46,7 +54,7 @@ macro_rules! reader {
                     Question::MoveTo1(image, _) => $of::move_to_1(image, &mut output.octets).into(),
                     Question::Letters(image) => $of::letters(image).into(),
                     Question::Chain { image, table, moment, target } => {
-                        $of::chain(image, table, *moment, *target).into()
+                        $of::$chain(image, table, *moment, *target).into()
                     }
                     Question::Proposal { image, table, moment, target, places } => {
                         $of::proposal(image, table, *moment, *target, places).into()
@@ -54,9 +62,19 @@ macro_rules! reader {
                     Question::Replay { log, .. } => $of::replay(log, &mut output.list).into(),
                 }
             }
+
+            $($other)?
         }
     };
 }
 
-reader!(Library, answers);
-reader!(Plain, plain);
+reader!(
+    Library,
+    answers,
+    chain,
+    fn other(&self, question: &Question) -> Option<&dyn Reader> {
+        matches!(question, Question::Chain { .. }).then_some(&ByRounds as &dyn Reader)
+    }
+);
+reader!(ByRounds, answers, chain_by_rounds);
+reader!(Plain, plain, chain);

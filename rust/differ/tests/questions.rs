@@ -20,7 +20,7 @@ fn main() {
     });
     match asked {
         Ok(count) => assert_eq!(count, COUNT),
-        Err(difference) => panic!("first: the library, second: the plain reader\n{difference}"),
+        Err(difference) => panic!("first: the library, second: the plain reader, or its second search\n{difference}"),
     }
     // What was compared is worth something only where passes and refusals are there.
     let wanted: [(&str, &[u64]); 16] = [

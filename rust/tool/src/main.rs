@@ -7,6 +7,7 @@
 mod answer;
 mod args;
 mod commands;
+mod engine;
 mod explain;
 mod facts;
 mod fault;

@@ -19,6 +19,31 @@ fn the_stored_answers() {
             0 => assert!(run.out.contains(&format!("chain {}\n", row[6].replace(',', " > "))), "{line}\n{}", run.out),
             _ => explained(&run.out, place),
         }
+        // Each search, and both, say the same.
+        assert_eq!(bench.status(&format!("{line} --engine queue"), number).out, run.out);
+        assert_eq!(bench.status(&format!("{line} --engine rounds"), number).out, run.out);
+        assert_eq!(bench.status(&format!("{line} --engine both"), number).out, run.out + "Both searches say so.\n");
+    }
+}
+
+#[test]
+fn engines() {
+    let bench = Bench::new("engines");
+    bench.pack("today");
+    let line = "chain today.image --table today.table --at 20261115120000 --signer all";
+    for engine in ["queue", "rounds", "both"] {
+        let run = bench.status(&format!("{line} --engine {engine} --json"), 7);
+        assert!(run.out.contains(&format!("\"engine\": \"{engine}\"")), "{}", run.out);
+    }
+    assert!(!bench.status(&format!("{line} --json"), 7).out.contains("engine"));
+    for wrong in ["--engine Queue", "--engine", "--engine both --engine both", "--engine ''"] {
+        bench.status(&format!("{line} {wrong}"), 64);
+    }
+    // A refused question is refused by each.
+    for engine in ["queue", "rounds", "both"] {
+        for (image, at, status) in [("today.image", "20261115240000", 1), ("today.table", "20261115120000", 5)] {
+            bench.status(&format!("chain {image} --table today.table --at {at} --signer 5 --engine {engine}"), status);
+        }
     }
 }
 
@@ -100,6 +125,7 @@ fn random_worlds_are_explained() {
         let line = format!("chain x.image --table x.table --at {moment} --signer {target}");
         match told {
             Ok(places) => {
+                bench.status(&format!("{line} --engine both"), 0);
                 let shown: Vec<String> = places.iter().map(u8::to_string).collect();
                 let run = bench.status(&line, 0);
                 assert!(run.out.contains(&format!("chain {}\n", shown.join(" > "))), "{}", run.out);

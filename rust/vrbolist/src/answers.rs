@@ -92,6 +92,10 @@ pub fn chain(image: &[u8], table: &[u8], moment: u64, target: u64) -> Chain {
     unsafe { raw::vrbolist_chain(image.as_ptr(), image.len(), table.as_ptr(), table.len(), moment, target) }
 }
 
+pub fn chain_by_rounds(image: &[u8], table: &[u8], moment: u64, target: u64) -> Chain {
+    unsafe { raw::vrbolist_chain_by_rounds(image.as_ptr(), image.len(), table.as_ptr(), table.len(), moment, target) }
+}
+
 pub fn proposal(image: &[u8], table: &[u8], moment: u64, target: u64, places: &[u8]) -> Told {
     unsafe {
         raw::vrbolist_proposal(

@@ -165,8 +165,12 @@ pub fn letters(image: &[u8]) -> Result<bool, Refusal> {
 
 /// The places of the best chain to a document signer, from the anchor on.
 pub fn chain(image: &[u8], table: &[u8], moment: u64, target: u64) -> Result<Vec<u8>, Refusal> {
-    let told = answers::chain(image, table, moment, target);
-    passed(told.number, told.detail, ()).map(|()| part(&told.places, 0, told.length).to_vec())
+    places(answers::chain(image, table, moment, target))
+}
+
+/// The same by the second search, which is plainer and slower.
+pub fn chain_by_rounds(image: &[u8], table: &[u8], moment: u64, target: u64) -> Result<Vec<u8>, Refusal> {
+    places(answers::chain_by_rounds(image, table, moment, target))
 }
 
 /// Whether these places, from the anchor on, are a good chain to a document signer; it need not be the best one.
@@ -180,6 +184,10 @@ pub fn proposal(image: &[u8], table: &[u8], moment: u64, target: u64, places: &[
 pub fn replay<'a>(log: &[u8], list: &'a mut [u64]) -> Result<&'a [u64], Refusal> {
     let told = answers::replay(log, list);
     passed(told.number, told.detail, ()).map(|()| list.get(..told.faulty as usize).unwrap_or_default())
+}
+
+fn places(told: answers::Chain) -> Result<Vec<u8>, Refusal> {
+    passed(told.number, told.detail, ()).map(|()| part(&told.places, 0, told.length).to_vec())
 }
 
 fn passed<T>(number: u64, detail: u64, fields: T) -> Result<T, Refusal> {

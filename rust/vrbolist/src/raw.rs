@@ -92,6 +92,14 @@ extern "C" {
         moment: u64,
         target: u64,
     ) -> Chain;
+    pub fn vrbolist_chain_by_rounds(
+        image: *const u8,
+        image_len: usize,
+        table: *const u8,
+        table_len: usize,
+        moment: u64,
+        target: u64,
+    ) -> Chain;
     pub fn vrbolist_proposal(
         image: *const u8,
         image_len: usize,

@@ -108,6 +108,34 @@ fn backwards(image: &[u8], table: &[u8], moment: u64, target: u64) -> Option<pla
     Some(told)
 }
 
+/// The library with a second search that has a mistake.
+struct Twofold(Planted);
+
+impl Reader for Twofold {
+    fn answer(&self, question: &mut Question, output: &mut Lent) -> Answer {
+        Library.answer(question, output)
+    }
+
+    fn other(&self, question: &Question) -> Option<&dyn Reader> {
+        Library.other(question).map(|_| &self.0 as &dyn Reader)
+    }
+}
+
+#[test]
+fn the_second_search_is_compared_too() {
+    let mistake = Planted(|question, output| match question {
+        Question::Chain { image, table, moment, target } => backwards(image, table, *moment, *target)
+            .map_or_else(|| plain::chain(image, table, *moment, *target).into(), Answer::Chain),
+        _ => plain(question, output),
+    });
+    let limits = Limits { count: Some(COUNT), time: None };
+    let twofold = Twofold(mistake);
+    let difference = run(&twofold, &Plain, SEED, limits, |_, _| {}).expect_err("the mistake is not found");
+    assert!(matches!(difference.question, Question::Chain { .. }), "{difference}");
+    assert!(compare(&twofold, &Plain, &difference.question).is_err());
+    assert!(compare(&Library, &Plain, &difference.question).is_ok());
+}
+
 #[test]
 fn the_last_moment_is_not_counted() {
     found(

@@ -5,6 +5,7 @@ use super::image::words as image_words;
 use super::Command;
 use crate::answer::Answer;
 use crate::args::{self, Given, Takes};
+use crate::engine::Engine;
 use crate::explain;
 use crate::files;
 use crate::json::{object, Json};
@@ -19,7 +20,8 @@ use vrbolist::Refusal;
 pub const COMMAND: Command = Command {
     name: "chain",
     help: "\
-vrbolist chain IMAGE --table T --at YYYYMMDDHHMMSS --signer PLACE|all [--json]
+vrbolist chain IMAGE --table T --at YYYYMMDDHHMMSS --signer PLACE|all
+               [--engine queue|rounds|both] [--json]
 
 Asks for the best chain from an enabled anchor to the document signer at PLACE, or to each signer.
 Where there is none it says which condition fails, for the signer and for what could have led to it.
@@ -28,13 +30,17 @@ T says who signed whom, as the chip found it, for the n items of the image: n li
 1, or n x n bytes 0 or 1. Row u, column v is 1 where the key of u checks the signature of v.
 With all the exit status is 0 where every signer has a chain, else 7.
 
+Two searches find the same chains, as is proved. The engine queue is the quick one, which is asked
+where none is named; rounds is a plain one, for audits. With both each is asked, and if they ever
+differ the program says so, with exit status 70.
+
 Example:
   vrbolist pack xo.image --day 20261115 --anchor tests/data/made/xo-anchor-1.der \\
     --signer tests/data/made/xo-signer-1.der --crl tests/data/made/xo-crl.der --force
   printf '111\\n000\\n000\\n' > xo.table
   vrbolist chain xo.image --table xo.table --at 20261115120000 --signer 1
 ",
-    takes: Takes { alone: &["IMAGE"], options: &["--table", "--at", "--signer"], switches: &[] },
+    takes: Takes { alone: &["IMAGE"], options: &["--table", "--at", "--signer", "--engine"], switches: &[] },
     run,
 };
 
@@ -43,23 +49,29 @@ pub struct Question<'a> {
     pub image: &'a [u8],
     pub table: &'a [u8],
     pub at: u64,
+    pub engine: Engine,
 }
 
 fn run(given: &Given) -> Result<Answer, Stop> {
     let signer = given.wanted("--signer", "PLACE|all")?;
     let asked = if signer == "all" { None } else { Some(args::number(signer, "place (a number or all)")?) };
     let at = args::number(given.wanted("--at", "YYYYMMDDHHMMSS")?, "moment YYYYMMDDHHMMSS")?;
+    let named = given.option("--engine")?.map(Engine::named).transpose()?;
     let table_path = given.wanted("--table", "T")?;
     let image = files::read(given.word(0))?;
     let table = table::read(files::read(table_path)?)?;
     let base = object! { "command": "chain", "file": files::shown(given.word(0)), "at": at };
+    let base = match named {
+        Some(engine) => base.with(object! { "engine": engine.name() }),
+        None => base,
+    };
     let entries = match vrbolist::image(&image) {
         Ok(told) => told.entries,
         Err(refusal) => return Ok(Answer::refused(String::new(), base, refusal, &image_words(refusal, &image, None))),
     };
     let world = World::new(places::all(&image, entries), &table, at);
-    let question = Question { image: &image, table: &table, at };
-    Ok(answer(base, &question, &world, asked))
+    let question = Question { image: &image, table: &table, at, engine: named.unwrap_or(Engine::Queue) };
+    answer(base, &question, &world, asked)
 }
 
 /// The signers asked for; where there is none, a place that is not there, so that the library refuses it.
@@ -72,14 +84,14 @@ fn targets(world: &World<'_>, asked: Option<u64>) -> Vec<u64> {
     targets
 }
 
-fn answer(base: Json, question: &Question<'_>, world: &World<'_>, asked: Option<u64>) -> Answer {
+fn answer(base: Json, question: &Question<'_>, world: &World<'_>, asked: Option<u64>) -> Result<Answer, Stop> {
     let mut text = format!("At {} UTC\n", moment(question.at));
     let mut each = Vec::new();
     let mut without = 0;
     for target in targets(world, asked) {
-        match vrbolist::chain(question.image, question.table, question.at, target) {
+        match question.engine.chain(question.image, question.table, question.at, target)? {
             Err(refusal) if refusal.number != 7 => {
-                return Answer::refused(String::new(), base, refusal, &arguments(question, world, target, asked))
+                return Ok(Answer::refused(String::new(), base, refusal, &arguments(question, world, target, asked)))
             }
             told => {
                 without += usize::from(told.is_err());
@@ -93,8 +105,11 @@ fn answer(base: Json, question: &Question<'_>, world: &World<'_>, asked: Option<
         let count = each.len();
         text.push_str(&format!("{} of {} have a chain\n", count.saturating_sub(without), counted(count, "signer")));
     }
+    if matches!(question.engine, Engine::Both) {
+        text.push_str("Both searches say so.\n");
+    }
     let json = base.with(object! { "passed": without == 0, "signers": each });
-    Answer { status: if without == 0 { 0 } else { 7 }, text, json }
+    Ok(Answer { status: if without == 0 { 0 } else { 7 }, text, json })
 }
 
 /// Which arguments are out of their range.

@@ -26,7 +26,7 @@ pub struct Command {
     pub run: fn(&Given) -> Result<Answer, Stop>,
 }
 
-const COMMANDS: [&Command; 11] = [
+const COMMANDS: [&Command; 12] = [
     &item::COMMAND,
     &walk::COMMAND,
     &image::COMMAND,
@@ -61,8 +61,8 @@ vrbolist: judges passport-signing certificates, CRLs, trust images and chains
 
 Items are DER or PEM; of a PEM file the first block is taken. FILE - is standard input. Every
 command takes --json and --help. Exit status: 0 passed, 1 to 9 the number of the refusal, 64 wrong
-usage, 65 a log with a faulty record or letters that are not true, 66 no such input, 73 cannot
-write.
+usage, 65 a log with a faulty record or letters that are not true, 66 no such input, 70 two
+searches that differ, 73 cannot write.
 
 Example:
   vrbolist item tests/data/made/ut-signer-1.der --as signer

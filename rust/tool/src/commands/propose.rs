@@ -5,6 +5,7 @@ use super::image::words as image_words;
 use super::Command;
 use crate::answer::Answer;
 use crate::args::{self, Given, Takes};
+use crate::engine::Engine;
 use crate::explain;
 use crate::files;
 use crate::json::{object, Json};
@@ -53,7 +54,7 @@ fn run(given: &Given) -> Result<Answer, Stop> {
         Err(refusal) => return Ok(Answer::refused(String::new(), base, refusal, &image_words(refusal, &image, None))),
     };
     let world = World::new(places::all(&image, entries), &table, at);
-    let question = Question { image: &image, table: &table, at };
+    let question = Question { image: &image, table: &table, at, engine: Engine::Queue };
     Ok(answer(base, &question, &world, target, &chain))
 }
 
