@@ -1,0 +1,5 @@
+pub mod Cases
+pub mod Carried
+pub mod Places
+pub mod Standing
+pub mod Verdicts
