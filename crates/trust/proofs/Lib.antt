@@ -3,3 +3,5 @@ pub mod Carried
 pub mod Places
 pub mod Standing
 pub mod Verdicts
+pub mod Anchors
+pub mod Longer
