@@ -5,3 +5,4 @@ pub mod Standing
 pub mod Verdicts
 pub mod Anchors
 pub mod Longer
+pub mod Theorems
