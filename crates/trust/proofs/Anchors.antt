@@ -13,7 +13,7 @@ use Rattle.usable.specs.Usable.{valid, sameCountry, usableAnchor, counts, cover
 use Rattle.usable.specs.Steps.{hasKind, fits, goodStep}
 use Rattle.usable.proofs.Booleans.{false-true, and-false}
 use Rattle.chain.specs.Good.{chains}
-use Rattle.trust.specs.Trust.{Question, chainsOf, OneAnchor}
+use Rattle.trust.specs.Trust.{Question, Place, chainsOf, OneAnchor}
 use Rattle.trust.proofs.Cases.{by-place, and-more}
 use Rattle.trust.proofs.Carried.{Within}
 use Rattle.trust.proofs.Places.{Alike, valid-same, kind-same, country-same, lists-same, fits-same}
@@ -44,29 +44,29 @@ module _ {q r : Question} (o : OneAnchor q r) where
 
     -- the same anchors vouch
     vouching :
-        (crl : ℕ) → itemAt (q .items) crl .kind ≡ 4 → (a : ℕ)
+        (crl : ℕ) → Place q crl → itemAt (q .items) crl .kind ≡ 4 → (a : ℕ) → Place q a
         → vouches (q .items) (q .verdict) moment crl a ≡ vouches (r .items) (r .verdict) moment crl a
-    vouching crl four a =
+    vouching crl l four a h =
         by-place a (o .place)
         (λ (s : a ≡ o .place).
-        let silent : r .verdict (o .place) crl ≡ false = sym (o .verdicts (o .place) crl) ∙ o .silent crl four in
+        let silent : r .verdict (o .place) crl ≡ false = sym (o .verdicts (o .place) crl (rw s at h) l) ∙ o .silent crl four in
         rw (s, anchor-shut, silent, and-false (sameCountry (r .items) (o .place) crl)) (sym (and-false (usableAnchor (r .items) moment (o .place)))))
-        (λ s. rw (anchor-same a s, country-same (alike a) (alike crl), o .verdicts a crl))
+        (λ s. rw (anchor-same a s, country-same (alike a) (alike crl), o .verdicts a crl h l))
 
-    counting : (crl : ℕ) → counts (q .items) (q .verdict) moment crl ≡ counts (r .items) (r .verdict) moment crl
-    counting crl = counts-same (q .items) (r .items) (q .verdict) (r .verdict) moment (o .many) crl (alike crl) (vouching crl)
+    counting : (crl : ℕ) → Place q crl → counts (q .items) (q .verdict) moment crl ≡ counts (r .items) (r .verdict) moment crl
+    counting crl l = counts-same (q .items) (r .items) (q .verdict) (r .verdict) moment (o .many) crl (alike crl) (vouching crl l)
 
     still-usable : (p : ℕ) → usable (q .items) (q .verdict) moment p ≡ true → usable (r .items) (r .verdict) moment p ≡ true
     unfolding speaksOf covers
     still-usable p =
         usable-kept (q .items) (r .items) (q .verdict) (r .verdict) moment (o .many) p (valid-same moment (alike p))
-        (λ c. rw (counting c, country-same (alike p) (alike c)))
+        (λ c h. rw (counting c h, country-same (alike p) (alike c)))
         (λ c e. lists-same (alike c) (alike p) ∙ e)
 
-    step-same : (u v : ℕ) → goodStep (q .items) (q .verdict) u v ≡ goodStep (r .items) (r .verdict) u v
+    step-same : (u v : ℕ) → Place q u → Place q v → goodStep (q .items) (q .verdict) u v ≡ goodStep (r .items) (r .verdict) u v
     unfolding goodStep
-    step-same u v =
-        rw (kind-same 1 (alike u), kind-same 2 (alike u), kind-same 2 (alike v), kind-same 3 (alike v), o .verdicts u v, fits-same (alike u) (alike v))
+    step-same u v h l =
+        rw (kind-same 1 (alike u), kind-same 2 (alike u), kind-same 2 (alike v), kind-same 3 (alike v), o .verdicts u v h l, fits-same (alike u) (alike v))
 
     role-kept :
         (kind p : ℕ) → (hasKind (q .items) kind p && usable (q .items) (q .verdict) moment p) ≡ true
@@ -78,10 +78,10 @@ module _ {q r : Question} (o : OneAnchor q r) where
     anchor-chains =
         record {
           places = o .many;
-          anchor = anchor-kept;
-          link = role-kept 2;
-          signer = role-kept 3;
-          step = λ u v e. sym (step-same u v) ∙ e;
+          anchor = λ u h. anchor-kept u;
+          link = λ p h. role-kept 2 p;
+          signer = λ p h. role-kept 3 p;
+          step = λ u v h l e. sym (step-same u v h l) ∙ e;
         }
 
   pub anchor-within : Within (chainsOf q) (chainsOf r)

@@ -1,5 +1,6 @@
 -- Two places are the same or not; two tests joined by and hold still; a test of some place follows place by place.
-use Prim.Native.Nat.{ℕ, zero, suc}
+use Prim.Native.Nat.{ℕ, zero, suc, _<_}
+use native.Mathlib.Omega.{arith}
 use mathlib.Core.Path.{_≡_, refl}
 use mathlib.Core.Bool.{Bool, true, false, _&&_, _||_}
 use borrow.Author.Tests.{eqb-true, eqb-false}
@@ -18,15 +19,15 @@ pub and-more : (a b x y : Bool) → (a ≡ true → x ≡ true) → (b ≡ true 
 and-more true b x y f g e = rw (f refl, g e)
 and-more false b x y f g e = false-true e
 
-pub some-same : (n : ℕ) (a b : ℕ → Bool) → ((p : ℕ) → a p ≡ b p) → someBelow n a ≡ someBelow n b
+pub some-same : (n : ℕ) (a b : ℕ → Bool) → ((p : ℕ) → p < n → a p ≡ b p) → someBelow n a ≡ someBelow n b
 unfolding someBelow
 some-same zero a b same = refl
-some-same (suc n) a b same = rw (same n, some-same n a b same)
+some-same (suc n) a b same = rw (same n (omega arith), some-same n a b (λ p h. same p (omega arith)))
 
-pub some-more : (n : ℕ) (a b : ℕ → Bool) → ((p : ℕ) → a p ≡ true → b p ≡ true) → someBelow n a ≡ true → someBelow n b ≡ true
+pub some-more : (n : ℕ) (a b : ℕ → Bool) → ((p : ℕ) → p < n → a p ≡ true → b p ≡ true) → someBelow n a ≡ true → someBelow n b ≡ true
 unfolding someBelow
 some-more zero a b more e = false-true e
-some-more (suc n) a b more e = go (a n) (b n) (more n) (some-more n a b more) e
+some-more (suc n) a b more e = go (a n) (b n) (more n (omega arith)) (some-more n a b (λ p h. more p (omega arith))) e
   where
     go :
         (x y : Bool) → (x ≡ true → y ≡ true) → (someBelow n a ≡ true → someBelow n b ≡ true) → (x || someBelow n a) ≡ true

@@ -18,7 +18,7 @@ use Rattle.usable.specs.Usable.{valid, sameCountry, usableAnchor, counts, cover
 use Rattle.usable.specs.Steps.{hasKind, fits, goodStep}
 use Rattle.usable.proofs.Booleans.{false-true, first, second}
 use Rattle.chain.specs.Good.{chains}
-use Rattle.trust.specs.Trust.{Question, chainsOf}
+use Rattle.trust.specs.Trust.{Question, Place, chainsOf}
 use Rattle.trust.specs.Lists.{Counting, MoreListed}
 use Rattle.trust.proofs.Cases.{by-place, and-more}
 use Rattle.trust.proofs.Carried.{Within}
@@ -50,6 +50,10 @@ module _ (items : List Item) (crl : ℕ) (four : itemAt items crl .kind ≡ 4) w
 module _ {q r : Question} (o : MoreListed q r) where
   alike : (p : ℕ) → (p ≡ o .crl → ⊥) → Alike (r .items) (q .items) p
   alike p s = record { kind = ap (λ (i : Item). i .kind) (sym (o .others p s)); bytes = ap (λ (i : Item). i .bytes) (sym (o .others p s)) }
+
+  -- a place of one list is one of the other
+  back : (p : ℕ) → Place r p → Place q p
+  back p h = rw (o .many) h
 
   four-before : itemAt (q .items) (o .crl) .kind ≡ 4
   four-before = is-list q (o .crl) (o .before)
@@ -94,23 +98,23 @@ module _ {q r : Question} (o : MoreListed q r) where
   anchor-same : (p : ℕ) → usableAnchor (r .items) now p ≡ usableAnchor (q .items) now p
   anchor-same p = by-place p (o .crl) (λ (s : p ≡ o .crl). rw (s, shut-before, shut-after)) (anchor-other p)
 
-  vouching : (c a : ℕ) → vouches (r .items) (r .verdict) now c a ≡ vouches (q .items) (q .verdict) now c a
-  vouching c a =
+  vouching : (c a : ℕ) → Place q c → Place q a → vouches (r .items) (r .verdict) now c a ≡ vouches (q .items) (q .verdict) now c a
+  vouching c a h l =
       by-place a (o .crl) (λ (s : a ≡ o .crl). rw (s, shut-before, shut-after))
-      (λ s. rw (anchor-same a, country a c s, o .verdicts a c))
+      (λ s. rw (anchor-same a, country a c s, o .verdicts a c l h))
 
   -- the same CRLs count: this one in both, the others by the same anchors
-  counting : (c : ℕ) → counts (r .items) (r .verdict) now c ≡ counts (q .items) (q .verdict) now c
-  counting c =
+  counting : (c : ℕ) → Place q c → counts (r .items) (r .verdict) now c ≡ counts (q .items) (q .verdict) now c
+  counting c h =
       by-place c (o .crl)
       (λ (s : c ≡ o .crl). rw s ((rw (← o .moment) at (o .after .counting)) ∙ sym (o .before .counting)))
-      (λ s. counts-same (r .items) (q .items) (r .verdict) (q .verdict) now (sym (o .many)) c (alike c s) (λ four. vouching c))
+      (λ s. counts-same (r .items) (q .items) (r .verdict) (q .verdict) now (sym (o .many)) c (alike c s) (λ four a l. vouching c a h (back a l)))
 
   was-usable : (p : ℕ) → (p ≡ o .crl → ⊥) → usable (r .items) (r .verdict) now p ≡ true → usable (q .items) (q .verdict) now p ≡ true
   unfolding speaksOf covers
   was-usable p s =
       usable-kept (r .items) (q .items) (r .verdict) (q .verdict) now (sym (o .many)) p (valid-same now (alike p s))
-      (λ c. rw (counting c, country p c s))
+      (λ c h. rw (counting c (back c h), country p c s))
       (λ c. listing p c s)
 
   was-role :
@@ -121,31 +125,31 @@ module _ {q r : Question} (o : MoreListed q r) where
       and-more (hasKind (r .items) kind p) _ _ _ (λ k. sym (kind-same kind (alike p s)) ∙ k) (was-usable p s) e
 
   step-same :
-      (u v : ℕ) → (u ≡ o .crl → ⊥) → (v ≡ o .crl → ⊥) → goodStep (r .items) (r .verdict) u v ≡ goodStep (q .items) (q .verdict) u v
+      (u v : ℕ) → Place q u → Place q v → (u ≡ o .crl → ⊥) → (v ≡ o .crl → ⊥) → goodStep (r .items) (r .verdict) u v ≡ goodStep (q .items) (q .verdict) u v
   unfolding goodStep
-  step-same u v s t =
+  step-same u v h l s t =
       let a = alike u s in
       let b = alike v t in
-      rw (kind-same 1 a, kind-same 2 a, kind-same 2 b, kind-same 3 b, o .verdicts u v, fits-same a b)
+      rw (kind-same 1 a, kind-same 2 a, kind-same 2 b, kind-same 3 b, o .verdicts u v h l, fits-same a b)
 
-  was-step : (u v : ℕ) → goodStep (r .items) (r .verdict) u v ≡ true → goodStep (q .items) (q .verdict) u v ≡ true
+  was-step : (u v : ℕ) → Place q u → Place q v → goodStep (r .items) (r .verdict) u v ≡ true → goodStep (q .items) (q .verdict) u v ≡ true
   unfolding goodStep
-  was-step u v e =
+  was-step u v h l e =
       let from : Bool = hasKind (r .items) 1 u || hasKind (r .items) 2 u in
       let to : Bool = hasKind (r .items) 2 v || hasKind (r .items) 3 v in
       let s = not-either (r .items) (o .crl) four-after 1 2 u refl refl (first from _ e) in
       let t = not-either (r .items) (o .crl) four-after 2 3 v refl refl (first to _ (second from _ e)) in
-      sym (step-same u v s t) ∙ e
+      sym (step-same u v h l s t) ∙ e
 
   longer-chains : Within (chains (r .items) (r .verdict) now) (chains (q .items) (q .verdict) now)
   unfolding chains
   longer-chains =
       record {
         places = sym (o .many);
-        anchor = λ p e. sym (anchor-same p) ∙ e;
-        link = λ p. was-role 2 p refl;
-        signer = λ p. was-role 3 p refl;
-        step = was-step;
+        anchor = λ p h e. sym (anchor-same p) ∙ e;
+        link = λ p h. was-role 2 p refl;
+        signer = λ p h. was-role 3 p refl;
+        step = λ u v h l. was-step u v (back u h) (back v l);
       }
 
   pub longer-within : Within (chainsOf r) (chainsOf q)

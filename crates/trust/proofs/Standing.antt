@@ -1,6 +1,6 @@
 -- A CRL counts alike where the same anchors vouch for it; and a usable place stays usable where the same counting CRLs cover it
 -- and none of them lists it that did not.
-use Prim.Native.Nat.{ℕ}
+use Prim.Native.Nat.{ℕ, _<_}
 use mathlib.Core.Path.{_≡_, refl, sym, ap, _∙_}
 use mathlib.Core.Bool.{Bool, true, false, _&&_, not}
 use mathlib.Core.List.{List}
@@ -31,7 +31,7 @@ kept false b c x y z f g h e = false-true e
 module _ (items others : List Item) (verdict ruling : ℕ → ℕ → Bool) (moment : ℕ) (many : length items ≡ length others) where
   pub counts-same :
       (crl : ℕ) → Alike items others crl
-      → (itemAt items crl .kind ≡ 4 → (a : ℕ) → vouches items verdict moment crl a ≡ vouches others ruling moment crl a)
+      → (itemAt items crl .kind ≡ 4 → (a : ℕ) → a < length items → vouches items verdict moment crl a ≡ vouches others ruling moment crl a)
       → counts items verdict moment crl ≡ counts others ruling moment crl
   unfolding counts listAt somePlace
   counts-same crl a same =
@@ -42,12 +42,12 @@ module _ (items others : List Item) (verdict ruling : ℕ → ℕ → Bool) (mom
 
   pub usable-kept :
       (p : ℕ) → valid items moment p ≡ valid others moment p
-      → ((c : ℕ) → speaksOf items verdict moment p c ≡ speaksOf others ruling moment p c)
+      → ((c : ℕ) → c < length items → speaksOf items verdict moment p c ≡ speaksOf others ruling moment p c)
       → ((c : ℕ) → lists others c p ≡ true → lists items c p ≡ true)
       → usable items verdict moment p ≡ true → usable others ruling moment p ≡ true
   unfolding usable somePlace
   usable-kept p same speaking listing e =
       rw (← many)
       (kept _ _ _ _ _ _ (λ v. sym same ∙ v)
-      (some-more (length items) _ _ (λ c s. sym (speaking c) ∙ s))
-      (some-more (length items) _ _ (λ c. and-more _ _ _ _ (λ s. speaking c ∙ s) (listing c))) e)
+      (some-more (length items) _ _ (λ c h s. sym (speaking c h) ∙ s))
+      (some-more (length items) _ _ (λ c h. and-more _ _ _ _ (λ s. speaking c h ∙ s) (listing c))) e)

@@ -14,7 +14,7 @@ use Rattle.crl.specs.Listed.{listedOf}
 use Rattle.graph.specs.Chains.{Chain}
 use Rattle.usable.specs.Items.{itemAt}
 use Rattle.usable.specs.Usable.{counts}
-use Rattle.trust.specs.Trust.{Question, chainsOf}
+use Rattle.trust.specs.Trust.{Question, Place, chainsOf}
 
 -- a CRL at a place, what it reports, and that it counts
 pub record Counting (q : Question) (crl : ℕ) : Type 0 where
@@ -38,7 +38,7 @@ pub record MoreListed (q r : Question) : Type 0 where
   -- all else is the same
   pub others : (p : ℕ) → (p ≡ crl → ⊥) → itemAt (q .items) p ≡ itemAt (r .items) p
   pub many : length (q .items) ≡ length (r .items)
-  pub verdicts : (u v : ℕ) → q .verdict u v ≡ r .verdict u v
+  pub verdicts : (u v : ℕ) → Place q u → Place q v → q .verdict u v ≡ r .verdict u v
   pub moment : q .moment ≡ r .moment
 
 -- where no chain was good before, none is now

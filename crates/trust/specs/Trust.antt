@@ -1,6 +1,6 @@
 -- What more trust can do: two questions alike but that some verdicts for links or signers went from 0 to 1, or that disabled anchors
 -- which vouch for no CRL were enabled. A chain found stays found, and the chain shown gets no longer.
-use Prim.Native.Nat.{ℕ, _≤_}
+use Prim.Native.Nat.{ℕ, _<_, _≤_}
 use mathlib.Core.Path.{_≡_}
 use mathlib.Core.Bool.{Bool, true, false}
 use mathlib.Core.List.{List}
@@ -17,6 +17,10 @@ pub record Question : Type 0 where
   pub verdict : ℕ → ℕ → Bool
   pub moment : ℕ
 
+-- a place of its list
+abbrev pub Place : Question → ℕ → Type 0
+Place q p = p < length (q .items)
+
 abbrev pub chainsOf : Question → Graph
 chainsOf q = chains (q .items) (q .verdict) (q .moment)
 
@@ -27,7 +31,7 @@ pub record OneVerdict (q r : Question) : Type 0 where
   pub signed : (itemAt (q .items) to .kind ≡ 2) ⊎ (itemAt (q .items) to .kind ≡ 3)
   pub before : q .verdict from to ≡ false
   pub after : r .verdict from to ≡ true
-  pub others : (u v : ℕ) → ((u ≡ from) × (v ≡ to) → ⊥) → q .verdict u v ≡ r .verdict u v
+  pub others : (u v : ℕ) → Place q u → Place q v → ((u ≡ from) × (v ≡ to) → ⊥) → q .verdict u v ≡ r .verdict u v
   pub items : q .items ≡ r .items
   pub moment : q .moment ≡ r .moment
 
@@ -42,7 +46,7 @@ pub record OneAnchor (q r : Question) : Type 0 where
   pub bytes : itemAt (r .items) place .bytes ≡ itemAt (q .items) place .bytes
   pub others : (p : ℕ) → (p ≡ place → ⊥) → itemAt (q .items) p ≡ itemAt (r .items) p
   pub many : length (q .items) ≡ length (r .items)
-  pub verdicts : (u v : ℕ) → q .verdict u v ≡ r .verdict u v
+  pub verdicts : (u v : ℕ) → Place q u → Place q v → q .verdict u v ≡ r .verdict u v
   pub moment : q .moment ≡ r .moment
 
 -- alike but for such changes, none, one or several
