@@ -5,4 +5,5 @@ pub mod Standing
 pub mod Verdicts
 pub mod Anchors
 pub mod Longer
+pub mod Octets
 pub mod Theorems

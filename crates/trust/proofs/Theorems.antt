@@ -1,11 +1,13 @@
 -- What more trust can do, and what a longer list can: over good chains, and over the answers of two calls.
-use Prim.Native.Nat.{ℕ, _≤_}
+use Prim.Native.Nat.{ℕ, _+_, _*_, _<_, _≤_}
 use mathlib.Core.Path.{_≡_, refl, sym, _∙_}
 use mathlib.Core.List.{List}
-use mathlib.Core.Logic.{⊎-elim}
+use mathlib.Core.Logic.{_⊎_, ⊎-elim}
 use native.Mathlib.Omega.{arith}
-use lib.ListN.{length}
+use lib.ListN.{length, getD, set}
 use Rattle.graph.specs.Chains.{Chain, Best}
+use Rattle.image.specs.Index.{entryCount, itemsIn}
+use Rattle.usable.specs.Items.{itemAt}
 use Rattle.chain.specs.declared.Answer.{Answer}
 use Rattle.chain.proofs.Theorems.{answer-sound, answer-complete, none-sound, none-complete}
 use Rattle.trust.specs.Trust.{Question, chainsOf, MoreTrust, alike, verdict, anchor, several, Keeps}
@@ -14,6 +16,7 @@ use Rattle.trust.specs.Answers.{asks, Call, ShownStays, SevenStays}
 use Rattle.trust.proofs.Carried.{carried}
 use Rattle.trust.proofs.Verdicts.{verdict-within}
 use Rattle.trust.proofs.Anchors.{anchor-within}
+use Rattle.trust.proofs.Octets.{octet-verdict}
 use Rattle.trust.proofs.Longer.{longer-within}
 
 -- With more trust each good chain stays a good chain.
@@ -31,6 +34,14 @@ trust-keeps more target =
       no-longer = λ c d before after.
           ⊎-elim (λ less. omega (arith, less)) (λ same. omega (arith, same .0)) (after .least c (chain-stays more target c (before .good)));
     }
+
+-- One octet of the table that goes from 0 to 1, for a link or a signer, is more trust.
+pub octet-trusts :
+    (s table : List ℕ) (moment from to : ℕ) → let n = entryCount s in
+    from < n → to < n → length table ≡ n * n → getD table (from * n + to) 0 ≡ 0
+    → (itemAt (itemsIn s) to .kind ≡ 2) ⊎ (itemAt (itemsIn s) to .kind ≡ 3)
+    → MoreTrust (asks s table moment) (asks s (set table (from * n + to) 1) moment)
+octet-trusts s table moment from to h l many was signed = verdict (octet-verdict s table moment from to h l many was signed)
 
 -- Where one counting CRL lists more, a signer without a good chain stays without one.
 pub list-refuses : {q r : Question} → MoreListed q r → (target : ℕ) → StaysRefused q r target
