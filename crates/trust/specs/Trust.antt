@@ -17,7 +17,7 @@ pub record Question : Type 0 where
   pub verdict : ℕ → ℕ → Bool
   pub moment : ℕ
 
--- a place of its list
+-- a place of its list; verdicts are asked of such places alone, since a table has an octet for no other pair
 abbrev pub Place : Question → ℕ → Type 0
 Place q p = p < length (q .items)
 
