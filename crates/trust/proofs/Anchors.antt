@@ -66,7 +66,9 @@ module _ {q r : Question} (o : OneAnchor q r) where
     step-same : (u v : ℕ) → Place q u → Place q v → goodStep (q .items) (q .verdict) u v ≡ goodStep (r .items) (r .verdict) u v
     unfolding goodStep
     step-same u v h l =
-        rw (kind-same 1 (alike u), kind-same 2 (alike u), kind-same 2 (alike v), kind-same 3 (alike v), o .verdicts u v h l, fits-same (alike u) (alike v))
+        let a = alike u in
+        let b = alike v in
+        rw (kind-same 1 a, kind-same 2 a, kind-same 2 b, kind-same 3 b, o .verdicts u v h l, fits-same a b)
 
     role-kept :
         (kind p : ℕ) → (hasKind (q .items) kind p && usable (q .items) (q .verdict) moment p) ≡ true

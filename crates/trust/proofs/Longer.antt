@@ -43,9 +43,11 @@ module _ (items : List Item) (crl : ℕ) (four : itemAt items crl .kind ≡ 4) w
   unfolding hasKind
   not-list kind p other e same = false-true (sym other ∙ (rw (same, four) at e))
 
-  not-either : (kind second p : ℕ) → eqb 4 kind ≡ false → eqb 4 second ≡ false → (hasKind items kind p || hasKind items second p) ≡ true → p ≡ crl → ⊥
+  not-either :
+      (kind other p : ℕ) → eqb 4 kind ≡ false → eqb 4 other ≡ false → (hasKind items kind p || hasKind items other p) ≡ true
+      → p ≡ crl → ⊥
   unfolding hasKind
-  not-either kind second p a b e same = false-true (rw (same, four, a, b) at e)
+  not-either kind other p a b e same = false-true (rw (same, four, a, b) at e)
 
 module _ {q r : Question} (o : MoreListed q r) where
   alike : (p : ℕ) → (p ≡ o .crl → ⊥) → Alike (r .items) (q .items) p
@@ -125,7 +127,8 @@ module _ {q r : Question} (o : MoreListed q r) where
       and-more (hasKind (r .items) kind p) _ _ _ (λ k. sym (kind-same kind (alike p s)) ∙ k) (was-usable p s) e
 
   step-same :
-      (u v : ℕ) → Place q u → Place q v → (u ≡ o .crl → ⊥) → (v ≡ o .crl → ⊥) → goodStep (r .items) (r .verdict) u v ≡ goodStep (q .items) (q .verdict) u v
+      (u v : ℕ) → Place q u → Place q v → (u ≡ o .crl → ⊥) → (v ≡ o .crl → ⊥)
+      → goodStep (r .items) (r .verdict) u v ≡ goodStep (q .items) (q .verdict) u v
   unfolding goodStep
   step-same u v h l s t =
       let a = alike u s in

@@ -45,7 +45,8 @@ module _ (items : List Item) (verdict ruling : ℕ → ℕ → Bool) (moment : �
       (λ c h. ap (λ (b : Bool). b && covers items c p) (counting c h)) (λ c e. e)
 
   pub verdict-chains :
-      ((u v : ℕ) → u < length items → v < length items → verdict u v ≡ true → ruling u v ≡ true) → Within (chains items verdict moment) (chains items ruling moment)
+      ((u v : ℕ) → u < length items → v < length items → verdict u v ≡ true → ruling u v ≡ true)
+      → Within (chains items verdict moment) (chains items ruling moment)
   unfolding chains
   verdict-chains more =
       record {
