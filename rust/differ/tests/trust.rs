@@ -9,7 +9,7 @@ use make::random::Random;
 use make::table;
 use make::world::{World, ANCHOR, CRL, LINK, MOMENT, SIGNER};
 
-const WORLDS: usize = 600;
+const WORLDS: usize = 400;
 const TABLES: usize = 10;
 
 /// The refusal where no good chain exists.
@@ -130,7 +130,7 @@ fn more_trust_keeps_a_chain() {
         }
     });
     println!("{pairs} pairs: {same} as long, {shorter} shorter, {new} new");
-    assert!(pairs > 4_000 && same > 400 && shorter > 40 && new > 100);
+    assert!(pairs > 2_500 && same > 400 && shorter > 30 && new > 20);
 }
 
 /// The same call with more serials in a CRL that counts: those of items, or others.
@@ -168,5 +168,5 @@ fn longer_list_keeps_a_refusal() {
         }
     });
     println!("{pairs} pairs: {refused} refused, {lost} lost, {kept} kept");
-    assert!(pairs > 2_000 && refused > 400 && lost > 40 && kept > 40);
+    assert!(pairs > 2_000 && refused > 400 && lost > 40 && kept > 400);
 }
