@@ -60,9 +60,8 @@ impl Call {
         let vouches = |&anchor: &usize| {
             let item = &self.items[anchor];
             let told = vrbolist::certificate(&item.octets, ANCHOR as u64);
-            let usable = |own: vrbolist::Certificate| {
-                own.start <= MOMENT && MOMENT <= own.end && own.country == list.country
-            };
+            let usable =
+                |own: vrbolist::Certificate| own.start <= MOMENT && MOMENT <= own.end && own.country == list.country;
             item.flags == 1 && self.table[anchor * self.items.len() + crl] == 1 && told.is_ok_and(usable)
         };
         list.this_update <= MOMENT && MOMENT <= list.next_update && self.places(&[ANCHOR]).iter().any(vouches)
@@ -133,23 +132,28 @@ fn more_trust_keeps_a_chain() {
     assert!(pairs > 2_500 && same > 400 && shorter > 30 && new > 20);
 }
 
-/// The same call with more serials in a CRL that counts: those of items, or others.
+/// Serials of items, or others.
+fn serials(random: &mut Random, call: &Call) -> Vec<Vec<u8>> {
+    let number = random.between(1, 4);
+    let mut serial = || {
+        let item = random.pick(&call.items);
+        match vrbolist::certificate(&item.octets, item.kind as u64) {
+            Ok(told) if random.percent(60) => told.serial.to_vec(),
+            _ => vec![0x31, random.octet()],
+        }
+    };
+    (0..number).map(|_| serial()).collect()
+}
+
+/// The same call with more serials in a CRL that counts.
 fn longer_list(random: &mut Random, before: &Call) -> Option<Call> {
     let counting: Vec<_> = before.places(&[CRL]).into_iter().filter(|&crl| before.counts(crl)).collect();
     if counting.is_empty() {
         return None;
     }
     let crl = *random.pick(&counting);
-    let mut serials = Vec::new();
-    for _ in 0..random.between(1, 4) {
-        let item = random.pick(&before.items);
-        match vrbolist::certificate(&item.octets, item.kind as u64) {
-            Ok(told) if random.percent(60) => serials.push(told.serial.to_vec()),
-            _ => serials.push(vec![0x31, random.octet()]),
-        }
-    }
     let mut after = before.clone();
-    after.items[crl].octets = longer(&before.items[crl].octets, &serials);
+    after.items[crl].octets = longer(&before.items[crl].octets, &serials(random, before));
     assert!(after.counts(crl), "the longer list counts");
     Some(after)
 }
@@ -169,4 +173,40 @@ fn longer_list_keeps_a_refusal() {
     });
     println!("{pairs} pairs: {refused} refused, {lost} lost, {kept} kept");
     assert!(pairs > 2_000 && refused > 400 && lost > 40 && kept > 400);
+}
+
+/// Two calls: in the second a CRL may count that did not, by an anchor's verdict or by an anchor that is enabled.
+fn one_list_more(random: &mut Random, call: Call, enabled: bool) -> Option<(Call, Call)> {
+    let (anchors, crls) = (call.places(&[ANCHOR]), call.places(&[CRL]));
+    if anchors.is_empty() || crls.is_empty() {
+        return None;
+    }
+    let (anchor, crl) = (*random.pick(&anchors), *random.pick(&crls));
+    vrbolist::crl(&call.items[crl].octets).ok()?;
+    let mut before = call;
+    before.items[crl].octets = longer(&before.items[crl].octets, &serials(random, &before));
+    for &other in &anchors {
+        *before.verdict(other, crl) = (enabled && other == anchor) as u8;
+    }
+    if enabled {
+        before.items[anchor].flags = 0;
+    }
+    let mut after = before.clone();
+    after.items[anchor].flags |= enabled as u8;
+    *after.verdict(anchor, crl) = 1;
+    Some((before, after))
+}
+
+/// The conditions stand for a reason: a verdict for a CRL can lose a chain, and so can an anchor that vouches for one.
+#[test]
+fn one_list_more_can_lose_a_chain() {
+    for enabled in [false, true] {
+        let mut lost = 0;
+        calls(13, |random, call| {
+            let Some((before, after)) = one_list_more(random, call, enabled) else { return };
+            lost += matches!((before.ask(), after.ask()), (Ok(_), Err(NONE))) as usize;
+        });
+        println!("{lost} lost, by an anchor enabled: {enabled}");
+        assert!(lost > 10);
+    }
 }
