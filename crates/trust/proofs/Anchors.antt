@@ -1,16 +1,11 @@
 -- One anchor enabled that vouches for no CRL: what counts is the same, so the same places are usable; and a usable anchor stays one.
 use Prim.Native.Nat.{ℕ}
-use mathlib.Core.Path.{_≡_, refl, sym, ap, _∙_}
-use mathlib.Core.Bool.{Bool, true, false, _&&_}
-use mathlib.Core.List.{List}
-use native.Mathlib.Omega.{arith}
-use borrow.Author.Tests.{eq-eqb, ne-eqb}
-use lib.Dec.{eqb}
-use lib.ListN.{length}
+use mathlib.Core.Path.{_≡_, sym, ap, _∙_}
+use mathlib.Core.Bool.{true, false, _&&_}
 use Rattle.image.specs.Items.{Item}
 use Rattle.usable.specs.Items.{itemAt, certificateAt}
 use Rattle.usable.specs.Usable.{valid, sameCountry, usableAnchor, counts, covers, speaksOf, usable}
-use Rattle.usable.specs.Steps.{hasKind, fits, goodStep}
+use Rattle.usable.specs.Steps.{hasKind, goodStep}
 use Rattle.usable.proofs.Booleans.{false-true, and-false}
 use Rattle.chain.specs.Good.{chains}
 use Rattle.trust.specs.Trust.{Question, Place, chainsOf, OneAnchor}

@@ -4,18 +4,15 @@ use Prim.Native.Nat.{ℕ}
 use mathlib.Core.Path.{_≡_, refl, sym, ap, _∙_}
 use mathlib.Core.Bool.{Bool, true, false, _&&_, _||_}
 use mathlib.Core.List.{List}
-use native.Mathlib.Omega.{arith}
 use borrow.Author.Tests.{eqb-true}
 use lib.Dec.{eqb}
-use lib.ListN.{length}
-use Rattle.der.specs.Forms.{paper}
 use Rattle.certificate.specs.declared.Fields.{Fields}
 use Rattle.certificate.specs.declared.Judged.{Judged}
 use Rattle.certificate.specs.declared.Judged.the-variants.{Passed, Refused}
 use Rattle.image.specs.Items.{Item}
 use Rattle.usable.specs.Items.{itemAt, onCertificate, certificateAt, onList, listAt, partOf}
 use Rattle.usable.specs.Usable.{valid, sameCountry, usableAnchor, counts, covers, lists, speaksOf, usable}
-use Rattle.usable.specs.Steps.{hasKind, fits, goodStep}
+use Rattle.usable.specs.Steps.{hasKind, goodStep}
 use Rattle.usable.proofs.Booleans.{false-true, first, second}
 use Rattle.chain.specs.Good.{chains}
 use Rattle.trust.specs.Trust.{Question, Place, chainsOf}

@@ -1,12 +1,11 @@
 -- What an item tells is told by its kind and its octets: where two lists have these alike at a place, they tell the same of it.
 use Prim.Native.Nat.{ℕ}
-use mathlib.Core.Path.{_≡_, refl}
-use mathlib.Core.Bool.{Bool}
+use mathlib.Core.Path.{_≡_}
 use mathlib.Core.List.{List}
 use Rattle.image.specs.Items.{Item}
 use Rattle.usable.specs.Items.{itemAt, certificateAt, listAt, partOf}
 use Rattle.usable.specs.Usable.{valid, sameCountry, lists}
-use Rattle.usable.specs.Steps.{hasKind, fits, goodStep}
+use Rattle.usable.specs.Steps.{hasKind, fits}
 
 pub record Alike (items others : List Item) (place : ℕ) : Type 0 where
   pub kind : itemAt items place .kind ≡ itemAt others place .kind

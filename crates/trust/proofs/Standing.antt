@@ -8,8 +8,8 @@ use borrow.Author.Tests.{eqb-true}
 use lib.Dec.{eqb}
 use lib.ListN.{length}
 use Rattle.image.specs.Items.{Item}
-use Rattle.usable.specs.Items.{itemAt, listAt, somePlace, someBelow, within}
-use Rattle.usable.specs.Usable.{valid, usableAnchor, sameCountry, counts, covers, lists, speaksOf, usable}
+use Rattle.usable.specs.Items.{itemAt, listAt, somePlace, within}
+use Rattle.usable.specs.Usable.{valid, usableAnchor, sameCountry, counts, lists, speaksOf, usable}
 use Rattle.usable.proofs.Booleans.{false-true, and-when}
 use Rattle.trust.proofs.Cases.{and-more, some-same, some-more}
 use Rattle.trust.proofs.Places.{Alike}

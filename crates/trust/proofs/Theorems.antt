@@ -1,11 +1,11 @@
 -- What more trust can do, and what a longer list can: over good chains, and over the answers of two calls.
 use Prim.Native.Nat.{ℕ, _+_, _*_, _<_, _≤_}
-use mathlib.Core.Path.{_≡_, refl, sym, _∙_}
+use mathlib.Core.Path.{_≡_}
 use mathlib.Core.List.{List}
 use mathlib.Core.Logic.{_⊎_, ⊎-elim}
 use native.Mathlib.Omega.{arith}
 use lib.ListN.{length, getD, set}
-use Rattle.graph.specs.Chains.{Chain, Best}
+use Rattle.graph.specs.Chains.{Chain}
 use Rattle.image.specs.Index.{entryCount, itemsIn}
 use Rattle.usable.specs.Items.{itemAt}
 use Rattle.chain.specs.declared.Answer.{Answer}

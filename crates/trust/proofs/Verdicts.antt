@@ -15,7 +15,6 @@ use Rattle.chain.specs.Good.{chains}
 use Rattle.trust.specs.Trust.{Question, Place, chainsOf, OneVerdict}
 use Rattle.trust.proofs.Cases.{by-place, and-more}
 use Rattle.trust.proofs.Carried.{Within}
-use Rattle.trust.proofs.Places.{Alike}
 use Rattle.trust.proofs.Standing.{counts-same, usable-kept}
 
 -- a step stays good with a verdict that stays 1

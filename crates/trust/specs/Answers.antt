@@ -10,8 +10,7 @@ use Rattle.chain.specs.declared.asking.Asked.the-variants as asked
 use Rattle.chain.specs.declared.Answer.{Answer}
 use Rattle.chain.specs.declared.Outcome.the-variants.{Shown, Refused}
 use Rattle.chain.specs.Answer.{askedOf, Answered}
-use Rattle.trust.specs.Trust.{Question, MoreTrust}
-use Rattle.trust.specs.Lists.{MoreListed}
+use Rattle.trust.specs.Trust.{Question}
 
 -- the question that an image, a table and a moment ask
 abbrev pub asks : List ℕ → List ℕ → ℕ → Question
