@@ -229,6 +229,40 @@ def listing():
     yield over('two CRLs, the first with no verdict', THREE + [crl()], [(0, 1), (0, 3)], [0, 1])
 
 
+def more_trust():
+    """Pairs alike but for one change, and why the conditions on it stand: a verdict for a CRL, or an anchor that vouches
+    for one, can lose a chain."""
+    yield over('more trust, a verdict for the signer, before', FOUR, LINE, [0, 1, 2])
+    yield over('more trust, a verdict for the signer, after', FOUR, LINE + [(0, 2)], [0, 2])
+    second = THREE + [crl(b'\2')]
+    yield over('a verdict for a CRL that lists the signer, before', second, STEP, [0, 1])
+    yield over('a verdict for a CRL that lists the signer, after', second, STEP + [(0, 3)], NONE)
+    for flags, label in ((0, 'before'), (1, 'after')):
+        silent = [anchor(), anchor(flags), link(serial=b'\1'), signer(serial=b'\2'), crl()]
+        yield over('more trust, an anchor that vouches for no CRL, ' + label, silent, [(0, 2), (2, 3), (1, 3), (0, 4)],
+                   [1, 3] if flags else [0, 2, 3])
+        vouching = [anchor(), anchor(flags), signer(serial=b'\2'), crl(), crl(b'\2')]
+        yield over('an anchor that vouches for a CRL which lists the signer, ' + label, vouching,
+                   [(0, 2), (0, 3), (1, 4)], NONE if flags else [0, 2])
+
+
+def longer_list():
+    """A CRL that lists more, and why it has to count in both and keep its issuer's country."""
+    listed = replaced(THREE, 2, crl(b'\2')) + [crl()]
+    every = STEP + [(0, 3)]
+    yield over('a longer list, before', listed, every, NONE)
+    yield over('a longer list, after', replaced(listed, 2, crl(b'\2', b'\7')), every, NONE)
+    over_now = crl(b'\2', b'\7', next=utc('260301115959Z'))
+    yield over('a longer list that counts no more', replaced(listed, 2, over_now), every, [0, 1])
+    yield over('a longer list that did not count, before', replaced(THREE, 2, crl(next=utc('260301115959Z'))), STEP, NONE)
+    yield over('a longer list that did not count, after', replaced(THREE, 2, crl(b'\7')), STEP, [0, 1])
+    theirs = named('A', 'XO')
+    foreign = anchor(subject=theirs, issuer=theirs)
+    for label, issuer, stated in (('before', NAME, NONE), ('after', theirs, [0, 1])):
+        moved = listed[:2] + [crl(b'\2', issuer=issuer), crl(), foreign]
+        yield over('a list that goes to another country, ' + label, moved, every + [(4, 2)], stated)
+
+
 def matching():
     def with_signer(**changes):
         return replaced(THREE, 1, signer(**changes))
@@ -437,6 +471,6 @@ def made():
 
 
 def cases():
-    for part in (paper, ties, odd_steps, long, anchors, covered, listing, matching, passing, seconds, moments, targets,
-                 tables, refusals, two_countries, renamed, other_countries, several_lists, versions, made):
+    for part in (paper, ties, odd_steps, long, anchors, covered, listing, more_trust, longer_list, matching, passing, seconds,
+                 moments, targets, tables, refusals, two_countries, renamed, other_countries, several_lists, versions, made):
         yield from part()

@@ -1,7 +1,7 @@
 //! CRLs.
 
 use crate::certificate;
-use crate::der::{element, integer, sequence, SEQUENCE};
+use crate::der::{around, contents, element, integer, members, sequence, SEQUENCE};
 use crate::envelope::{algorithm, rsa_algorithm, Envelope};
 use crate::extension::{self, known, Extension, AUTHORITY_KEY_ID, CRL_NUMBER};
 use crate::name;
@@ -58,6 +58,20 @@ pub fn entry(serial: &[u8], moment: &[u8], extensions: &[Extension]) -> Vec<u8> 
     } else {
         sequence(&[&integer(serial), moment, &extension::list(extensions)])
     }
+}
+
+/// A CRL that keeps every rule, with these serials listed behind its own.
+pub fn longer(item: &[u8], serials: &[Vec<u8>]) -> Vec<u8> {
+    let revoked = time::time(20230704101112);
+    let more: Vec<_> = serials.iter().map(|serial| entry(serial, &revoked, &[])).collect();
+    let outer = members(item);
+    // Version, algorithm, issuer and two times; then a list, or none, and the extensions.
+    let tbs = members(outer[0]);
+    let (before, after) = tbs.split_at(5);
+    let own = if after[0][0] == SEQUENCE { contents(after[0]) } else { &[] };
+    let list = around(SEQUENCE, &[own, &more.concat()]);
+    let last = after[after.len() - 1];
+    sequence(&[&sequence(&[before, &[&list, last]].concat()), outer[1], outer[2]])
 }
 
 impl Crl {

@@ -80,6 +80,39 @@ pub fn nested(depth: usize) -> Vec<u8> {
     (0..depth).fold(Vec::new(), |inner, _| element(SEQUENCE, &inner))
 }
 
+/// The contents of an element that keeps DER.
+pub fn contents(element: &[u8]) -> &[u8] {
+    &element[header(element)..]
+}
+
+/// The elements in the contents of one that keeps DER, each whole.
+pub fn members(element: &[u8]) -> Vec<&[u8]> {
+    let mut rest = contents(element);
+    let mut found = Vec::new();
+    while !rest.is_empty() {
+        let (member, after) = rest.split_at(header(rest) + length(rest));
+        found.push(member);
+        rest = after;
+    }
+    found
+}
+
+/// How many octets identifier and length take.
+fn header(element: &[u8]) -> usize {
+    match element[1] {
+        0..=0x7F => 2,
+        more => 2 + (more & 0x7F) as usize,
+    }
+}
+
+/// How many octets the contents take.
+fn length(element: &[u8]) -> usize {
+    match element[1] {
+        short @ 0..=0x7F => short as usize,
+        _ => element[2..header(element)].iter().fold(0, |sum, &octet| sum << 8 | octet as usize),
+    }
+}
+
 /// The contents of the shortest INTEGER of this value.
 pub fn integer_contents(value: i64) -> Vec<u8> {
     let octets = value.to_be_bytes();

@@ -1,0 +1,3 @@
+pub mod Trust
+pub mod Lists
+pub mod Answers

@@ -1,0 +1,1 @@
+// What more trust can do, and what a longer list can. Theorems alone.
