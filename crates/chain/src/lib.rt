@@ -6,6 +6,7 @@ mod matching;
 mod near;
 mod opening;
 mod rounds;
+mod signers;
 mod whole;
 
 use asking::Asked;
@@ -14,6 +15,8 @@ pub use by_rounds::best_chain_by_rounds;
 use graph::Found;
 use refusal::Refusal;
 use rounds::chain_among;
+pub use signers::Signers;
+pub use signers::all_signers;
 ghost use mathlib.Core.Path.{_≡_};
 ghost use Rattle.chain.specs.Answer.{Answered, Without, Shows};
 
