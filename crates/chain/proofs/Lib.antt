@@ -20,3 +20,5 @@ pub mod SpeakingUp
 pub mod OpeningLaws
 pub mod ImageRounds
 pub mod WholeMeans
+pub mod Recording
+pub mod SignersTheorems

@@ -1,2 +1,3 @@
 pub mod Told
 pub mod Chains
+pub mod Signers

@@ -4,4 +4,5 @@ mod chains;
 mod images;
 mod items;
 mod lists;
+mod signers;
 mod trays;

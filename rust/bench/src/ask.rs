@@ -13,7 +13,10 @@ pub struct Asker {
 
 impl Asker {
     pub fn new(questions: Vec<Question>) -> Asker {
-        let octets = |question: &Question| if let Question::Write { room, .. } = question { *room } else { 0 };
+        let octets = |question: &Question| match question {
+            Question::Write { room, .. } | Question::Signers { room, .. } => *room,
+            _ => 0,
+        };
         let numbers = |question: &Question| if let Question::Replay { room, .. } = question { *room } else { 0 };
         let output = Lent {
             octets: vec![0; questions.iter().map(octets).max().unwrap_or(0)],

@@ -14,6 +14,7 @@ pub enum Answer {
     Entry(plain::Entry),
     Write(plain::Written),
     Chain(plain::Chain),
+    Signers(plain::Signers),
     Replay(plain::Replayed),
 }
 
@@ -30,6 +31,7 @@ impl Answer {
             Answer::Entry(told) => (told.number, told.detail),
             Answer::Write(told) => (told.number, told.detail),
             Answer::Chain(told) => (told.number, told.detail),
+            Answer::Signers(told) => (told.number, told.detail),
             Answer::Replay(told) => (told.number, told.detail),
         }
     }
@@ -82,4 +84,5 @@ same_fields!(Image, Image, Image { entries, day });
 same_fields!(Entry, Entry, Entry { kind, flags, length, offset });
 same_fields!(Write, Write, Written { length });
 same_fields!(Chain, Chain, Chain { length, places });
+same_fields!(Signers, Signers, Signers { length });
 same_fields!(Replay, Replay, Replayed { faulty });

@@ -18,6 +18,7 @@ pub fn kind(question: &Question) -> &'static str {
         Question::Entry(..) => "entry",
         Question::Write { .. } => "write",
         Question::Chain { .. } => "chain",
+        Question::Signers { .. } => "signers",
         Question::Replay { .. } => "replay",
     }
 }
@@ -49,6 +50,9 @@ pub fn show(question: &Question) -> String {
         ),
         Question::Chain { image, table, moment, target } => {
             format!("moment {moment}, target {target}, table {}, image {}", hex(table), hex(image))
+        }
+        Question::Signers { image, table, moment, room } => {
+            format!("moment {moment}, room {room}, table {}, image {}", hex(table), hex(image))
         }
         Question::Replay { log, room } => format!("room {room}, log {}", hex(log)),
     }

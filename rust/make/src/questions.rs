@@ -47,6 +47,13 @@ pub enum Question {
         moment: u64,
         target: u64,
     },
+    /// `room` is the length of the lent output.
+    Signers {
+        image: Vec<u8>,
+        table: Vec<u8>,
+        moment: u64,
+        room: usize,
+    },
     /// A tray log; `room` is how many numbers the lent list has.
     Replay {
         log: Vec<u8>,
@@ -103,6 +110,7 @@ impl Source {
             78..=80 => self.entry(),
             81..=83 => self.write(),
             84..=86 => self.replay(),
+            87 => self.signers(),
             _ => self.chain(),
         }
     }
@@ -341,6 +349,26 @@ impl Source {
     }
 
     fn chain(&mut self) -> Question {
+        let (image, table, moment, target) = self.world();
+        Question::Chain { image, table, moment, target }
+    }
+
+    /// A question for every signer, now and then with too little room.
+    fn signers(&mut self) -> Question {
+        let (image, table, moment, _) = self.world();
+        let random = &mut self.random;
+        let needed = 97 * (table.len() as f64).sqrt() as usize;
+        let room = match random.below(8) {
+            0 => needed.saturating_sub(1),
+            1 => random.below(needed + 1),
+            2 | 3 => needed + random.below(120),
+            _ => needed,
+        };
+        Question::Signers { image, table, moment, room }
+    }
+
+    /// An image, a table, a moment and a target.
+    fn world(&mut self) -> (Vec<u8>, Vec<u8>, u64, u64) {
         let random = &mut self.random;
         if self.worlds.len() < WORLDS {
             self.worlds.push(World::varied(random));
@@ -356,7 +384,7 @@ impl Source {
         let table = table::varied(random, world);
         let moment = moment(random, world);
         let target = target(random, world);
-        Question::Chain { image, table, moment, target }
+        (image, table, moment, target)
     }
 }
 

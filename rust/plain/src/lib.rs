@@ -18,6 +18,7 @@ mod integer;
 mod name;
 mod reader;
 mod refusal;
+mod signers;
 mod time;
 mod tray;
 
@@ -28,4 +29,5 @@ pub use crl::{crl, crl_age, Crl};
 pub use der::{walk, Walk};
 pub use image::{entry, image, image_for_day, write, Entry, Image, Written};
 pub use integer::{integer, Integer};
+pub use signers::{all_signers, Signers};
 pub use tray::{replay, Replayed};

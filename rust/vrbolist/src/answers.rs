@@ -4,7 +4,7 @@
 #![allow(unsafe_code)]
 
 use crate::raw;
-pub use crate::raw::{Certificate, Chain, Crl, Days, Entry, Image, Integer, Replay, Walk, Write};
+pub use crate::raw::{Certificate, Chain, Crl, Days, Entry, Image, Integer, Replay, Signers, Walk, Write};
 
 // Each call lends slices for its own time only, and a slice's pointer and length are what the archive asks for: not null,
 // and none of them overlaps the one that is written, which Rust's borrows see to.
@@ -69,6 +69,20 @@ pub fn chain(image: &[u8], table: &[u8], moment: u64, target: u64) -> Chain {
 
 pub fn chain_by_rounds(image: &[u8], table: &[u8], moment: u64, target: u64) -> Chain {
     unsafe { raw::vrbolist_chain_by_rounds(image.as_ptr(), image.len(), table.as_ptr(), table.len(), moment, target) }
+}
+
+pub fn all_signers(image: &[u8], table: &[u8], moment: u64, out: &mut [u8]) -> Signers {
+    unsafe {
+        raw::vrbolist_all_signers(
+            image.as_ptr(),
+            image.len(),
+            table.as_ptr(),
+            table.len(),
+            moment,
+            out.as_mut_ptr(),
+            out.len(),
+        )
+    }
 }
 
 pub fn replay(log: &[u8], list: &mut [u64]) -> Replay {

@@ -51,6 +51,7 @@ answer!(Image, 32 { 16 entries: u64, 24 day: u64 });
 answer!(Entry, 48 { 16 kind: u64, 24 flags: u64, 32 length: u64, 40 offset: u64 });
 answer!(Write, 24 { 16 length: u64 });
 answer!(Chain, 120 { 16 length: u64, 24 places: [u8; 96] });
+answer!(Signers, 24 { 16 length: u64 });
 answer!(Replay, 24 { 16 faulty: u64 });
 
 extern "C" {
@@ -92,5 +93,14 @@ extern "C" {
         moment: u64,
         target: u64,
     ) -> Chain;
+    pub fn vrbolist_all_signers(
+        image: *const u8,
+        image_len: usize,
+        table: *const u8,
+        table_len: usize,
+        moment: u64,
+        out: *mut u8,
+        out_len: usize,
+    ) -> Signers;
     pub fn vrbolist_replay(log: *const u8, log_len: usize, list: *mut u64, list_len: usize) -> Replay;
 }
