@@ -5,17 +5,18 @@ use borrow.Author.Needs.{needs}
 use Rattle.vrbolist.proofs.signers.vrbolist_all_signers.Statement.{statement}
 use Rattle.vrbolist.proofs.signers.vrbolist_all_signers.Tie as tie
 
--- the points where the question was answered, from those where the answer is taken apart
-abbrev asked : tie.After-known-told → tie.After-all-signers
-asked c = c .before .before .before .before
-
 returns : tie.Need-returns
 unfolding signersTold
-returns c = ?
+returns c =
+    let a = c .before .before .before .before .before in
+    forwarded _ (a .all-signers .ensures) (rw (c .before .length .given .1) refl)
 
 returns-2 : tie.Need-returns-2
 unfolding signersTold
-returns-2 c = ?
+returns-2 c =
+    let t = c .before .before .before in
+    let a = t .before .before .before .before in
+    forwarded _ (a .all-signers .ensures) (rw (t .refusal .given .1, c .before .number .ensures, c .detail .ensures) refl)
 
 pub vrbolist-all-signers-spec : {M : Type 1} → statement M
 vrbolist-all-signers-spec =
