@@ -44,6 +44,7 @@ extern "C" {
 #define VRBOLIST_IMAGE_LIMIT 262144 /* most bytes of an image */
 #define VRBOLIST_PLACES 96          /* most entries of an image, and places of a chain */
 #define VRBOLIST_NO_PLACE 255       /* in a slot that is not used */
+#define VRBOLIST_SIGNER_RECORD 97   /* bytes that vrbolist_all_signers writes for each entry */
 
 #define VRBOLIST_RECORD 8           /* bytes of a record of a tray log */
 
@@ -144,6 +145,12 @@ typedef struct {
 typedef struct {
     uint64_t number;
     uint64_t detail;
+    uint64_t length; /* how many bytes the records take */
+} vrbolist_signers_answer;
+
+typedef struct {
+    uint64_t number;
+    uint64_t detail;
     uint64_t faulty; /* how many records are faulty, and listed */
 } vrbolist_replay_answer;
 
@@ -233,6 +240,13 @@ vrbolist_chain_answer vrbolist_chain_by_rounds(const uint8_t *image, size_t imag
  * there, then 7 for what is no good chain. */
 vrbolist_told vrbolist_proposal(const uint8_t *image, size_t image_len, const uint8_t *table, size_t table_len,
                                 uint64_t moment, uint64_t target, const uint8_t *places, size_t places_len);
+
+/* Asks for the best good chain to every document signer in one call, each item opened once. Writes VRBOLIST_SIGNER_RECORD
+ * bytes to `out` for each entry: the length of the chain and its VRBOLIST_PLACES slots, as vrbolist_chain tells them for that
+ * place; 0 and VRBOLIST_NO_PLACE where there is no chain or no document signer. The other bytes of `out` stay.
+ * Refusals: 5 for the image, then 1 for the table and the moment as above, then 9; each leaves `out` as it is. */
+vrbolist_signers_answer vrbolist_all_signers(const uint8_t *image, size_t image_len, const uint8_t *table, size_t table_len,
+                                             uint64_t moment, uint8_t *out, size_t out_len);
 
 /* Replays a tray log, records of VRBOLIST_RECORD bytes, and lists the numbers of the faulty records, from 0 and ascending, at
  * the front of `list`; its other numbers stay. A list with a number for each record is always long enough, and the quickest.

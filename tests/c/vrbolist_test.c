@@ -164,6 +164,7 @@ static const struct field entry_fields[] = {
 static const struct field write_fields[] = {HEAD_AT(write), AT(write, length, 16, 8)};
 static const struct field letters_fields[] = {HEAD_AT(letters), AT(letters, letters_true, 16, 8)};
 static const struct field chain_fields[] = {HEAD_AT(chain), AT(chain, length, 16, 8), AT(chain, places, 24, 96)};
+static const struct field signers_fields[] = {HEAD_AT(signers), AT(signers, length, 16, 8)};
 static const struct field replay_fields[] = {HEAD_AT(replay), AT(replay, faulty, 16, 8)};
 
 /* The functions as the convention of x86-64 calls them: an answer of more than 16 bytes is written where a first argument
@@ -187,6 +188,8 @@ void chain_to(void *answer, const uint8_t *image, size_t image_len, const uint8_
               uint64_t target) __asm__("vrbolist_chain");
 void chain_by_rounds_to(void *answer, const uint8_t *image, size_t image_len, const uint8_t *table, size_t table_len,
                         uint64_t moment, uint64_t target) __asm__("vrbolist_chain_by_rounds");
+void all_signers_to(void *answer, const uint8_t *image, size_t image_len, const uint8_t *table, size_t table_len,
+                    uint64_t moment, uint8_t *out, size_t out_len) __asm__("vrbolist_all_signers");
 void replay_to(void *answer, const uint8_t *log, size_t log_len, uint64_t *list, size_t list_len) __asm__("vrbolist_replay");
 
 /* The header has these sizes and offsets, and the library wrote each field. */
@@ -221,6 +224,7 @@ static void layout(void) {
     LAID_OUT(letters, 24, letters_to(to, NULL, 0));
     LAID_OUT(chain, 120, chain_to(to, NULL, 0, NULL, 0, MOMENT, 0));
     LAID_OUT(chain, 120, chain_by_rounds_to(to, NULL, 0, NULL, 0, MOMENT, 0));
+    LAID_OUT(signers, 24, all_signers_to(to, NULL, 0, NULL, 0, MOMENT, NULL, 0));
     LAID_OUT(replay, 24, replay_to(to, NULL, 0, NULL, 0));
     /* An answer of 16 bytes comes back in registers, so its layout is the header's alone. */
     CHECK(sizeof(vrbolist_told) == 16);
@@ -759,6 +763,49 @@ static void proposals(struct item image) {
     PROPOSED(NULL, 0, NULL, 0, 0, 0, NULL, 0, VRBOLIST_IMAGE, 1);
 }
 
+/* Every signer in one call. */
+
+static void signers_is(int line, vrbolist_signers_answer answer, uint64_t number, uint64_t detail, uint64_t length) {
+    HEAD(answer, number, detail);
+    FIELD(answer, length, length);
+}
+
+/* A record has the length of a chain, its places, and no place in each other slot. */
+static void record_is(int line, const uint8_t *record, uint64_t length, const uint8_t *places) {
+    size_t i;
+    check(line, "length", record[0], (long long)length);
+    for (i = 0; i < VRBOLIST_PLACES; i++) {
+        check(line, "slot", record[i + 1], i < length ? places[i] : VRBOLIST_NO_PLACE);
+    }
+}
+
+static void all_signers(struct item image) {
+    static const uint8_t both[] = {1, 1, 1, 0, 0, 0, 0, 0, 0}, no_crl[] = {1, 1, 0, 0, 0, 0, 0, 0, 0},
+                         two[] = {1, 1, 1, 0, 0, 0, 0, 0, 2}, places[] = {0, 1};
+    const size_t size = 3 * VRBOLIST_SIGNER_RECORD;
+    const uint8_t *table = lend(both, 9);
+    uint8_t *out = output(size);
+#define SIGNERS(image, image_n, table, table_n, moment, out_n, number, detail, length) \
+    signers_is(__LINE__, vrbolist_all_signers(image, image_n, table, table_n, moment, out, out_n), number, detail, length)
+    SIGNERS(image.at + 1, image.len - 1, table, 8, UINT64_MAX, 0, VRBOLIST_IMAGE, 5, 0);
+    SIGNERS(image.at, image.len, table, 8, MOMENT, size, VRBOLIST_ARGUMENT, 0, 0);
+    SIGNERS(image.at, image.len, lend(two, 9), 9, MOMENT, size, VRBOLIST_ARGUMENT, 0, 0);
+    SIGNERS(image.at, image.len, table, 9, 20261115126000, 0, VRBOLIST_ARGUMENT, 0, 0);
+    SIGNERS(image.at, image.len, table, 9, MOMENT, size - 1, VRBOLIST_SHORT, 0, 0);
+    SIGNERS(image.at, image.len, table, 9, MOMENT, 0, VRBOLIST_SHORT, 0, 0);
+    CHECK(filled(out, size));
+    SIGNERS(image.at, image.len, table, 9, MOMENT, size, 0, 0, size);
+    record_is(__LINE__, out, 0, places);
+    record_is(__LINE__, out + VRBOLIST_SIGNER_RECORD, 2, places);
+    record_is(__LINE__, out + 2 * VRBOLIST_SIGNER_RECORD, 0, places);
+    SIGNERS(image.at, image.len, lend(no_crl, 9), 9, MOMENT, size, 0, 0, size);
+    record_is(__LINE__, out + VRBOLIST_SIGNER_RECORD, 0, places);
+    out = output(size + 5);
+    SIGNERS(image.at, image.len, table, 9, MOMENT, size + 5, 0, 0, size);
+    CHECK(out[VRBOLIST_SIGNER_RECORD] == 2 && filled(out + size, 5));
+    signers_is(__LINE__, vrbolist_all_signers(NULL, 0, NULL, 0, 0, NULL, 0), VRBOLIST_IMAGE, 1, 0);
+}
+
 /* Tray logs. */
 
 static void replay_is(int line, vrbolist_replay_answer answer, uint64_t number, uint64_t detail, uint64_t faulty) {
@@ -851,6 +898,8 @@ int main(int argc, char **argv) {
     chains(two);
     proposals(one);
     proposals(two);
+    all_signers(one);
+    all_signers(two);
     replays();
     CHECK(all_kept());
     printf("%lu passed, %lu failed\n", passed, failed);

@@ -21,3 +21,5 @@ pub mod GivenChain
 pub mod Proposals
 pub mod ImageRounds
 pub mod WholeMeans
+pub mod Recording
+pub mod SignersTheorems

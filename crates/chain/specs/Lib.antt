@@ -2,6 +2,7 @@ pub mod Good
 pub mod Near
 pub mod Rounds
 pub mod Answer
+pub mod Signers
 pub mod Demand
 pub mod Proposal
 pub mod Given

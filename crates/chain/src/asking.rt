@@ -46,7 +46,7 @@ pub(crate) fn question(image: &[u8], table: &[u8], moment: u64, target: u64) -> 
 }
 
 // Octets for each pair of places, each 0 or 1.
-fn table_good(places: usize, table: &[u8]) -> bool
+pub(crate) fn table_good(places: usize, table: &[u8]) -> bool
     requires { ⌜ places ≤ 96 ⌝ }
     ensures { λ r. ⌜ r ≡ tableGood places (now (table .entry)) ⌝ }
 {

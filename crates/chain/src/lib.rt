@@ -9,6 +9,7 @@ mod near;
 mod opening;
 mod proposal;
 mod rounds;
+mod signers;
 mod whole;
 
 use asking::Asked;
@@ -19,6 +20,8 @@ pub use proposal::Proposal;
 pub use proposal::propose;
 use refusal::Refusal;
 use rounds::chain_among;
+pub use signers::Signers;
+pub use signers::all_signers;
 ghost use mathlib.Core.Path.{_≡_};
 ghost use Rattle.chain.specs.Answer.{Answered, Without, Shows};
 

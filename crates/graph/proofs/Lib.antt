@@ -7,6 +7,7 @@ pub mod Walks
 pub mod QueuePaths
 pub mod BestFound
 pub mod Answers
+pub mod RecordsPut
 pub mod Theorems
 pub mod Traces
 pub mod Targets

@@ -24,7 +24,7 @@ module _ (places : ℕ) (roles steps : List ℕ) where
   pub at-most-96 : graphOf places roles steps .places ≤ 96
   at-most-96 = ⊎-elim (λ h. rw (lt-leb places 96 h) (omega arith)) (λ h. rw (le-leb places 96 h) h) (less? 96 places)
 
-  no-places : 96 < places → graphOf places roles steps .places ≡ 0
+  pub no-places : 96 < places → graphOf places roles steps .places ≡ 0
   no-places h = rw (lt-leb _ _ h)
 
   module _ (t : ℕ) where

@@ -1,4 +1,5 @@
 pub mod Chains
 pub mod Answer
+pub mod Records
 pub mod Search
 pub mod Rounds

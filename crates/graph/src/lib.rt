@@ -1,6 +1,8 @@
 // The best chain over places: the shortest from an anchor to a signer, and among those the first by place number.
+mod all;
 mod rounds;
 
+pub use all::chains_to_all;
 use octets::octet;
 pub use rounds::chain_by_rounds;
 ghost use mathlib.Core.Path.{_≡_};
@@ -148,10 +150,16 @@ pub fn no_chain() -> Found
 }
 
 // The chain to the target by the tables, whatever search filled them.
-fn chain_in(places: usize, roles: &[u8], marks: Marks, target: usize) -> Found
+fn chain_in(
+    places: usize,
+    roles: &[u8],
+    parent: [u8; 96],
+    distance: [u8; 96],
+    target: usize,
+) -> Found
     requires { ⌜ places ≤ 96 ⌝ }
-    requires { ⌜ Paths places (marks .parent) (marks .distance) ⌝ }
-    ensures { λ r. ⌜ ((steps : List ℕ) → QueueTables places (followed places (graphOf places (now (roles .entry)) steps)) (marks .parent) (marks .distance) → Answered (graphOf places (now (roles .entry)) steps) target r) ⌝ }
+    requires { ⌜ Paths places parent distance ⌝ }
+    ensures { λ r. ⌜ ((steps : List ℕ) → QueueTables places (followed places (graphOf places (now (roles .entry)) steps)) parent distance → Answered (graphOf places (now (roles .entry)) steps) target r) × (r .length ≤ 96) ⌝ }
 {
     if places <= target {
         return no_chain();
@@ -159,11 +167,9 @@ fn chain_in(places: usize, roles: &[u8], marks: Marks, target: usize) -> Found
     if octet(roles, target) != 3 {
         return no_chain();
     }
-    let parent = marks.parent;
     if parent[target] == 255 {
         return no_chain();
     }
-    let distance = marks.distance;
     let slots = path_places(places, parent, distance, target);
     Found {
         length: distance[target] as usize,
@@ -180,5 +186,7 @@ pub fn chain_to(places: usize, roles: &[u8], steps: &[u8], target: usize) -> Fou
         return no_chain();
     }
     let marks = search(places, roles, steps);
-    chain_in(places, roles, marks, target)
+    let parent = marks.parent;
+    let distance = marks.distance;
+    chain_in(places, roles, parent, distance, target)
 }

@@ -18,7 +18,7 @@ length-index version offset (item ∷ rest) =
     omega (
       arith,
       length-append (entryBytes version (item .kind) (item .flags) size offset (item .first) (item .second))
-      (indexBytes version (offset + size) rest),
+          (indexBytes version (offset + size) rest),
       entry-length version (item .kind) (item .flags) size offset (item .first) (item .second),
       length-index version (offset + size) rest,
     )

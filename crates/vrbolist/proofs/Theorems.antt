@@ -7,7 +7,10 @@ use Rattle.chain.specs.declared.Answer.{Answer}
 use Rattle.chain.specs.declared.Outcome.{Outcome}
 use Rattle.chain.proofs.Theorems as chain
 use Rattle.vrbolist.specs.declared.told.ToldAnswer.{ToldAnswer}
+use Rattle.chain.proofs.SignersTheorems as signers
 use Rattle.vrbolist.specs.declared.chains.ChainAnswer.{ChainAnswer}
+use Rattle.vrbolist.specs.declared.signers.SignersAnswer.{SignersAnswer}
+use Rattle.vrbolist.specs.Signers as all
 use Rattle.vrbolist.specs.Chains.{chainTold, outcomeNumber, outcomeDetail, Forwarded, forwarded}
 use Rattle.vrbolist.specs.Proposals.{proposalTold, Weighed, weighed}
 
@@ -34,3 +37,11 @@ pub same-engines :
     (s table : List ℕ) (moment target : ℕ) (queue rounds : ChainAnswer) → Forwarded s table moment target queue
     → Forwarded s table moment target rounds → queue ≡ rounds
 same-engines = one-answer
+
+-- No second answer and no second output fit the promise of every signer in one call.
+pub one-output :
+    (s table : List ℕ) (moment : ℕ) {old out other : List ℕ} (r q : SignersAnswer) → all.AllForwarded s table moment old out r
+    → all.AllForwarded s table moment old other q → (r ≡ q) × (out ≡ other)
+one-output s table moment r q (all.forwarded a e f) (all.forwarded b g h) =
+    let o = signers.one-output s table moment e g in
+    (f ∙ ap all.signersTold (o .0) ∙ sym h, o .1)

@@ -5,6 +5,7 @@ mod images;
 mod items;
 mod lists;
 mod proposals;
+mod signers;
 mod told;
 mod trays;
 mod versions;

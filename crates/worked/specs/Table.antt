@@ -25,7 +25,7 @@ pub data Case : Type 0 where
   is : List ℕ → ℤ → Case
   -- so many days from one day to another
   from-to : ℕ → ℕ → ℤ → Case
-    -- an image of so many entries, a day and a version
+  -- an image of so many entries, a day and a version
   reads : List ℕ → ℕ → ℕ → ℕ → Case
   -- whether one encoding is smaller than another
   compares : List ℕ → List ℕ → Bool → Case

@@ -14,7 +14,10 @@ pub struct Asker {
 impl Asker {
     pub fn new(questions: Vec<Question>) -> Asker {
         let octets = |question: &Question| match question {
-            Question::Write { room, .. } | Question::MoveTo2(_, room) | Question::MoveTo1(_, room) => *room,
+            Question::Write { room, .. }
+            | Question::MoveTo2(_, room)
+            | Question::MoveTo1(_, room)
+            | Question::Signers { room, .. } => *room,
             _ => 0,
         };
         let numbers = |question: &Question| if let Question::Replay { room, .. } = question { *room } else { 0 };

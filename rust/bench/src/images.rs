@@ -58,6 +58,15 @@ pub fn chain(shape: &str, places: usize, entries: usize, every: bool) -> Option<
     Some(targets.into_iter().map(question).collect())
 }
 
+/// The question for every signer of that image in one call.
+pub fn in_one_call(questions: Vec<Question>) -> Option<Vec<Question>> {
+    let Some(Question::Chain { image, table, moment, .. }) = questions.into_iter().next() else {
+        return None;
+    };
+    let room = 97 * plain::image(&image).entries as usize;
+    Some(vec![Question::Signers { image, table, moment, room }])
+}
+
 /// An image in the making, with the key that signs each item and the one that the item has.
 struct Signed {
     image: Image,
@@ -108,9 +117,9 @@ fn listing(issuer: &[u8], entries: usize) -> Vec<u8> {
     made.encode()
 }
 
-/// The usual image: 4 countries, each with an anchor, 3 links in a line, 18 signers and 2 CRLs of 40 entries with reasons. Asked for a
-/// signer of the anchor, one of the last link, and one of a key that is not there.
-pub fn usual(found: &str) -> Option<Vec<Question>> {
+/// The usual image: 4 countries, each with an anchor, 3 links in a line, 18 signers and 2 CRLs of so many entries with reasons. Asked for
+/// a signer of the anchor, one of the last link, and one of a key that is not there.
+pub fn usual(found: &str, entries: usize) -> Option<Vec<Question>> {
     let of = match found {
         "two" => 0,
         "five" => 1,
@@ -129,7 +138,7 @@ pub fn usual(found: &str) -> Option<Vec<Question>> {
             made.certificate(SIGNER as u8, &issuer, &key([0, 3, 9][signer % 3]), &key(20));
         }
         for _ in 0..2 {
-            made.crl(&key(0), listing(&issuer, 40));
+            made.crl(&key(0), listing(&issuer, entries));
         }
     }
     Some(made.asked(24 + 4 + of, false))

@@ -15,6 +15,7 @@ pub enum Answer {
     Write(plain::Written),
     Letters(plain::Letters),
     Chain(plain::Chain),
+    Signers(plain::Signers),
     Replay(plain::Replayed),
     Told(plain::Told),
 }
@@ -33,6 +34,7 @@ impl Answer {
             Answer::Write(told) => (told.number, told.detail),
             Answer::Letters(told) => (told.number, told.detail),
             Answer::Chain(told) => (told.number, told.detail),
+            Answer::Signers(told) => (told.number, told.detail),
             Answer::Replay(told) => (told.number, told.detail),
             Answer::Told(told) => (told.number, told.detail),
         }
@@ -87,5 +89,6 @@ same_fields!(Entry, Entry, Entry { kind, flags, length, offset, country });
 same_fields!(Write, Write, Written { length });
 same_fields!(Letters, Letters, Letters { letters_true });
 same_fields!(Chain, Chain, Chain { length, places });
+same_fields!(Signers, Signers, Signers { length });
 same_fields!(Replay, Replay, Replayed { faulty });
 same_fields!(Told, Told, Told {});

@@ -77,7 +77,10 @@ fn ask(reader: &dyn Reader, question: &Question) -> Told {
 /// What the question says is lent, each element with contents of its own.
 fn lend(question: &Question) -> Lent {
     match question {
-        Question::Write { room, .. } | Question::MoveTo2(_, room) | Question::MoveTo1(_, room) => {
+        Question::Write { room, .. }
+        | Question::MoveTo2(_, room)
+        | Question::MoveTo1(_, room)
+        | Question::Signers { room, .. } => {
             Lent { octets: (0..*room).map(|at| (at * 7 + 0xA5) as u8).collect(), ..Lent::default() }
         }
         Question::Replay { room, .. } => {

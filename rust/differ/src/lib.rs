@@ -5,10 +5,12 @@
 
 mod answer;
 mod compare;
+mod one_by_one;
 mod reader;
 mod show;
 
 pub use answer::Answer;
 pub use compare::{compare, run, Difference, Limits};
+pub use one_by_one::OneByOne;
 pub use reader::{ByRounds, Lent, Library, Plain, Reader};
 pub use show::{hex, kind, show};

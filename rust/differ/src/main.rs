@@ -1,4 +1,5 @@
-//! Compares the library with the plain reader, and its two searches for chains with each other.
+//! Compares the library with the plain reader, its two searches for chains with each other, and every signer in one call with
+//! single questions.
 //!
 //!     differ [--seed N] [--count N] [--seconds N]
 //!
@@ -45,7 +46,7 @@ fn main() -> ExitCode {
             ExitCode::SUCCESS
         }
         Err(difference) => {
-            println!("first: the library, second: the plain reader, or the library's second search");
+            println!("first: the library, second: the plain reader, or the library by another way: its second search, its single questions");
             println!("{difference}");
             ExitCode::from(1)
         }

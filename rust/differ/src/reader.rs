@@ -4,6 +4,7 @@ use make::questions::Question;
 use vrbolist::answers;
 
 use crate::answer::Answer;
+use crate::one_by_one::OneByOne;
 
 /// What is lent to be written: octets for an image, numbers for faulty records.
 #[derive(Clone, Debug, Default, PartialEq, Eq)]
@@ -59,6 +60,9 @@ macro_rules! reader {
                     Question::Proposal { image, table, moment, target, places } => {
                         $of::proposal(image, table, *moment, *target, places).into()
                     }
+                    Question::Signers { image, table, moment, .. } => {
+                        $of::all_signers(image, table, *moment, &mut output.octets).into()
+                    }
                     Question::Replay { log, .. } => $of::replay(log, &mut output.list).into(),
                 }
             }
@@ -73,7 +77,11 @@ reader!(
     answers,
     chain,
     fn other(&self, question: &Question) -> Option<&dyn Reader> {
-        matches!(question, Question::Chain { .. }).then_some(&ByRounds as &dyn Reader)
+        match question {
+            Question::Chain { .. } => Some(&ByRounds),
+            Question::Signers { .. } => Some(&OneByOne),
+            _ => None,
+        }
     }
 );
 reader!(ByRounds, answers, chain_by_rounds);

@@ -22,6 +22,7 @@ pub fn kind(question: &Question) -> &'static str {
         Question::Letters(_) => "letters",
         Question::Chain { .. } => "chain",
         Question::Proposal { .. } => "proposal",
+        Question::Signers { .. } => "signers",
         Question::Replay { .. } => "replay",
     }
 }
@@ -58,6 +59,9 @@ pub fn show(question: &Question) -> String {
         }
         Question::Proposal { image, table, moment, target, places } => {
             format!("moment {moment}, target {target}, places {places:?}, table {}, image {}", hex(table), hex(image))
+        }
+        Question::Signers { image, table, moment, room } => {
+            format!("moment {moment}, room {room}, table {}, image {}", hex(table), hex(image))
         }
         Question::Replay { log, room } => format!("room {room}, log {}", hex(log)),
     }

@@ -20,10 +20,12 @@ fn main() {
     });
     match asked {
         Ok(count) => assert_eq!(count, COUNT),
-        Err(difference) => panic!("first: the library, second: the plain reader, or its second search\n{difference}"),
+        Err(difference) => {
+            panic!("first: the library, second: the plain reader, or the library by another way\n{difference}")
+        }
     }
     // What was compared is worth something only where passes and refusals are there.
-    let wanted: [(&str, &[u64]); 16] = [
+    let wanted: [(&str, &[u64]); 17] = [
         ("walk", &[0, 2, 3]),
         ("integer", &[0, 1, 2, 8]),
         ("certificate", &[0, 1, 2, 4]),
@@ -39,6 +41,7 @@ fn main() {
         ("letters", &[0, 5]),
         ("chain", &[0, 1, 5, 7]),
         ("proposal", &[0, 1, 5, 7]),
+        ("signers", &[0, 1, 5, 9]),
         ("replay", &[0, 1, 9]),
     ];
     for (kind, numbers) in wanted {

@@ -63,6 +63,13 @@ pub enum Question {
         target: u64,
         places: Vec<u8>,
     },
+    /// `room` is the length of the lent output.
+    Signers {
+        image: Vec<u8>,
+        table: Vec<u8>,
+        moment: u64,
+        room: usize,
+    },
     /// A tray log; `room` is how many numbers the lent list has.
     Replay {
         log: Vec<u8>,
@@ -119,7 +126,8 @@ impl Source {
             78..=80 => self.entry(),
             81..=83 => self.write(),
             84..=86 => self.replay(),
-            87..=88 => self.move_to_2(),
+            87 => self.signers(),
+            88 => self.move_to_2(),
             89..=90 => self.move_to_1(),
             91..=92 => Question::Letters(self.image_of(2)),
             93..=96 => self.proposal(),
@@ -378,6 +386,20 @@ impl Source {
         let (world, image, table, moment, target) = self.asked();
         let places = proposal::varied(&mut self.random, &self.worlds[world], &table, target);
         Question::Proposal { image, table, moment, target, places }
+    }
+
+    /// A question for every signer, now and then with too little room.
+    fn signers(&mut self) -> Question {
+        let (_, image, table, moment, _) = self.asked();
+        let random = &mut self.random;
+        let needed = 97 * (table.len() as f64).sqrt() as usize;
+        let room = match random.below(8) {
+            0 => needed.saturating_sub(1),
+            1 => random.below(needed + 1),
+            2 | 3 => needed + random.below(120),
+            _ => needed,
+        };
+        Question::Signers { image, table, moment, room }
     }
 
     /// The number of a world that is kept.

@@ -60,23 +60,29 @@ pub fn proposal(image: &[u8], table: &[u8], moment: u64, target: u64, places: &[
 
 /// Question order: image (5), then table, moment and target (all 1).
 fn question<'a>(image: &'a [u8], table: &'a [u8], moment: u64, target: u64) -> Result<Question<'a>, Refusal> {
-    let open = image::read(image)?;
-    let n = open.entries;
-    // One OR over all bytes: over 1 exactly when some byte is.
-    if table.len() != n * n || table.iter().fold(0, |all, byte| all | byte) > 1 {
-        return Err(Refusal::ARGUMENT);
-    }
-    if !moment_real(moment) || target >= n as u64 || open.line(target as usize).kind != SIGNER {
+    let open = asked(image, table, moment)?;
+    if target >= open.entries as u64 || open.line(target as usize).kind != SIGNER {
         return Err(Refusal::ARGUMENT);
     }
     Ok(Question::new(open, table, moment))
 }
 
+/// The same without a target.
+pub(crate) fn asked<'a>(image: &'a [u8], table: &[u8], moment: u64) -> Result<Open<'a>, Refusal> {
+    let open = image::read(image)?;
+    let n = open.entries;
+    // One OR over all bytes: over 1 exactly when some byte is.
+    if table.len() != n * n || table.iter().fold(0, |all, byte| all | byte) > 1 || !moment_real(moment) {
+        return Err(Refusal::ARGUMENT);
+    }
+    Ok(open)
+}
+
 /// A set of places.
-type Places = u128;
+pub(crate) type Places = u128;
 
 /// The places of a set, smallest first.
-fn each(mut places: Places) -> impl Iterator<Item = usize> {
+pub(crate) fn each(mut places: Places) -> impl Iterator<Item = usize> {
     std::iter::from_fn(move || {
         if places == 0 {
             return None;
@@ -113,13 +119,13 @@ struct Facts<'a> {
     country: [u8; 2],
 }
 
-struct Question<'a> {
-    open: Open<'a>,
-    table: &'a [u8],
+pub(crate) struct Question<'a> {
+    pub open: Open<'a>,
+    pub table: &'a [u8],
     moment: u64,
     /// The enabled anchors, the links and the CRLs.
-    anchors: Places,
-    links: Places,
+    pub anchors: Places,
+    pub links: Places,
     crls: Places,
     known: [Known; PLACES],
     facts: Vec<Facts<'a>>,
@@ -128,7 +134,7 @@ struct Question<'a> {
 }
 
 impl<'a> Question<'a> {
-    fn new(open: Open<'a>, table: &'a [u8], moment: u64) -> Question<'a> {
+    pub fn new(open: Open<'a>, table: &'a [u8], moment: u64) -> Question<'a> {
         let (mut anchors, mut links, mut crls) = (0, 0, 0);
         for place in 0..open.entries {
             let line = open.line(place);
@@ -229,13 +235,13 @@ impl<'a> Question<'a> {
 
     /// Whether key identifiers and names of a step are equal; identifiers first,
     /// since names of one country are mostly alike.
-    fn matches(&self, signer: usize, signed: usize) -> bool {
+    pub fn matches(&self, signer: usize, signed: usize) -> bool {
         let (signer, signed) = (&self.facts[signer], &self.facts[signed]);
         signed.authority_key_id == signer.subject_key_id && signed.issuer == signer.subject
     }
 
     /// Whether a certificate is usable. CRLs are not asked about anchors.
-    fn usable(&mut self, place: usize, role: Role) -> bool {
+    pub fn usable(&mut self, place: usize, role: Role) -> bool {
         if !self.passes(place, role) {
             return false;
         }
@@ -248,7 +254,7 @@ impl<'a> Question<'a> {
     /// Whether a certificate passes its profile and the moment is within its
     /// times. An item is opened once.
     #[inline(always)]
-    fn passes(&mut self, place: usize, role: Role) -> bool {
+    pub fn passes(&mut self, place: usize, role: Role) -> bool {
         if self.known[place] == Known::Nothing {
             self.open_certificate(place, role);
         }

@@ -48,6 +48,9 @@ fn ask(question: &Question) -> (&'static str, u64, u64) {
         Question::Proposal { image, table, moment, target, places } => {
             answer("proposal", plain::proposal(image, table, *moment, *target, places).number, 0)
         }
+        Question::Signers { image, table, moment, room } => {
+            answer("signers", plain::all_signers(image, table, *moment, &mut vec![7; *room]).number, 0)
+        }
         Question::Replay { log, room } => answer("replay", plain::replay(log, &mut vec![7; *room]).number, 0),
     };
     (name, number, if number == 2 || number == 3 { 0 } else { detail })
@@ -84,6 +87,7 @@ fn every_answer_is_reached() {
     wanted.extend([("write", 0, 1), ("write", 0, 2)]);
     wanted.extend([1, 3, 9].map(|number| ("write", number, 0)));
     wanted.extend([0, 1, 5, 7].map(|number| ("proposal", number, 0)));
+    wanted.extend([0, 1, 5, 9].map(|number| ("signers", number, 0)));
     wanted.extend([("chain", 1, 0), ("chain", 7, 0)]);
     wanted.extend([0, 1, 9].map(|number| ("replay", number, 0)));
     wanted.extend((2..=7).map(|length| ("chain", 0, length)));

@@ -42,6 +42,39 @@ impl Engine {
     }
 }
 
+/// The bytes that the records of so many places take, for as many as an image can have.
+const ROOM: usize = 96 * vrbolist::RECORD;
+
+impl Engine {
+    /// What it answers for each of these places; the quick search is asked for all of them in one call.
+    pub fn every(self, image: &[u8], table: &[u8], at: u64, targets: &[u64]) -> Result<Vec<Told>, Stop> {
+        let rounds = |target: &u64| vrbolist::chain_by_rounds(image, table, at, *target);
+        if matches!(self, Engine::Rounds) {
+            return Ok(targets.iter().map(rounds).collect());
+        }
+        let mut out = vec![0; ROOM];
+        let records = vrbolist::all_signers(image, table, at, &mut out);
+        let queue = |target: &u64| match records {
+            Ok(records) => recorded(records, *target).unwrap_or_else(|| vrbolist::chain(image, table, at, *target)),
+            Err(refusal) => Err(refusal),
+        };
+        match self {
+            Engine::Both => targets.iter().map(|target| agreed(*target, queue(target), rounds(target))).collect(),
+            _ => Ok(targets.iter().map(queue).collect()),
+        }
+    }
+}
+
+/// What the record of a place tells; nothing where the place is not there.
+fn recorded(records: &[u8], target: u64) -> Option<Told> {
+    let record = records.chunks_exact(vrbolist::RECORD).nth(usize::try_from(target).ok()?)?;
+    let (length, slots) = record.split_first()?;
+    match length {
+        0 => Some(Err(Refusal { number: 7, detail: 0 })),
+        _ => slots.get(..usize::from(*length)).map(|places| Ok(places.to_vec())),
+    }
+}
+
 fn agreed(target: u64, queue: Told, rounds: Told) -> Result<Told, Stop> {
     if queue == rounds {
         return Ok(queue);

@@ -6,6 +6,7 @@
 
 mod answer;
 mod args;
+mod cause;
 mod commands;
 mod engine;
 mod explain;

@@ -4,7 +4,7 @@
 #![allow(unsafe_code)]
 
 use crate::raw;
-pub use crate::raw::{Certificate, Chain, Crl, Days, Entry, Image, Integer, Letters, Replay, Told, Walk, Write};
+pub use crate::raw::{Certificate, Chain, Crl, Days, Entry, Image, Integer, Letters, Replay, Signers, Told, Walk, Write};
 
 // Each call lends slices for its own time only, and a slice's pointer and length are what the archive asks for: not null,
 // and none of them overlaps the one that is written, which Rust's borrows see to.
@@ -107,6 +107,20 @@ pub fn proposal(image: &[u8], table: &[u8], moment: u64, target: u64, places: &[
             target,
             places.as_ptr(),
             places.len(),
+        )
+    }
+}
+
+pub fn all_signers(image: &[u8], table: &[u8], moment: u64, out: &mut [u8]) -> Signers {
+    unsafe {
+        raw::vrbolist_all_signers(
+            image.as_ptr(),
+            image.len(),
+            table.as_ptr(),
+            table.len(),
+            moment,
+            out.as_mut_ptr(),
+            out.len(),
         )
     }
 }

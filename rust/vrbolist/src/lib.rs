@@ -56,6 +56,9 @@ pub struct Entry<'a> {
     pub item: &'a [u8],
 }
 
+/// The bytes of the record of one place.
+pub const RECORD: usize = 97;
+
 /// The number of elements of an item that is DER.
 pub fn walk(item: &[u8]) -> Result<u64, Refusal> {
     let told = answers::walk(item);
@@ -177,6 +180,13 @@ pub fn chain_by_rounds(image: &[u8], table: &[u8], moment: u64, target: u64) -> 
 pub fn proposal(image: &[u8], table: &[u8], moment: u64, target: u64, places: &[u8]) -> Result<(), Refusal> {
     let told = answers::proposal(image, table, moment, target, places);
     passed(told.number, told.detail, ())
+}
+
+/// The chains to every signer of an image in one call: for each place `RECORD` bytes of the lent output, the length of its chain
+/// and 96 slots, of which those unused are 255; 0 and 255s where there is none. The rest of the output stays.
+pub fn all_signers<'a>(image: &[u8], table: &[u8], moment: u64, out: &'a mut [u8]) -> Result<&'a [u8], Refusal> {
+    let told = answers::all_signers(image, table, moment, out);
+    passed(told.number, told.detail, ()).map(|()| part(out, 0, told.length))
 }
 
 /// Replays a tray log, records of 8 bytes, and gives the numbers of the faulty records, from 0. The list is lent: it has to

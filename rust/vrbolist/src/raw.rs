@@ -52,6 +52,7 @@ answer!(Entry, 56 { 16 kind: u64, 24 flags: u64, 32 length: u64, 40 offset: u64,
 answer!(Write, 24 { 16 length: u64 });
 answer!(Letters, 24 { 16 letters_true: u64 });
 answer!(Chain, 120 { 16 length: u64, 24 places: [u8; 96] });
+answer!(Signers, 24 { 16 length: u64 });
 answer!(Replay, 24 { 16 faulty: u64 });
 answer!(Told, 16 {});
 
@@ -110,5 +111,14 @@ extern "C" {
         places: *const u8,
         places_len: usize,
     ) -> Told;
+    pub fn vrbolist_all_signers(
+        image: *const u8,
+        image_len: usize,
+        table: *const u8,
+        table_len: usize,
+        moment: u64,
+        out: *mut u8,
+        out_len: usize,
+    ) -> Signers;
     pub fn vrbolist_replay(log: *const u8, log_len: usize, list: *mut u64, list_len: usize) -> Replay;
 }

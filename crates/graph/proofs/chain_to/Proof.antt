@@ -11,13 +11,17 @@ returns c =
     let a = c .before .before .before .before .args in
     none (too-many (a .places) (a .roles .now) (a .steps .now) (a .target) (c .before .if1 .taken)) (c .no-chain .ensures)
 
+-- the tables of the search, from a later point
+abbrev tables : tie.After-distance → tie.After-search
+tables c = c .before .before
+
 chain-in-requires : tie.Need-chain-in-requires
-chain-in-requires c κs = (c .before .if1 .left, paths (c .search .ensures))
+chain-in-requires c κs = let t = tables c in (t .before .if1 .left, paths (t .search .ensures))
 
 returns-2 : tie.Need-returns-2
 returns-2 c =
-    let b = c .before in
-    c .chain-in .ensures (b .before .before .before .before .args .steps .now) (b .search .ensures)
+    let t = tables (c .before) in
+    c .chain-in .ensures .0 (t .before .before .before .before .args .steps .now) (t .search .ensures)
 
 pub chain-to-spec : {M : Type 1} → statement M
 chain-to-spec = tie.close (tie.spec (λ c κs. search needs) returns (λ c κs. search needs) chain-in-requires returns-2)

@@ -5,7 +5,8 @@ use super::image::words as image_words;
 use super::Command;
 use crate::answer::Answer;
 use crate::args::{self, Given, Takes};
-use crate::engine::Engine;
+use crate::cause::cause;
+use crate::engine::{Engine, Told};
 use crate::explain;
 use crate::files;
 use crate::json::{object, Json};
@@ -25,6 +26,7 @@ vrbolist chain IMAGE --table T --at YYYYMMDDHHMMSS --signer PLACE|all
 
 Asks for the best chain from an enabled anchor to the document signer at PLACE, or to each signer.
 Where there is none it says which condition fails, for the signer and for what could have led to it.
+With all it asks once for all of them and says a line for each, then one cause for each without.
 
 T says who signed whom, as the chip found it, for the n items of the image: n lines of n digits 0 or
 1, or n x n bytes 0 or 1. Row u, column v is 1 where the key of u checks the signature of v.
@@ -50,6 +52,16 @@ pub struct Question<'a> {
     pub table: &'a [u8],
     pub at: u64,
     pub engine: Engine,
+}
+
+impl Question<'_> {
+    /// What the library answers for each of these places, in one call where all were asked for.
+    fn told(&self, targets: &[u64], all: bool) -> Result<Vec<Told>, Stop> {
+        if all {
+            return self.engine.every(self.image, self.table, self.at, targets);
+        }
+        targets.iter().map(|target| self.engine.chain(self.image, self.table, self.at, *target)).collect()
+    }
 }
 
 fn run(given: &Given) -> Result<Answer, Stop> {
@@ -87,29 +99,55 @@ fn targets(world: &World<'_>, asked: Option<u64>) -> Vec<u64> {
 fn answer(base: Json, question: &Question<'_>, world: &World<'_>, asked: Option<u64>) -> Result<Answer, Stop> {
     let mut text = format!("At {} UTC\n", moment(question.at));
     let mut each = Vec::new();
-    let mut without = 0;
-    for target in targets(world, asked) {
-        match question.engine.chain(question.image, question.table, question.at, target)? {
+    let mut without = Vec::new();
+    let targets = targets(world, asked);
+    for (target, told) in targets.iter().copied().zip(question.told(&targets, asked.is_none())?) {
+        match told {
             Err(refusal) if refusal.number != 7 => {
                 return Ok(Answer::refused(String::new(), base, refusal, &arguments(question, world, target, asked)))
             }
             told => {
-                without += usize::from(told.is_err());
+                without.extend(told.is_err().then_some(target));
+                let line = head(target, &told);
                 let (said, json) = one(world, target, told);
-                text.push_str(&said);
+                text.push_str(if asked.is_none() { &line } else { &said });
                 each.push(json);
             }
         }
     }
     if asked.is_none() {
-        let count = each.len();
-        text.push_str(&format!("{} of {} have a chain\n", count.saturating_sub(without), counted(count, "signer")));
+        text.push_str(&all_said(world, each.len(), &without));
     }
     if matches!(question.engine, Engine::Both) {
         text.push_str("Both searches say so.\n");
     }
-    let json = base.with(object! { "passed": without == 0, "signers": each });
-    Ok(Answer { status: if without == 0 { 0 } else { 7 }, text, json })
+    let json = base.with(object! { "passed": without.is_empty(), "signers": each });
+    Ok(Answer { status: if without.is_empty() { 0 } else { 7 }, text, json })
+}
+
+/// How many signers have a chain, and for each that has none one cause.
+fn all_said(world: &World<'_>, count: usize, without: &[u64]) -> String {
+    let with = count.saturating_sub(without.len());
+    let mut text = format!("{with} of {} have a chain\n", counted(count, "signer"));
+    for target in without {
+        let place = usize::try_from(*target).unwrap_or(usize::MAX);
+        text.push_str(&format!("signer {target} has none:\n{}", wrapped(&cause(world, place), 2)));
+    }
+    text
+}
+
+/// The line of one signer.
+fn head(target: u64, told: &Told) -> String {
+    match told {
+        Ok(chain) => {
+            let shown: Vec<String> = chain.iter().map(u8::to_string).collect();
+            format!("signer {target}  PASSED   chain {}\n", shown.join(" > "))
+        }
+        Err(refusal) => {
+            let name = explain::name(*refusal);
+            format!("signer {target}  REFUSED  {}, detail {}: {name}\n", refusal.number, refusal.detail)
+        }
+    }
 }
 
 /// Which arguments are out of their range.
@@ -142,17 +180,16 @@ pub fn arguments(question: &Question<'_>, world: &World<'_>, target: u64, asked:
 }
 
 /// Text and JSON for one signer.
-fn one(world: &World<'_>, target: u64, told: Result<Vec<u8>, Refusal>) -> (String, Json) {
+fn one(world: &World<'_>, target: u64, told: Told) -> (String, Json) {
+    let head = head(target, &told);
     match told {
         Ok(chain) => {
             let links: Vec<usize> = chain.iter().map(|place| usize::from(*place)).collect();
-            let shown: Vec<String> = links.iter().map(usize::to_string).collect();
-            let head = format!("signer {target}  PASSED   chain {}\n", shown.join(" > "));
             let lines: String = links.iter().map(|place| certificate_lines(world, *place)).collect();
             let json: Vec<Json> = links.iter().map(|place| certificate_json(world, *place)).collect();
             (head + &lines, object! { "signer": target, "passed": true, "chain": json })
         }
-        Err(refusal) => none(world, target, refusal),
+        Err(refusal) => none(world, target, refusal, head),
     }
 }
 
@@ -178,16 +215,10 @@ pub fn certificate_json(world: &World<'_>, place: usize) -> Json {
     object! { "place": place, "kind": kind_of(world, place), "subject": subject, "subject_key_id": key }
 }
 
-fn none(world: &World<'_>, target: u64, refusal: Refusal) -> (String, Json) {
+fn none(world: &World<'_>, target: u64, refusal: Refusal, head: String) -> (String, Json) {
     let place = usize::try_from(target).unwrap_or(usize::MAX);
     let own = world.unusable.get(place).cloned().unwrap_or_default();
     let sources = world.sources(place);
-    let head = format!(
-        "signer {target}  REFUSED  {}, detail {}: {}\n",
-        refusal.number,
-        refusal.detail,
-        explain::name(refusal)
-    );
     let (subject, _) = subject_and_key(world, place);
     let mut text = head + &clip(&format!("  {place:>3}  signer  {subject}"), WIDTH) + "\n";
     text.push_str(&signer_text(&own));
