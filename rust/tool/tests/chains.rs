@@ -4,20 +4,41 @@ mod common;
 
 use common::{root, table, Bench, MADE};
 
-#[test]
-fn the_stored_answers() {
-    let bench = Bench::new("stored");
+/// A stored question for a chain, its words for the program, and the answer.
+struct Stored {
+    asked: String,
+    place: String,
+    number: i32,
+    chain: String,
+}
+
+/// The stored questions, with the images that they ask of packed.
+fn stored(bench: &Bench) -> Vec<Stored> {
     bench.pack("yesterday");
     bench.pack("today");
     let rows = std::fs::read_to_string(root().join(MADE).join("chains.tsv")).unwrap();
-    for row in rows.lines().skip(1) {
+    let row = |row: &str| {
         let row: Vec<&str> = row.split('\t').collect();
-        let (image, moment, place, number) = (row[0], row[1], row[2], row[3].parse().unwrap());
-        let line = format!("chain {image}.image --table {image}.table --at {moment} --signer {place}");
+        let (image, moment, place) = (row[0], row[1], row[2].to_string());
+        Stored {
+            asked: format!("{image}.image --table {image}.table --at {moment} --signer {place}"),
+            place,
+            number: row[3].parse().unwrap(),
+            chain: row[6].to_string(),
+        }
+    };
+    rows.lines().skip(1).map(row).collect()
+}
+
+#[test]
+fn the_stored_answers() {
+    let bench = Bench::new("stored");
+    for Stored { asked, place, number, chain } in stored(&bench) {
+        let line = format!("chain {asked}");
         let run = bench.status(&line, number);
         match number {
-            0 => assert!(run.out.contains(&format!("chain {}\n", row[6].replace(',', " > "))), "{line}\n{}", run.out),
-            _ => explained(&run.out, place),
+            0 => assert!(run.out.contains(&format!("chain {}\n", chain.replace(',', " > "))), "{line}\n{}", run.out),
+            _ => explained(&run.out, &place),
         }
         // Each search, and both, say the same.
         assert_eq!(bench.status(&format!("{line} --engine queue"), number).out, run.out);
@@ -68,15 +89,9 @@ fn both_forms_of_a_table() {
 #[test]
 fn the_stored_answers_proposed() {
     let bench = Bench::new("proposed");
-    bench.pack("yesterday");
-    bench.pack("today");
-    let rows = std::fs::read_to_string(root().join(MADE).join("chains.tsv")).unwrap();
-    for row in rows.lines().skip(1) {
-        let row: Vec<&str> = row.split('\t').collect();
-        let (image, moment, place, number) = (row[0], row[1], row[2], row[3].parse().unwrap());
-        let chain = if number == 0 { row[6].to_string() } else { format!("0,{place}") };
-        let line =
-            format!("propose {image}.image --table {image}.table --at {moment} --signer {place} --chain {chain}");
+    for Stored { asked, place, number, chain } in stored(&bench) {
+        let chain = if number == 0 { chain } else { format!("0,{place}") };
+        let line = format!("propose {asked} --chain {chain}");
         let run = bench.status(&line, number);
         let told = format!("chain {}\n", chain.replace(',', " > "));
         assert!(run.out.contains(&told), "{line}\n{}", run.out);
