@@ -10,6 +10,7 @@ from refused import Refused
 
 ANCHOR, LINK, SIGNER, CRL = (oracle_image.KINDS[name] for name in ('anchor', 'link', 'signer', 'crl'))
 SLOTS, UNUSED = 96, 255
+RECORD = 1 + SLOTS
 
 
 def passing(judge, *words):
@@ -118,14 +119,19 @@ def rank(places):
     return len(places), places
 
 
-def check(items, table, moment, target):
-    """Refuses what is no question."""
+def check_table(items, table, moment):
+    """Refuses a table or a moment that is none."""
     number = len(items)
     if len(table) != number * number or any(octet > 1 for octet in table):
         raise Refused(1)
     if not oracle_days.real_moment(moment):
         raise Refused(1)
-    if target not in range(number) or items[target][0] != SIGNER:
+
+
+def check(items, table, moment, target):
+    """Refuses what is no question."""
+    check_table(items, table, moment)
+    if target not in range(len(items)) or items[target][0] != SIGNER:
         raise Refused(1)
 
 
@@ -177,6 +183,18 @@ def propose(image, table, moment, target, places):
 def chain_of_image(image, table, moment, target):
     """The answer over an image's bytes."""
     return told(ask_image, image, table, moment, target)
+
+
+def all_signers(image, table, moment, room):
+    """Number and detail, and of every place the answer to the single question for it, none where all is refused."""
+    try:
+        items = items_of(image)
+        check_table(items, table, moment)
+        if room < RECORD * len(items):
+            raise Refused(9)
+    except Refused as refusal:
+        return refusal.number, refusal.detail, []
+    return 0, 0, [chain(items, table, moment, place)[3] for place in range(len(items))]
 
 
 def slots(places):

@@ -8,6 +8,7 @@ use crate::lists;
 use crate::proposals;
 use crate::record::Question;
 use crate::say;
+use crate::signers;
 use crate::trays;
 use crate::versions;
 use crate::writing;
@@ -37,6 +38,7 @@ pub(crate) fn answer(question: Question, bytes: &[u8]) {
         17 => chains::best(bytes, first, second, third),
         18 => trays::replay(bytes, first),
         19 => proposals::weigh(bytes, first, second, third),
+        20 => signers::all(bytes, first, second, third),
         21 => versions::to_2(bytes, first),
         22 => versions::to_1(bytes, first),
         23 => versions::check(bytes),

@@ -9,6 +9,7 @@ mod lists;
 mod proposals;
 mod record;
 mod say;
+mod signers;
 mod sums;
 mod trays;
 mod versions;

@@ -136,7 +136,7 @@ fn ask(
     told(answer, output);
 }
 
-// The answer, and the checksum of all octets of the output that was lent.
+// The answer, and what stands in the output.
 pub(crate) fn told(answer: Written, output: &[u8]) {
     match answer {
         Written::Length(length) => {
@@ -145,6 +145,11 @@ pub(crate) fn told(answer: Written, output: &[u8]) {
         }
         Written::Refused(refusal) => say::refused(refusal),
     }
+    lent(output);
+}
+
+// The checksum of all octets of the output that was lent.
+pub(crate) fn lent(output: &[u8]) {
     say::text(b", output ");
     say::number(output.len() as u64);
     say::text(b" octets, checksum ");

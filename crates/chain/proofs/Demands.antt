@@ -16,7 +16,7 @@ use Rattle.graph.specs.Chains.{Chain, NotLater, Best}
 use Rattle.graph.proofs.Places as places
 use Rattle.graph.proofs.Steps.{Apart}
 use Rattle.graph.proofs.Targets.{chain-target}
-use Rattle.graph.proofs.Theorems.{best-fits}
+use Rattle.search.proofs.Ending.{best-fits}
 use Rattle.image.specs.Items.{Item}
 use Rattle.image.specs.Index.{entryCount, itemsIn}
 use Rattle.chain.specs.declared.asking.Asked.the-variants as asked

@@ -11,10 +11,11 @@ use Rattle.graph.specs.Answer.{NoChain, Answered}
 use Rattle.image.specs.Items.{Item}
 use Rattle.image.specs.Index.{entryCount, entryIn, itemsIn}
 use Rattle.usable.specs.Items.{itemAt}
+use Rattle.search.specs.Tables.{tablesGraph}
 use Rattle.usable.specs.Rows.{heldIn, rowFrom, rowOf, isNear, stepOf, Counted, Roles}
 use Rattle.chain.specs.Answer.{goodChains}
 use Rattle.chain.specs.Near.{firstOf, Wider}
-use Rattle.chain.specs.Rounds.{startsIn, Opens, Searched, Direct}
+use Rattle.chain.specs.Rounds.{startsIn, Opens, Direct}
 use Rattle.chain.specs.Given.{InRange, RolesFit, StepsFit}
 use Rattle.chain.proofs.Meaning.{goodOf}
 use Rattle.image.proofs.Places.{length-items}
@@ -75,7 +76,7 @@ module _ (s table : List ℕ) (moment target n : ℕ) (same : n ≡ entryCount s
         told (direct.direct-answer a b (itemsIn s) (startsIn s) (heldIn s) (image-placed s) table moment target r (inside h) three (rw all at d))
 
     pub round-answer :
-        {f : Found} → n ≤ 96 → Searched (heldIn s) n table rows roles target f → (round ≡ 4) ⊎ ((f .length ≡ 0 → ⊥) × (f .length ≤ round + 2))
+        {f : Found} → n ≤ 96 → Answered (tablesGraph (heldIn s) n table rows roles) target f → (round ≡ 4) ⊎ ((f .length ≡ 0 → ⊥) × (f .length ≤ round + 2))
         → Answered (goodChains s table moment) target f
     round-answer few found enough =
         told (rounds.round-answer a b (itemsIn s) (startsIn s) (heldIn s) (image-placed s) table moment target r (rw all at few) (rw all at found) enough)
@@ -101,7 +102,7 @@ module _ (s table : List ℕ) (moment target n : ℕ) (same : n ≡ entryCount s
 
     module _ {wider : List ℕ} (w : Wider n table (round + 1) roles near wider) where
       pub closed-answer :
-          {f : Found} → n ≤ 96 → Searched (heldIn s) n table rows roles target f → ((p : ℕ) → p < n → getD near p 0 ≡ getD wider p 0)
+          {f : Found} → n ≤ 96 → Answered (tablesGraph (heldIn s) n table rows roles) target f → ((p : ℕ) → p < n → getD near p 0 ≡ getD wider p 0)
           → Answered (goodChains s table moment) target f
       closed-answer few found unchanged =
           told

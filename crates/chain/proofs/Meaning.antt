@@ -1,19 +1,19 @@
 -- The chains of the tables are good chains of the items, those that are within, since roles and steps mean the definitions.
-use Prim.Native.Nat.{ℕ, _≤_}
-use mathlib.Core.Path.{_≡_, refl}
+use Prim.Native.Nat.{ℕ, _<_, _≤_}
+use mathlib.Core.Path.{_≡_, refl, _∙_}
 use mathlib.Core.Bool.{Bool, cond}
 use mathlib.Core.List.{List}
 use borrow.Author.Tests.{le-leb}
 use lib.Dec.{leb, eqb}
 use lib.ListN.{length, getD}
-use Rattle.graph.specs.Chains.{Graph, graphOf}
+use Rattle.graph.specs.Chains.{Graph, graphBy}
 use Rattle.image.specs.Items.{Item}
 use Rattle.usable.specs.declared.opened.Row.{Row}
 use Rattle.usable.specs.Table.{verdictIn}
-use Rattle.usable.specs.Rows.{stepOf, Matched}
+use Rattle.usable.specs.Rows.{stepOf}
 use Rattle.usable.proofs.Scope.{Placed, Told, Scope}
 use Rattle.usable.proofs.RolesMean.{Known}
-use Rattle.usable.proofs.StepsMean.{step-told, step-means}
+use Rattle.usable.proofs.StepsMean.{step-told}
 use Rattle.chain.specs.Good.{chains}
 use Rattle.chain.proofs.Transfer.{Part}
 
@@ -21,22 +21,24 @@ use Rattle.chain.proofs.Transfer.{Part}
 abbrev pub goodOf : List Item → List ℕ → ℕ → Graph
 goodOf items table moment = chains items (verdictIn (length items) table) moment
 
--- the graph of the tables is the part of that of the items that is within
+-- the graph of the tables, by any steps that agree with theirs, is the part of that of the items that is within
 pub tables-part :
     (items : List Item) (at : ℕ → ℕ) (held : Row → List ℕ) → Placed held items at → (table : List ℕ) (moment : ℕ) {there within : ℕ → Bool}
-    → Scope items (verdictIn (length items) table) moment there within → (rows : List (List ℕ)) (roles steps : List ℕ) → length items ≤ 96
-    → Told moment items at there rows → Known items table moment within roles → Matched held (length items) table rows roles steps
-    → Part within (graphOf (length items) roles steps) (goodOf items table moment)
+    → Scope items (verdictIn (length items) table) moment there within → (rows : List (List ℕ)) (roles : List ℕ) (step : ℕ → ℕ → Bool)
+    → length items ≤ 96 → Told moment items at there rows → Known items table moment within roles
+    → ((u v : ℕ) → u < length items → v < length items → step u v ≡ stepOf held (length items) table rows roles u v)
+    → Part within (graphBy (length items) roles step) (goodOf items table moment)
 unfolding chains
-tables-part items at held placed table moment scope rows roles steps few told known matched =
+tables-part items at held placed table moment scope rows roles step few told known agrees =
     let here : cond (leb (length items) 96) (length items) 0 ≡ length items = rw (le-leb (length items) 96 few) in
     record {
       places = here;
       anchor = λ u h. known u (rw here at h) .anchor;
       link = λ u h. known u (rw here at h) .link;
       signer = λ u h. known u (rw here at h) .signer;
-      step = λ u v hu hv.
-          step-means items at table moment scope rows told held placed roles known steps matched u v (rw here at hu) (rw here at hv);
+      step = λ u v hu hv from to.
+          agrees u v (rw here at hu) (rw here at hv)
+          ∙ step-told items at table moment scope rows told held placed roles known u v (rw here at hu) (rw here at hv) from to;
     }
 
 -- the graph of roles and rows, with no table of steps

@@ -18,13 +18,14 @@ use Rattle.usable.specs.Steps.{hasKind}
 use Rattle.usable.specs.Usable.{counts}
 use Rattle.usable.specs.Table.{verdictIn}
 use Rattle.usable.specs.Rows.{isNear, ledOf, Roles}
+use Rattle.search.specs.Tables.{tablesGraph}
 use Rattle.usable.proofs.Booleans.{false-true, first, both-true}
 use Rattle.usable.proofs.Scope.{Placed}
 use Rattle.usable.proofs.CountingMeans.{Counts}
 use Rattle.usable.proofs.RolesMean.{roles-mean}
 use Rattle.chain.specs.Good.{chains}
 use Rattle.chain.specs.Near.{Wider}
-use Rattle.chain.specs.Rounds.{hereOf, Searched, Opens}
+use Rattle.chain.specs.Rounds.{hereOf, Opens}
 use Rattle.chain.proofs.Homes.{step-verdict}
 use Rattle.chain.proofs.HomeScope.{Based, inside, home-scope}
 use Rattle.chain.proofs.Meaning.{goodOf}
@@ -113,7 +114,7 @@ module _ (a b : ℕ) (items : List Item) (at : ℕ → ℕ) (held : Row → List
 
   -- where nothing is new each way on to the target is near
   pub closed-answer :
-      {f : Found} → length items ≤ 96 → Searched held (length items) table rows roles target f
+      {f : Found} → length items ≤ 96 → Answered (tablesGraph held (length items) table rows roles) target f
       → ((p : ℕ) → p < length items → getD near p 0 ≡ getD wider p 0) → Answered (goodOf items table moment) target f
   unfolding isNear
   closed-answer few found unchanged = answer-by a b items at held placed table moment target r few found (λ u c o. inl (all o))

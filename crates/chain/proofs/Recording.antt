@@ -10,16 +10,15 @@ use lib.Dec.{eqb}
 use lib.ListN.{length, take, drop, replicate}
 use Rattle.refusal.specs.declared.Refusal.the-variants as refusal
 use Rattle.calendar.specs.Days.{realMoment}
-use Rattle.graph.specs.Chains.{graphOf}
-use Rattle.graph.specs.declared.Found.{Found}
 use Rattle.graph.specs.Answer as search
 use Rattle.graph.specs.Records as records
 use Rattle.graph.proofs.Targets.{all-places, chain-target}
 use Rattle.image.specs.declared.Opened.the-variants as opened
 use Rattle.image.specs.Answer.{openedOf}
 use Rattle.image.specs.Index.{entryCount, entryIn, itemsIn}
+use Rattle.search.specs.Tables.{tablesGraph}
 use Rattle.usable.specs.Items.{itemAt}
-use Rattle.usable.specs.Rows.{heldIn, Counted, Roles, Matched}
+use Rattle.usable.specs.Rows.{heldIn, stepOf, Counted, Roles}
 use Rattle.usable.specs.Steps.{hasKind}
 use Rattle.usable.specs.Table.{verdictIn, tableGood}
 use Rattle.usable.specs.Usable.{usable}
@@ -35,20 +34,20 @@ use Rattle.chain.proofs.WholeMeans.{whole-image}
 
 -- what was recorded for the tables' graph is recorded for the image's
 pub whole-records :
-    (s table : List ℕ) (moment n : ℕ) → n ≡ entryCount s → (rows : List (List ℕ)) (counting roles steps : List ℕ) {old out : List ℕ} → n ≤ 96
+    (s table : List ℕ) (moment n : ℕ) → n ≡ entryCount s → (rows : List (List ℕ)) (counting roles : List ℕ) {old out : List ℕ} → n ≤ 96
     → 97 * n ≤ length old → AllOpen moment n (itemsIn s) (startsIn s) rows → Counted n table rows counting
-    → Roles (heldIn s) n (replicate 96 0) rows counting (replicate 96 0) roles → Matched (heldIn s) n table rows roles steps
-    → records.AllRecorded (graphOf n roles steps) old out → records.Records (goodChains s table moment) n old out
-whole-records s table moment n same rows counting roles steps few room told counted is matched (records.stays short kept) =
-    absurd (omega (arith, all-places n roles steps few, short, room))
-whole-records s table moment n same rows counting roles steps {old} {out} few room told counted is matched (records.written long r) =
-    let all = all-places n roles steps few in
+    → Roles (heldIn s) n (replicate 96 0) rows counting (replicate 96 0) roles
+    → records.AllRecorded (tablesGraph (heldIn s) n table rows roles) old out → records.Records (goodChains s table moment) n old out
+whole-records s table moment n same rows counting roles few room told counted is (records.stays short kept) =
+    absurd (omega (arith, all-places n roles (stepOf (heldIn s) n table rows roles) few, short, room))
+whole-records s table moment n same rows counting roles {old} {out} few room told counted is (records.written long r) =
+    let all = all-places n roles (stepOf (heldIn s) n table rows roles) few in
     record {
       each = λ p h.
           let e = r .each p (omega (arith, all, h)) in
           record {
             single = e .single;
-            answers = whole-image s table moment p n same rows counting roles steps few told counted is matched (e .answers);
+            answers = whole-image s table moment p n same rows counting roles _ few told counted is (λ u v hu hv. refl) (e .answers);
             same = e .same;
           };
       beyond = subst (λ (m : ℕ). drop (97 * m) out ≡ drop (97 * m) old) all (r .beyond);

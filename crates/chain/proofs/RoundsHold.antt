@@ -23,8 +23,9 @@ use Rattle.usable.proofs.Scope.{Placed, Told}
 use Rattle.usable.proofs.CountingMeans.{Counts, anchor-kind}
 use Rattle.usable.proofs.RolesMean.{Known}
 use Rattle.usable.specs.Steps.{hasKind}
+use Rattle.search.specs.Tables.{tablesGraph}
 use Rattle.chain.specs.Good.{chains}
-use Rattle.chain.specs.Rounds.{hereOf, Searched, enoughOf}
+use Rattle.chain.specs.Rounds.{hereOf, enoughOf}
 use Rattle.chain.proofs.Cells.{below-or-not}
 use Rattle.chain.proofs.Homes.{home, step-home, step-verdict}
 use Rattle.chain.proofs.HomeScope.{Based, inside, isOpen, always-near, here-other, here-anchor, home-scope}
@@ -116,15 +117,15 @@ module _ (a b : ℕ) (items : List Item) (at : ℕ → ℕ) (table : List ℕ) (
 module _ (a b : ℕ) (items : List Item) (at : ℕ → ℕ) (held : Row → List ℕ) (placed : Placed held items at) (table : List ℕ) (moment target : ℕ) {round : ℕ} {near : List ℕ} {rows : List (List ℕ)} {counting roles : List ℕ} (r : Round a b items at table moment target round near rows counting roles) where
   -- what the tables answer, where each way on to the target is near or no shorter than what is found
   pub answer-by :
-      {f : Found} → length items ≤ 96 → Searched held (length items) table rows roles target f
+      {f : Found} → length items ≤ 96 → Answered (tablesGraph held (length items) table rows roles) target f
       → ((u : ℕ) (c : List ℕ) → Onward (goodOf items table moment) target u c
       → AllNear (isNear near) c ⊎ ((f .length ≡ 0 → ⊥) × (f .length ≤ length c)))
       → Answered (goodOf items table moment) target f
   unfolding chains
   answer-by {f} few found ways =
       answer-out
-      (tables-part items at held placed table moment (home-scope a b items table moment near (r .based)) rows roles (found .steps) few (r .told) (r .known) (found .matched))
-      within (found .answer)
+      (tables-part items at held placed table moment (home-scope a b items table moment near (r .based)) rows roles _ few (r .told) (r .known) (λ u v hu hv. refl))
+      within found
     where
       within : NearOrLonger (inside a b items table near) (goodOf items table moment) target f
       within u c l anchor o =
@@ -134,7 +135,7 @@ module _ (a b : ℕ) (items : List Item) (at : ℕ → ℕ) (held : Row → List
 
   -- a chain that is short enough, or any in the last round, is the answer
   pub round-answer :
-      {f : Found} → length items ≤ 96 → Searched held (length items) table rows roles target f
+      {f : Found} → length items ≤ 96 → Answered (tablesGraph held (length items) table rows roles) target f
       → (round ≡ 4) ⊎ ((f .length ≡ 0 → ⊥) × (f .length ≤ round + 2)) → Answered (goodOf items table moment) target f
   round-answer {f} few found enough =
       answer-by few found (λ u c o. ⊎-elim (λ last. inl (r .reach o (inr last))) (λ k. short o k) enough)

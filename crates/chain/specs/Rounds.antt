@@ -6,16 +6,14 @@ use mathlib.Core.Bool.{Bool, true, false, cond}
 use mathlib.Core.List.{List, [], _∷_, _++_}
 use lib.Dec.{eqb, leb}
 use lib.ListN.{getD, replicate}
-use Rattle.graph.specs.Chains.{graphOf}
 use Rattle.graph.specs.declared.Found.{Found}
-use Rattle.graph.specs.Answer.{Answered}
 use Rattle.image.specs.Items.{Item}
 use Rattle.image.specs.Index.{entryIn}
 use Rattle.usable.specs.declared.opened.Row.{Row}
 use Rattle.usable.specs.Items.{itemAt, someBelow}
 use Rattle.usable.specs.Country.{homeOf}
 use Rattle.usable.specs.Table.{verdictIn}
-use Rattle.usable.specs.Rows.{rowOf, rowAt, stepOf, Matched}
+use Rattle.usable.specs.Rows.{rowOf, rowAt, stepOf}
 use Rattle.chain.specs.Near.{freshOf}
 
 -- the octet of an image at which the item of a place starts
@@ -49,12 +47,6 @@ rowIn moment first second n table items at before near rows p =
 abbrev pub Opens : ℕ → ℕ → ℕ → ℕ → List ℕ → List Item → (ℕ → ℕ) → List ℕ → List ℕ → List (List ℕ) → List (List ℕ) → Type 0
 Opens moment first second n table items at before near rows more =
     (p : ℕ) → p < n → rowAt more p ≡ rowIn moment first second n table items at before near rows p
-
--- an answer for the chains that the tables tell
-pub record Searched (held : Row → List ℕ) (n : ℕ) (table : List ℕ) (rows : List (List ℕ)) (roles : List ℕ) (target : ℕ) (r : Found) : Type 0 where
-  pub steps : List ℕ
-  pub matched : Matched held n table rows roles steps
-  pub answer : Answered (graphOf n roles steps) target r
 
 -- the chain of the first anchor that has a good step to the target
 pub record Direct (held : Row → List ℕ) (n : ℕ) (table : List ℕ) (rows : List (List ℕ)) (roles : List ℕ) (target : ℕ) (r : Found) : Type 0 where

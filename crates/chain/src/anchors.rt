@@ -1,8 +1,8 @@
 // The steps from an anchor, and those to the target: fast paths before a search.
-use crate::matching::leads;
 use graph::Found;
 use graph::no_chain;
 use octets::octet;
+use usable::leads;
 use usable::matched;
 ghost use mathlib.Core.Path.{_≡_};
 ghost use mathlib.Core.Bool.{true, false};

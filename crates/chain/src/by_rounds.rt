@@ -3,19 +3,22 @@
 use crate::Answer;
 use crate::asking::Asked;
 use crate::asking::question;
-use crate::matching::matching_steps;
 use crate::refused;
 use crate::shown;
 use crate::whole::open_all;
 use graph::Found;
 use graph::chain_by_rounds;
+use octets::part;
 use usable::counting_lists;
+use usable::leads;
+use usable::matched;
 use usable::roles_of;
 ghost use mathlib.Core.Path.{_≡_};
 ghost use Prim.Native.Nat.{_≤_};
 ghost use Rattle.chain.specs.Answer.{Answered, goodChains};
 ghost use Rattle.graph.specs.Answer as search;
 ghost use Rattle.image.specs.Index.{entryCount};
+ghost use Rattle.usable.specs.Rows.{heldIn, Matched};
 
 // Answers and refusals as `best_chain` has them, the same for each question.
 pub fn best_chain_by_rounds(image: &[u8], table: &[u8], moment: u64, target: u64) -> Answer
@@ -45,4 +48,33 @@ fn chain_over_all(image: &[u8], table: &[u8], places: usize, moment: u64, target
     let roles = roles_of(image, places, nothing, &rows, counting, nothing);
     let steps = matching_steps(image, table, places, &rows, roles);
     chain_by_rounds(places, &roles, &steps, target)
+}
+
+// 96 rows of 96 columns: 1 for a good step from an anchor or link to a link or signer, all usable.
+fn matching_steps(
+    image: &[u8],
+    table: &[u8],
+    places: usize,
+    rows: &[[usize; 17]; 96],
+    roles: [u8; 96],
+) -> [u8; 9216]
+    requires { ⌜ places ≤ 96 ⌝ }
+    ensures { λ r. ⌜ Matched (heldIn (now (image .entry))) places (now (table .entry)) (now (rows .entry)) roles r ⌝ }
+{
+    let mut steps = [0u8; 9216];
+    let mut u = 0;
+    while u < places {
+        if leads(roles[u]) {
+            let line = part(table, u * places, places);
+            let mut v = 0;
+            while v < line.len() {
+                if line[v] == 1 {
+                    steps[u * 96 + v] = matched(image, rows, u, v, roles[v]);
+                }
+                v += 1;
+            }
+        }
+        u += 1;
+    }
+    steps
 }

@@ -4,7 +4,6 @@ mod anchors;
 mod asking;
 mod by_rounds;
 mod given;
-mod matching;
 mod near;
 mod opening;
 mod proposal;

@@ -2,17 +2,16 @@
 use crate::anchors::begins;
 use crate::anchors::direct_chain;
 use crate::anchors::led_to;
-use crate::matching::matching_steps;
 use crate::near::LAST;
 use crate::near::near_first;
 use crate::near::near_next;
 use crate::near::unchanged;
 use crate::opening::open_items;
 use graph::Found;
-use graph::chain_to;
 use graph::no_chain;
 use image::entry_in;
 use octets::part;
+use search::chain_to;
 use usable::counting_lists;
 use usable::open_item;
 use usable::roles_of;
@@ -22,8 +21,8 @@ ghost use Prim.Native.Nat.{_≤_, _<_};
 ghost use lib.ListN.{getD};
 ghost use Rattle.chain.specs.Answer.{goodChains};
 ghost use Rattle.usable.specs.Items.{itemAt};
-ghost use Rattle.usable.specs.Rows.{rowFrom, rowOf, heldIn};
-ghost use Rattle.chain.specs.Rounds.{startsIn, Searched, enoughOf};
+ghost use Rattle.usable.specs.Rows.{rowFrom, rowOf};
+ghost use Rattle.chain.specs.Rounds.{startsIn, enoughOf};
 ghost use Rattle.graph.specs.Answer as search;
 ghost use Rattle.image.specs.Index.{entryCount, entryIn, itemsIn};
 
@@ -96,7 +95,7 @@ fn chain_home(
         round += 1;
         let wider = near_next(table, places, round, near, roles);
         if unchanged(places, near, wider) {
-            return searched(image, table, places, &rows, roles, target);
+            return chain_to(image, table, places, &rows, &roles, target);
         }
         open_items(
             image,
@@ -114,7 +113,7 @@ fn chain_home(
             return no_chain();
         }
         if worthwhile(image, table, places, round, &rows, known) {
-            let found = searched(image, table, places, &rows, known, target);
+            let found = chain_to(image, table, places, &rows, &known, target);
             let length = found.length;
             if enough(length, round) {
                 return found;
@@ -155,20 +154,4 @@ fn enough(length: usize, round: usize) -> bool
         return false;
     }
     length <= round + 2
-}
-
-// The search over the tables of a round.
-fn searched(
-    image: &[u8],
-    table: &[u8],
-    places: usize,
-    rows: &[[usize; 17]; 96],
-    roles: [u8; 96],
-    target: usize,
-) -> Found
-    requires { ⌜ places ≤ 96 ⌝ }
-    ensures { λ r. ⌜ Searched (heldIn (now (image .entry))) places (now (table .entry)) (now (rows .entry)) roles target r ⌝ }
-{
-    let steps = matching_steps(image, table, places, rows, roles);
-    chain_to(places, &roles, &steps, target)
 }

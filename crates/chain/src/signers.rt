@@ -1,12 +1,11 @@
 // Every signer of an image in one call.
 use crate::asking::table_good;
-use crate::matching::matching_steps;
 use crate::whole::open_all;
 use calendar::real_moment;
-use graph::chains_to_all;
 use image::Opened;
 use image::open;
 use refusal::Refusal;
+use search::chains_to_all;
 use usable::counting_lists;
 use usable::roles_of;
 ghost use mathlib.Core.Path.{_≡_};
@@ -63,6 +62,5 @@ fn record_signers(image: &[u8], table: &[u8], places: usize, moment: u64, out: &
     open_all(image, places, moment, &mut rows);
     let counting = counting_lists(table, places, &rows);
     let roles = roles_of(image, places, nothing, &rows, counting, nothing);
-    let steps = matching_steps(image, table, places, &rows, roles);
-    chains_to_all(places, &roles, &steps, out);
+    chains_to_all(image, table, places, &rows, &roles, out);
 }

@@ -13,8 +13,7 @@ use Rattle.graph.specs.Rounds.{RoundTable, Onto, there, by, Back, Next}
 use Rattle.graph.proofs.Cases.{same?, less?}
 use Rattle.graph.proofs.Ranks.{rank-snoc, rank-shorter}
 use Rattle.graph.proofs.RoundPaths.{walk-far}
-use Rattle.graph.proofs.Turns.{distance-outside, distance-place}
-use Rattle.graph.proofs.Walks.{seen-by, longer-by-one, walk-end, walk-small}
+use Rattle.graph.proofs.Walks.{distance-outside, distance-place, seen-by, longer-by-one, walk-end, walk-small}
 
 -- so many places are read off, the last of them this one, and stand in the slots
 pub record Forward (n : ℕ) (step : ℕ → ℕ → Bool) (ways : List ℕ) (i last : ℕ) (slots : List ℕ) : Type 0 where

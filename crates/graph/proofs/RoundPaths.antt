@@ -15,8 +15,7 @@ use Rattle.graph.specs.Rounds.{RoundTable}
 use Rattle.graph.proofs.Cases.{less?, clash}
 use Rattle.graph.proofs.Least.{leastOf, least-of, least-in}
 use Rattle.graph.proofs.Ranks.{rank-snoc, rank-shorter}
-use Rattle.graph.proofs.Turns.{distance-outside, distance-place}
-use Rattle.graph.proofs.Walks.{seen-by, longer-by-one, walk-small}
+use Rattle.graph.proofs.Walks.{distance-outside, distance-place, seen-by, longer-by-one, walk-small}
 
 module _ (n : ℕ) (step : ℕ → ℕ → Bool) (distance : List ℕ) where
   -- a place so far that leads to another

@@ -12,8 +12,7 @@ use Rattle.graph.specs.Search.{filled, Reached, Seen, outside, place, di
 use Rattle.graph.specs.Rounds.{Nearer, InRound, RoundTable}
 use Rattle.graph.proofs.Cases.{same?, less?, clash}
 use Rattle.graph.proofs.Slots.{filled-le, filled-set}
-use Rattle.graph.proofs.Turns.{seen-le, distance-outside, distance-place}
-use Rattle.graph.proofs.Walks.{seen-by}
+use Rattle.graph.proofs.Walks.{seen-le, distance-outside, distance-place, seen-by}
 
 -- a step that was tried
 abbrev Tried : ℕ → List ℕ → ℕ → ℕ → Type 0

@@ -7,7 +7,7 @@ use mathlib.Core.List.{List}
 use native.Mathlib.Omega.{arith}
 use borrow.Author.Tests.{eqb-true, eq-eqb, ne-eqb}
 use lib.ListN.{getD}
-use Rattle.graph.specs.Chains.{Graph, graphOf}
+use Rattle.graph.specs.Chains.{Graph, graphBy}
 use Rattle.graph.specs.Search.{followed}
 use Rattle.graph.proofs.Cases.{clash}
 
@@ -16,8 +16,8 @@ pub record Apart (g : Graph) : Type 0 where
   pub anchors : {v : ℕ} → g .anchor v ≡ true → g .signer v ≡ false
   pub links : {v : ℕ} → g .link v ≡ true → g .signer v ≡ false
 
-pub roles-apart : (places : ℕ) (roles steps : List ℕ) → Apart (graphOf places roles steps)
-roles-apart places roles steps =
+pub roles-apart : (places : ℕ) (roles : List ℕ) (step : ℕ → ℕ → Bool) → Apart (graphBy places roles step)
+roles-apart places roles step =
     record {
       anchors = λ {v} h. ne-eqb (getD roles v 0) 3 (λ e. omega (arith, eqb-true (getD roles v 0) 1 h));
       links = λ {v} h. ne-eqb (getD roles v 0) 3 (λ e. omega (arith, eqb-true (getD roles v 0) 2 h));

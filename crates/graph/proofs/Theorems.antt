@@ -1,20 +1,14 @@
--- What the contract of `chain_to` and `chain_by_rounds` settles: no second answer fits, an answer has a length where there is a
--- chain, and no best chain is too long for the slots, since a search finds it in a table of 96.
-use Prim.Native.Nat.{ℕ, _<_, _≤_, _-_}
+-- What the contract of every search settles: no second answer fits, and an answer has a length where there is a chain.
+use Prim.Native.Nat.{ℕ, _<_, _-_}
 use mathlib.Core.Path.{_≡_, refl, sym, ap, _∙_}
 use mathlib.Core.List.{List, _∷_, _++_}
 use mathlib.Core.Logic.{_⊎_, inl, inr}
 use native.Mathlib.Omega.{arith}
 use lib.ListN.{length, replicate}
 use Rattle.graph.specs.declared.Found.{Found}
-use Rattle.graph.specs.Chains.{Graph, graphOf, Chain, NotLater, done, less, same, Best}
-use Rattle.graph.specs.Answer.{NoChain, Answered, found, none}
-use Rattle.graph.specs.Search.{followed}
-use Rattle.graph.proofs.Steps.{Apart, roles-apart}
-use Rattle.graph.proofs.BestFound.{chain-reached, best}
-use Rattle.graph.proofs.Targets.{at-most-96, chain-target}
+use Rattle.graph.specs.Chains.{Graph, Chain, NotLater, done, less, same, Best}
+use Rattle.graph.specs.Answer.{Answered, found, none}
 use Rattle.graph.proofs.Places.{two-places}
-use Rattle.graph.proofs.Tables.{Table, table, some-table}
 
 -- of two chains neither of which comes later, both are one
 same-chain : {c d : List ℕ} → NotLater c d → NotLater d c → c ≡ d
@@ -44,24 +38,7 @@ module _ {g : Graph} {t : ℕ} where
   one-answer (none f l) (found d e m q) = absurd (f d (e .good))
   one-answer (none f l) (none h m) = (l .empty ∙ sym (m .empty), l .slots ∙ sym (m .slots))
 
-  -- so what `chain_to` and `chain_by_rounds` answer to one question, each by its own search, is the same
-  pub same-engines : {queue rounds : Found} → Answered g t queue → Answered g t rounds → (queue .length ≡ rounds .length) × (queue .places ≡ rounds .places)
-  same-engines = one-answer
-
   -- an answer's length is 0 where there is no chain, and only there
   pub found-or-none : {r : Found} → Answered g t r → ((r .length ≡ 0 → ⊥) × ((c : List ℕ) × Chain g t c)) ⊎ ((r .length ≡ 0) × ((c : List ℕ) → Chain g t c → ⊥))
   found-or-none (found c b l p) = inl (λ e. omega (arith, l, two-places (b .good)), (c, b .good))
   found-or-none (none f l) = inr (l .empty, f)
-
--- the best chain fits the slots
-pub best-fits : {g : Graph} {t : ℕ} {c : List ℕ} → Apart g → g .places ≤ 96 → Best g t c → length c ≤ 96
-best-fits {g} {t} {c} apart small b = go (some-table small)
-  where
-    go : Table (g .places) (followed (g .places) g) → length c ≤ 96
-    go (table s) =
-        let end = chain-target (b .good) in
-        let reached = chain-reached refl small apart s (b .good) .0 in
-        rw (one-best b (best refl small apart s (end .0) (end .1) reached)) (s .short t (end .0) reached)
-
-pub best-short : (places : ℕ) (roles steps : List ℕ) {t : ℕ} {c : List ℕ} → Best (graphOf places roles steps) t c → length c ≤ 96
-best-short places roles steps = best-fits (roles-apart places roles steps) (at-most-96 places roles steps)

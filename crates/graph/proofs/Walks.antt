@@ -1,19 +1,32 @@
--- A walk ends outside only where it has no place, its places are all below the number of places, and a place more makes it one
--- longer.
+-- What is seen is outside or a place, and has its distance so. A walk ends outside only where it has no place, its places are all
+-- below the number of places, and a place more makes it one longer.
 use Prim.Native.Nat.{ℕ, _+_, _<_, _≤_}
 use mathlib.Core.Path.{_≡_, refl, ap, _∙_}
 use mathlib.Core.Bool.{Bool}
 use mathlib.Core.List.{List, [], _∷_, _++_}
 use mathlib.Core.Logic.{_⊎_, inl, inr}
 use native.Mathlib.Omega.{arith}
-use lib.ListN.{length, length-append}
-use Rattle.graph.specs.Search.{Reached, Seen, outside, place, Walk, begun, gone}
+use borrow.Author.Tests.{eq-eqb, ne-eqb}
+use lib.ListN.{length, getD, length-append}
+use Rattle.graph.specs.Search.{Reached, Seen, outside, place, distanceOf, Walk, begun, gone}
 use Rattle.graph.proofs.Ranks.{Small, no-place, one-more}
 
 -- a place that is seen is outside, or reached
 pub seen-by : {A : Type 0} {n : ℕ} {table : List ℕ} {v : ℕ} → Seen n table v → (v ≡ n → A) → (v < n → Reached table v → A) → A
 seen-by (outside e) f h = f e
 seen-by (place l r) f h = h l r
+
+pub seen-le : {n : ℕ} {parent : List ℕ} {v : ℕ} → Seen n parent v → v ≤ n
+seen-le (outside e) = omega arith
+seen-le (place h r) = omega arith
+
+pub distance-outside : (n : ℕ) (distance : List ℕ) (u : ℕ) → u ≡ n → distanceOf n distance u ≡ 0
+unfolding distanceOf
+distance-outside n distance u e = rw (eq-eqb u n e)
+
+pub distance-place : (n : ℕ) (distance : List ℕ) (u : ℕ) → u < n → distanceOf n distance u ≡ getD distance u 0
+unfolding distanceOf
+distance-place n distance u l = rw (ne-eqb u n (omega arith))
 
 pub longer-by-one : (p : List ℕ) (v : ℕ) {q : List ℕ} → q ≡ p ++ (v ∷ []) → length q ≡ length p + 1
 longer-by-one p v e = ap length e ∙ simp length-append

@@ -38,14 +38,17 @@ pub record Best (g : Graph) (target : ℕ) (c : List ℕ) : Type 0 where
   pub good : Chain g target c
   pub least : (d : List ℕ) → Chain g target d → (length c < length d) ⊎ ((length c ≡ length d) × NotLater c d)
 
--- the graph that roles and a table of steps tell: role 1 an anchor, 2 a link, 3 a signer; 96 rows, the signers, of 96
--- columns, the signed, 1 for a good step; at most 96 places
-abbrev pub graphOf : ℕ → List ℕ → List ℕ → Graph
-graphOf places roles steps =
+-- the graph that roles and steps tell: role 1 an anchor, 2 a link, 3 a signer; at most 96 places
+abbrev pub graphBy : ℕ → List ℕ → (ℕ → ℕ → Bool) → Graph
+graphBy places roles step =
     record {
       places = cond (leb places 96) places 0;
       anchor = λ u. eqb (getD roles u 0) 1;
       link = λ u. eqb (getD roles u 0) 2;
       signer = λ u. eqb (getD roles u 0) 3;
-      step = λ u v. eqb (getD steps (u * 96 + v) 0) 1;
+      step = step;
     }
+
+-- the same by a table of steps: 96 rows, the signers, of 96 columns, the signed, 1 for a good step
+abbrev pub graphOf : ℕ → List ℕ → List ℕ → Graph
+graphOf places roles steps = graphBy places roles (λ u v. eqb (getD steps (u * 96 + v) 0) 1)

@@ -1,5 +1,4 @@
--- What a search tells at the end, and what the search by a queue knows between two of its steps: of each place the parent, which
--- is 255 where no path was found, and the distance. No public promise cites this.
+-- What a search tells at the end: a table marks with anything but 255 the places to which a walk leads. No public promise cites this.
 use Prim.Native.Nat.{ℕ, suc, _+_, _*_, _<_, _≤_}
 use mathlib.Core.Path.{_≡_}
 use mathlib.Core.Bool.{Bool, true, false, cond}
@@ -38,13 +37,6 @@ pub data Seen (n : ℕ) (parent : List ℕ) (v : ℕ) : Type 0 where
 unfoldable pub distanceOf : ℕ → List ℕ → ℕ → ℕ
 distanceOf n distance v = cond (eqb v n) 0 (getD distance v 0)
 
--- the path to a place is that to its parent, and one good step more, and its distance tells how long it is
-pub record Grown (n : ℕ) (step : ℕ → ℕ → Bool) (parent distance : List ℕ) (path : ℕ → List ℕ) (v : ℕ) : Type 0 where
-  pub from : Seen n parent (getD parent v 0)
-  pub good : step (getD parent v 0) v ≡ true
-  pub longer : path v ≡ path (getD parent v 0) ++ (v ∷ [])
-  pub far : getD distance v 0 ≡ length (path v)
-
 -- a walk from outside to a place: places one after another, each step followed
 pub data Walk (n : ℕ) (step : ℕ → ℕ → Bool) : ℕ → List ℕ → Type 0 where
   begun : {v : ℕ} {p : List ℕ} → v ≡ n → p ≡ [] → Walk n step v p
@@ -56,43 +48,3 @@ pub record Searched (n : ℕ) (step : ℕ → ℕ → Bool) (table : List ℕ) :
   pub walks : (v : ℕ) → v < n → Reached table v → Walk n step v (path v)
   pub first : (v : ℕ) (p : List ℕ) → v < n → Walk n step v p → Reached table v × (rank (path v) ≤ rank p)
   pub short : (v : ℕ) → v < n → Reached table v → length (path v) ≤ 96
-
--- what the tables of the search by a queue tell: the paths that the parents make, and their lengths
-pub record QueueTables (n : ℕ) (step : ℕ → ℕ → Bool) (parent distance : List ℕ) : Type 0 where
-  pub path : ℕ → List ℕ
-  pub start : path n ≡ []
-  pub grows : (v : ℕ) → v < n → Reached parent v → Grown n step parent distance path v
-  pub short : (v : ℕ) → v < n → Reached parent v → length (path v) ≤ 96
-  pub closed :
-      (u v : ℕ) → Seen n parent u → v < n → step u v ≡ true
-      → Reached parent v × (rank (path v) ≤ rank (path u) * 97 + v + 1)
-
--- the search at a column of the row of the queue's head: all steps before are followed, and the queue is in the order of
--- its paths, each before the path to be tried next
-pub record At (n : ℕ) (step : ℕ → ℕ → Bool) (queue parent distance : List ℕ) (tail head column : ℕ) : Type 0 where
-  pub path : ℕ → List ℕ
-  pub start : path n ≡ []
-  pub root : getD queue 0 0 ≡ n
-  pub slots : length parent ≡ 96
-  pub distances : length distance ≡ 96
-  pub room : length queue ≡ 97
-  pub count : tail ≡ filled parent + 1
-  pub within : head < tail
-  pub seen : (j : ℕ) → j < tail → Seen n parent (getD queue j 0)
-  pub short : (j : ℕ) → j < tail → length (path (getD queue j 0)) ≤ j
-  pub queued : (v : ℕ) → v < n → Reached parent v → (j : ℕ) × (j < tail) × (getD queue j 0 ≡ v)
-  pub grows : (v : ℕ) → v < n → Reached parent v → Grown n step parent distance path v
-  pub sorted : (i j : ℕ) → i < j → j < tail → rank (path (getD queue i 0)) < rank (path (getD queue j 0))
-  pub front : (j : ℕ) → j < tail → rank (path (getD queue j 0)) < rank (path (getD queue head 0)) * 97 + column + 1
-  pub closed :
-      (j v : ℕ) → j < tail → v < n → j * 97 + v < head * 97 + column → step (getD queue j 0) v ≡ true
-      → Reached parent v × (rank (path v) ≤ rank (path (getD queue j 0)) * 97 + v + 1)
-
--- what a trace back along the parents needs of the tables
-pub record Paths (n : ℕ) (parent distance : List ℕ) : Type 0 where
-  pub path : ℕ → List ℕ
-  pub start : path n ≡ []
-  pub from : (v : ℕ) → v < n → Reached parent v → Seen n parent (getD parent v 0)
-  pub longer : (v : ℕ) → v < n → Reached parent v → path v ≡ path (getD parent v 0) ++ (v ∷ [])
-  pub far : (v : ℕ) → v < n → Reached parent v → getD distance v 0 ≡ length (path v)
-  pub short : (v : ℕ) → v < n → Reached parent v → length (path v) ≤ 96

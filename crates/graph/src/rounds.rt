@@ -1,20 +1,19 @@
-// A second search, by rounds: plain enough to be read in a minute, and it shares nothing of the queue's search.
+// The second search, by rounds: plain enough to be read in a minute, and it shares nothing of the search by a queue.
 use crate::Found;
-use crate::follows;
 use crate::no_chain;
-use crate::wide;
 use octets::octet;
 ghost use mathlib.Core.Path.{_≡_};
 ghost use mathlib.Core.Bool.{true, false};
-ghost use mathlib.Core.List.{List, _++_};
-ghost use Prim.Native.Nat.{ℕ, _+_, _-_, _<_, _≤_};
+ghost use mathlib.Core.List.{_++_};
+ghost use Prim.Native.Nat.{_+_, _-_, _<_, _≤_};
 ghost use lib.ListN.{length, getD, replicate};
 ghost use Rattle.graph.specs.Chains.{graphOf};
 ghost use Rattle.graph.specs.Answer.{Answered};
 ghost use Rattle.graph.specs.Search.{followed, Reached, distanceOf, Searched};
 ghost use Rattle.graph.specs.Rounds.{InRound, RoundTable, Back, Next};
 
-// Roles and steps as `chain_to` has them, and the same answer for each.
+// Roles: 1 a usable anchor, 2 a usable link, 3 a usable signer. Steps: 96 rows, the signers, of 96 columns, the signed, 1 for a good
+// step.
 pub fn chain_by_rounds(places: usize, roles: &[u8], steps: &[u8], target: usize) -> Found
     ensures { λ r. ⌜ Answered (graphOf places (now (roles .entry)) (now (steps .entry))) target r ⌝ }
 {
@@ -204,4 +203,29 @@ fn read_off(
         slots[wide(far) - 1] = place as u8;
     }
     slots
+}
+
+fn wide(x: u8) -> usize
+    ensures { λ r. ⌜ r ≡ x ⌝ }
+{
+    x as usize
+}
+
+// Whether a step goes to an anchor from outside, or from a place that is no signer to a link or a signer.
+fn follows(places: usize, roles: &[u8], steps: &[u8], u: usize, v: usize) -> bool
+    requires { ⌜ (places ≤ 96) × (u ≤ places) × (v < places) ⌝ }
+    requires { ⌜ (u < places → (getD (now roles) u 0 ≡ 3 → ⊥)) ⌝ }
+    ensures { λ r. ⌜ r ≡ followed places (graphOf places (now (roles .entry)) (now (steps .entry))) u v ⌝ }
+{
+    if u == places {
+        return octet(roles, v) == 1;
+    }
+    if octet(steps, u * 96 + v) != 1 {
+        return false;
+    }
+    let role = octet(roles, v);
+    if role == 2 {
+        return true;
+    }
+    role == 3
 }

@@ -1,4 +1,4 @@
--- The table of steps tells the good steps between usable places: there the rows tell names and keys, and roles tell kinds.
+-- The tables tell the good steps between usable places: there the rows tell names and keys, and roles tell kinds.
 use Prim.Native.Nat.{ℕ, _+_, _*_, _<_, _≤_}
 use mathlib.Core.Path.{_≡_, refl, sym, _∙_}
 use mathlib.Core.Bool.{Bool, true, false, cond, _&&_, _||_}
@@ -104,10 +104,8 @@ module _ (items : List Item) (at : ℕ → ℕ) (table : List ℕ) (moment : ℕ
       (chosen (verdictIn (length items) table u v) (fitsOf held (rowAt rows u) (rowAt rows v)) (fits items u v)
       (fits-rows held items at placed rows u v hu hv cu cv))
 
-  pub step-means :
-      (steps : List ℕ) → Matched held (length items) table rows roles steps → (u v : ℕ) → u < length items → v < length items
-      → (eqb (getD roles u 0) 1 ≡ true) ⊎ (eqb (getD roles u 0) 2 ≡ true)
-      → (eqb (getD roles v 0) 2 ≡ true) ⊎ (eqb (getD roles v 0) 3 ≡ true)
-      → eqb (getD steps (u * 96 + v) 0) 1 ≡ goodStep items (verdictIn (length items) table) u v
-  step-means steps matched u v hu hv from to =
-      rw (matched u v hu hv) (flag-one (stepOf held (length items) table rows roles u v) ∙ step-told u v hu hv from to)
+-- the cells of a table of steps tell the same
+pub cells-tell :
+    (held : Row → List ℕ) (n : ℕ) (table : List ℕ) (rows : List (List ℕ)) (roles steps : List ℕ) → Matched held n table rows roles steps
+    → (u v : ℕ) → u < n → v < n → eqb (getD steps (u * 96 + v) 0) 1 ≡ stepOf held n table rows roles u v
+cells-tell held n table rows roles steps matched u v hu hv = rw (matched u v hu hv) (flag-one (stepOf held n table rows roles u v))

@@ -11,6 +11,7 @@ mod roles;
 
 pub use counting::counting_lists;
 pub use countries::of_country;
+pub use matching::leads;
 pub use matching::led;
 pub use matching::matched;
 pub use opening::open_item;

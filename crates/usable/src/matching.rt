@@ -5,7 +5,7 @@ use crate::roles::piece;
 use octets::same;
 ghost use mathlib.Core.Path.{_≡_};
 ghost use Prim.Native.Nat.{_≤_, _<_};
-ghost use Rattle.usable.specs.Rows.{flag, heldIn, rowAt, ledOf, fitsOf, matchedOf};
+ghost use Rattle.usable.specs.Rows.{flag, heldIn, rowAt, leadsOf, ledOf, fitsOf, matchedOf};
 
 // 1 where the second place, of that role, can be led to and fits the first; 0 also where a place is not in the table.
 pub fn matched(octets: &[u8], rows: &[[usize; 17]; 96], u: usize, v: usize, role: u8) -> u8
@@ -24,6 +24,16 @@ pub fn matched(octets: &[u8], rows: &[[usize; 17]; 96], u: usize, v: usize, role
         return 1;
     }
     0
+}
+
+// An anchor or a link.
+pub fn leads(role: u8) -> bool
+    ensures { λ r. ⌜ r ≡ leadsOf role ⌝ }
+{
+    if role == 1 {
+        return true;
+    }
+    role == 2
 }
 
 // A link or a signer.

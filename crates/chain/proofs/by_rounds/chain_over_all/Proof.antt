@@ -1,5 +1,6 @@
 -- All items are open, so the tables tell the whole graph, and what the search answers for it is the answer.
 use borrow.Author.Needs.{needs}
+use Rattle.usable.proofs.StepsMean.{cells-tell}
 use Rattle.chain.proofs.WholeMeans.{whole-image}
 use Rattle.chain.proofs.by_rounds.chain_over_all.Statement.{statement}
 use Rattle.chain.proofs.by_rounds.chain_over_all.Tie as tie
@@ -24,9 +25,9 @@ returns c =
     let n = counted r in
     let o = opened n in
     let p = start o .pre in
-    whole-image _ _ _ _ _ (p .0) _ _ _ (m .matching-steps .result) (p .1) (o .open-all .ensures .1)
+    whole-image _ _ _ _ _ (p .0) _ _ _ _ (p .1) (o .open-all .ensures .1)
     (n .counting-lists .ensures .0 (p .1)) (r .roles-of .ensures .0 (p .1))
-    (m .matching-steps .ensures) (c .chain-by-rounds .ensures)
+    (cells-tell _ _ _ _ _ (m .matching-steps .result) (m .matching-steps .ensures)) (c .chain-by-rounds .ensures)
 
 pub chain-over-all-spec : {M : Type 1} → statement M
 chain-over-all-spec =

@@ -56,7 +56,7 @@ abbrev led : tie.After-worthwhile Inv-loop μ-loop → tie.After-led-to Inv-loop
 led c = c .before .before .before
 
 abbrev sought : tie.After-enough Inv-loop μ-loop → tie.After-worthwhile Inv-loop μ-loop
-sought c = c .before .before .before .before
+sought c = c .before .before .before .before .before
 
 abbrev round-of : tie.After-led-to Inv-loop μ-loop → tie.At-loop Inv-loop μ-loop
 round-of c = turn (wider (told c))
@@ -136,15 +136,12 @@ near-next-requires c κs = c .loop .inv .small
 unchanged-requires : tie.Need-unchanged-requires Inv-loop μ-loop
 unchanged-requires c κs = c .before .loop .inv .small
 
-searched-requires : tie.Need-searched-requires Inv-loop μ-loop
-searched-requires c κs = turn (c .before .before) .loop .inv .small
-
 returns-3 : tie.Need-returns-3 Inv-loop μ-loop
 returns-3 c =
-    let u = c .before .before .before in
+    let u = c .before .before .before .before in
     let i = turn u .loop .inv in
-    closed-answer _ _ _ _ _ (i .all) (i .holds) (u .before .near-next .ensures) (i .small) (c .searched .ensures)
-    (u .unchanged .ensures (c .before .before .if3 .taken))
+    closed-answer _ _ _ _ _ (i .all) (i .holds) (u .before .near-next .ensures) (i .small) (c .chain-to .ensures)
+    (u .unchanged .ensures (c .before .before .before .if3 .taken))
 
 open-items-requires-2 : tie.Need-open-items-requires-2 Inv-loop μ-loop
 open-items-requires-2 c κs = let i = turn (c .before .before) .loop .inv in (i .all, i .small, i .slots)
@@ -166,11 +163,8 @@ returns-4 c =
 worthwhile-requires : tie.Need-worthwhile-requires Inv-loop μ-loop
 worthwhile-requires c κs = round-of (c .before .before) .loop .inv .small
 
-searched-requires-2 : tie.Need-searched-requires-2 Inv-loop μ-loop
-searched-requires-2 c κs = round-of (led (c .before .before)) .loop .inv .small
-
 enough-requires : tie.Need-enough-requires Inv-loop μ-loop
-enough-requires c κs = omega (arith, round-of (led (c .before .before .before)) .loop .inv .early)
+enough-requires c κs = omega (arith, round-of (led (c .before .before .before .before)) .loop .inv .early)
 
 returns-5 : tie.Need-returns-5 Inv-loop μ-loop
 returns-5 c =
@@ -181,7 +175,7 @@ returns-5 c =
     round-answer _ _ _ _ _ (i .all)
     (next-round _ _ _ _ _ (i .all) (i .holds) (u .before .near-next .ensures) (i .there) (o .open-items2 .ensures .1)
     (l .before .before .roles-of2 .ensures .0 (i .small)))
-    (i .small) (c .before .before .searched2 .ensures) (settled _ _ (sym (c .before .enough .ensures) ∙ c .if6 .taken))
+    (i .small) (c .before .before .chain-to2 .ensures) (settled _ _ (sym (c .before .enough .ensures) ∙ c .if6 .taken))
 
 loop-less : tie.Need-loop-less Inv-loop μ-loop
 loop-less c = omega (arith, round-of (led (sought (c .before))) .loop .inv .early)
@@ -249,7 +243,7 @@ chain-home-spec =
     add-round
     near-next-requires
     unchanged-requires
-    searched-requires
+    (λ c κs. search needs)
     returns-3
     open-items-requires-2
     (λ c κs. search needs)
@@ -257,7 +251,7 @@ chain-home-spec =
     (λ c κs. search needs)
     returns-4
     worthwhile-requires
-    searched-requires-2
+    (λ c κs. search needs)
     enough-requires
     returns-5
     loop-less

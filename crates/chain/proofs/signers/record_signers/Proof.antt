@@ -5,11 +5,8 @@ use Rattle.chain.proofs.signers.record_signers.Statement.{statement}
 use Rattle.chain.proofs.signers.record_signers.Tie as tie
 
 -- the points on the way, each from a later one
-abbrev matched : tie.After-chains-to-all → tie.After-matching-steps
-matched c = c .before .before .before .before
-
-abbrev known : tie.After-matching-steps → tie.After-roles-of
-known c = c .before .before
+abbrev known : tie.After-chains-to-all → tie.After-roles-of
+known c = c .before .before .before .before
 
 abbrev counted : tie.After-roles-of → tie.After-counting-lists
 counted c = c .before .before
@@ -20,14 +17,13 @@ opened c = c .before .before
 returns : tie.Need-returns
 returns c =
     let a = c .before .before in
-    let m = matched a in
-    let r = known m in
+    let r = known a in
     let n = counted r in
     let o = opened n in
     let l = o .before .before in
     let p = l .before .before .before .pre in
-    whole-records _ _ _ _ (p .0) _ _ _ (m .matching-steps .result) (p .1) (p .2) (o .open-all .ensures .1)
-    (n .counting-lists .ensures .0 (p .1)) (r .roles-of .ensures .0 (p .1)) (m .matching-steps .ensures) (a .chains-to-all .ensures)
+    whole-records _ _ _ _ (p .0) _ _ _ (p .1) (p .2) (o .open-all .ensures .1)
+    (n .counting-lists .ensures .0 (p .1)) (r .roles-of .ensures .0 (p .1)) (a .chains-to-all .ensures)
 
 pub record-signers-spec : {M : Type 1} → statement M
 record-signers-spec =
@@ -36,9 +32,6 @@ record-signers-spec =
     (λ c κs. search needs)
     (λ c κs. search needs)
     (λ c κs. search needs)
-    (λ c κs. search needs)
-    (λ c. search needs)
-    (λ c. search needs)
     (λ c κs. search needs)
     (λ c. search needs)
     returns)

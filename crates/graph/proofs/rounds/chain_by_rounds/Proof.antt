@@ -21,26 +21,26 @@ searched c = c .before .before
 returns : tie.Need-returns
 returns c =
     let a = c .before .before .before .before .args in
-    none (too-many (a .places) (a .roles .now) (a .steps .now) (a .target) (c .before .if1 .taken)) (c .no-chain .ensures)
+    none (too-many (a .places) (a .roles .now) _ (a .target) (c .before .if1 .taken)) (c .no-chain .ensures)
 
 returns-2 : tie.Need-returns-2
 returns-2 c =
     let s = c .before .before in
     let a = start s .args in
-    none (no-such-place (a .places) (a .roles .now) (a .steps .now) (a .target) (s .if1 .left) (c .before .if2 .taken)) (c .no-chain2 .ensures)
+    none (no-such-place (a .places) (a .roles .now) _ (a .target) (s .if1 .left) (c .before .if2 .taken)) (c .no-chain2 .ensures)
 
 returns-3 : tie.Need-returns-3
 returns-3 c =
     let o = c .before .before in
     let a = start (sized o) .args in
-    none (no-signer (a .places) (a .roles .now) (a .steps .now) (a .target) (λ e. c .before .if3 .taken (o .octet .ensures ∙ e))) (c .no-chain3 .ensures)
+    none (no-signer (a .places) (a .roles .now) _ (a .target) (λ e. c .before .if3 .taken (o .octet .ensures ∙ e))) (c .no-chain3 .ensures)
 
 returns-4 : tie.Need-returns-4
 returns-4 c =
     let d = c .before .before in
     let s = sized (searched d) in
     let a = start s .args in
-    unreached (a .places) (a .roles .now) (a .steps .now) (s .if1 .left) (round-searched (s .if1 .left) (d .distances .ensures)) (c .before .if4 .taken)
+    unreached (a .places) (a .roles .now) _ (s .if1 .left) (round-searched (s .if1 .left) (d .distances .ensures)) (c .before .if4 .taken)
     (c .no-chain4 .ensures)
 
 returns-5 : tie.Need-returns-5
@@ -52,7 +52,7 @@ returns-5 c =
     let s = sized o in
     let a = start s .args in
     let found = round-searched (s .if1 .left) (d .distances .ensures) in
-    reached (a .places) (a .roles .now) (a .steps .now) (s .if1 .left) found (o .before .if2 .left)
+    reached (a .places) (a .roles .now) _ (s .if1 .left) found (o .before .if2 .left)
     (sym (o .octet .ensures) ∙ d .before .if3 .left) (e .if4 .left)
     (c .wide .ensures ∙ round-long (s .if1 .left) (d .distances .ensures) (o .before .if2 .left)) (r .read-off .ensures found)
 

@@ -6,7 +6,7 @@ use Rattle.graph.specs.Chains.{graphOf}
 use Rattle.graph.specs.Search.{followed}
 use Rattle.graph.specs.Rounds.{InRound}
 use Rattle.graph.proofs.RoundTurns.{round-begin, round-room, round-next, round-end}
-use Rattle.graph.proofs.Turns.{distance-outside}
+use Rattle.graph.proofs.Walks.{distance-outside}
 use Rattle.graph.proofs.rounds.distances.Statement.{statement}
 use Rattle.graph.proofs.rounds.distances.Tie as tie
 

@@ -14,7 +14,7 @@ use Rattle.graph.specs.Rounds.{InRound}
 use Rattle.graph.proofs.Cases.{clash}
 use Rattle.graph.proofs.RoundTurns.{row-passed, row-done, rows-done}
 use Rattle.graph.proofs.Steps.{from-signer}
-use Rattle.graph.proofs.Turns.{distance-place}
+use Rattle.graph.proofs.Walks.{distance-place}
 use Rattle.graph.proofs.rounds.round.Statement.{statement}
 use Rattle.graph.proofs.rounds.round.Tie as tie
 
