@@ -28,10 +28,11 @@ pub(crate) fn fast_path(s: &[u8], at: usize, left: usize, most: usize, count: us
         if left < 2 {
             return 0;
         }
-        if most < count + 64 {
+        let read = flat(s, at, end, left, count);
+        if most < read {
             return 0;
         }
-        return flat(s, at, end, left, count);
+        return read;
     }
     if left == 0 {
         return 0;
@@ -91,11 +92,11 @@ fn judged(tag: u8, c: &[u8]) -> bool
     false
 }
 
-// The count of elements when the one at `i` has been read, if it holds leaves, but that the last one may be a SEQUENCE of them again, or if
+// The count of elements, by no limit, when the one at `i` has been read, if it holds leaves, but that the last one may be a SEQUENCE of them again, or if
 // it is a SET of one such SEQUENCE; else 0.
 fn flat(s: &[u8], i: usize, end: usize, left: usize, count: usize) -> usize
     requires { ⌜ (i + 2 ≤ end) × (end ≤ length (now s)) × (length (now s) < 2 ^ 32) × (2 ≤ left) × (count < 2 ^ 32) × (constructed (getD (now s) i 0) ≡ true) ⌝ }
-    ensures { λ r. ⌜ (0 < r → (forms : Forms) → count + 64 ≤ forms .elements → left ≤ forms .depth → Reads forms (stretch (now (s .entry)) i end) (forms .depth + 1 - left) count (2 + getD (now (s .entry)) (i + 1) 0) r) ⌝ }
+    ensures { λ r. ⌜ (0 < r → (forms : Forms) → r ≤ forms .elements → left ≤ forms .depth → Reads forms (stretch (now (s .entry)) i end) (forms .depth + 1 - left) count (2 + getD (now (s .entry)) (i + 1) 0) r) ⌝ }
 {
     let size = s[i + 1] as usize;
     if 128 <= size {
@@ -159,7 +160,7 @@ fn behind(s: &[u8], i: usize, after: usize, left: usize, count: usize) -> Place
 // ends where the list ends is read as the rest of the list, one deeper.
 fn leaves(s: &[u8], from: usize, end: usize, left: usize, count: usize) -> usize
     requires { ⌜ (from ≤ end) × (end ≤ from + 127) × (end ≤ length (now s)) × (length (now s) < 2 ^ 32) × (1 ≤ left) × (count ≤ 2 ^ 32 + 1) ⌝ }
-    ensures { λ r. ⌜ (0 < r → (forms : Forms) → 2 * count + (end - from) ≤ 2 * forms .elements + 1 → left ≤ forms .depth → Fills forms false (stretch (now (s .entry)) from end) (forms .depth + 1 - left) count r) ⌝ }
+    ensures { λ r. ⌜ (0 < r → (count ≤ r) × ((forms : Forms) → r ≤ forms .elements → left ≤ forms .depth → Fills forms false (stretch (now (s .entry)) from end) (forms .depth + 1 - left) count r)) ⌝ }
 {
     let mut i = from;
     let mut read = count;

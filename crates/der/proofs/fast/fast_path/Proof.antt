@@ -7,15 +7,13 @@ use Rattle.der.proofs.fast.fast_path.Statement.{statement}
 use Rattle.der.proofs.fast.fast_path.Tie as tie
 
 returns-4 : tie.Need-returns-4
-returns-4 c =
-    let back4 = c .before .before .before .before in
-    λ some.
-    let two = back4 .before in
-    (two .if1 .left, λ forms e levels. c .flat .ensures some forms (omega arith) levels)
+returns-4 c = λ some.
+    let two = c .before .before .before .before in
+    (two .before .if1 .left, λ forms e levels. c .before .flat .ensures some forms (omega arith) levels)
 
 flat-requires : tie.Need-flat-requires
 unfolding constructed
-flat-requires c κs = (omega arith, omega arith, omega arith, omega arith, omega arith, eq-eqb _ _ (c .before .before .if2 .taken))
+flat-requires c κs = (omega arith, omega arith, omega arith, omega arith, omega arith, eq-eqb _ _ (c .before .if2 .taken))
 
 primitive-requires : tie.Need-primitive-requires
 unfolding constructed
@@ -37,9 +35,8 @@ fast-path-spec =
     (λ c some. absurd (omega arith))
     (λ c. omega arith)
     (λ c some. absurd (omega arith))
-    (λ c. omega arith)
-    (λ c some. absurd (omega arith))
     flat-requires
+    (λ c some. absurd (omega arith))
     returns-4
     (λ c some. absurd (omega arith))
     (λ c some. absurd (omega arith))

@@ -34,27 +34,26 @@ module _ (s : List ℕ) (i end left count r : ℕ) (some : i + 2 ≤ end) (insid
   abbrev after : ℕ
   after = i + 2 + getD s (i + 1) 0
 
-  module _ (forms : Forms) (room : count + 64 ≤ forms .elements) (levels : left ≤ forms .depth) where
-    around : {set : Bool} → Listed set (getD s i 0) → Fills forms set (stretch s (i + 2) after) (forms .depth + 1 - left + 1) (count + 1) r
+  module _ (forms : Forms) (room : r ≤ forms .elements) (levels : left ≤ forms .depth) where
+    around : {set : Bool} → count < r → Listed set (getD s i 0) → Fills forms set (stretch s (i + 2) after) (forms .depth + 1 - left + 1) (count + 1) r
         → Reads forms (stretch s i end) (forms .depth + 1 - left) count (2 + getD s (i + 1) 0) r
-    around l = list-reads forms s i end some inside (forms .depth + 1 - left) count r (omega arith) (omega arith) l refl fits short
+    around more l = list-reads forms s i end some inside (forms .depth + 1 - left) count r (omega arith) (omega arith) l refl fits short
 
     reads : {from deep read : ℕ} → Headed s i after left count from deep read
-        → (2 * read + (after - from) ≤ 2 * forms .elements + 1 → deep ≤ forms .depth
-        → Fills forms false (stretch s from after) (forms .depth + 1 - deep) read r)
+        → read ≤ r → (deep ≤ forms .depth → Fills forms false (stretch s from after) (forms .depth + 1 - deep) read r)
         → Reads forms (stretch s i end) (forms .depth + 1 - left) count (2 + getD s (i + 1) 0) r
-    reads (one known kind) f =
+    reads (one known kind) more f =
         let deeper : forms .depth + 1 - (left - 1) ≡ forms .depth + 1 - left + 1 = omega arith in
-        around (record { known = known; node = node; kind = kind })
-        (subst (λ n. Fills forms false (stretch s (i + 2) after) n (count + 1) r) deeper (f (omega arith) (omega arith)))
-    reads (two tag three four last) f =
+        around (omega arith) (record { known = known; node = node; kind = kind })
+        (subst (λ n. Fills forms false (stretch s (i + 2) after) n (count + 1) r) deeper (f (omega arith)))
+    reads (two tag three four last) more f =
         let deeper : forms .depth + 1 - (left - 2) ≡ forms .depth + 1 - left + 1 + 1 = omega arith in
         let from : i + 4 ≡ i + 2 + 2 = omega arith in
-        let more : count + 2 ≡ count + 1 + 1 = omega arith in
-        around (set-of _ tag)
+        let next : count + 2 ≡ count + 1 + 1 = omega arith in
+        around (omega arith) (set-of _ tag)
         (last-fills forms s (i + 2) after (omega arith) (omega arith) (forms .depth + 1 - left + 1) (count + 1) r (omega arith) (omega arith)
         last (omega (arith, last .ends))
-        (rw (← deeper, ← from, ← more) (f (omega arith) (omega arith))) true)
+        (rw (← deeper, ← from, ← next) (f (omega arith))) true)
 
 -- The call.
 abbrev called : tie.Else2 → tie.Start
@@ -94,7 +93,7 @@ returns-4 c = λ some forms room levels.
     let start = called tests in
     reads (start .args .s .now) (start .args .i) (start .args .end) (start .args .left) (start .args .count) (c .leaves .result)
     (start .pre .0) (start .pre .1) (start .pre .3) (start .pre .5) (tests .before .if1 .left) (tests .if2 .left) forms room levels
-    (headed (c .before)) λ fewer deeper. c .leaves .ensures some forms fewer deeper
+    (headed (c .before)) (c .leaves .ensures some .0) (c .leaves .ensures some .1 forms room)
 
 pub flat-spec : {M : Type 1} → statement M
 flat-spec =
