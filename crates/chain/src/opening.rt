@@ -1,5 +1,5 @@
 // The items of the places that are near, each opened once.
-use image::entry_in;
+use image::entry_of;
 use octets::part;
 use usable::of_country;
 use usable::open_item;
@@ -8,13 +8,14 @@ ghost use Prim.Native.Nat.{_≤_, _<_};
 ghost use mathlib.Core.List.{List};
 ghost use lib.ListN.{length};
 ghost use Rattle.image.specs.Items.{Item};
-ghost use Rattle.image.specs.Index.{entryCount, itemsIn};
+ghost use Rattle.image.specs.Index.{entryCount, versionIn, itemsIn};
 ghost use Rattle.usable.specs.Items.{itemAt};
 ghost use Rattle.chain.specs.Near.{freshOf};
 ghost use Rattle.chain.specs.Rounds.{startsIn, speaksUp, wantedOf, Opens};
 
 // The rows of the places that were not near before; the others stay as they are.
 pub(crate) fn open_items(
+    version: usize,
     image: &[u8],
     table: &[u8],
     places: usize,
@@ -25,13 +26,13 @@ pub(crate) fn open_items(
     near: [u8; 96],
     rows: &mut [[usize; 17]; 96],
 )
-    requires { ⌜ (places ≡ entryCount (now image)) × (places ≤ 96) × (length (now rows) ≡ 96) ⌝ }
+    requires { ⌜ (version ≡ versionIn (now image)) × (places ≡ entryCount (now image)) × (places ≤ 96) × (length (now rows) ≡ 96) ⌝ }
     ensures { λ r. ⌜ (length (now (rows .exit)) ≡ 96) × Opens moment first second places (now (table .entry)) (itemsIn (now (image .entry))) (startsIn (now (image .entry))) before near (now (rows .entry)) (now (rows .exit)) ⌝ }
 {
     let mut place = 0;
     while place < places {
         if fresh(before[place], near[place]) {
-            let e = entry_in(image, place);
+            let e = entry_of(version, image, place);
             let item = part(image, e.offset, e.length);
             if wanted(table, places, place, item, e.kind, first, second) {
                 let row = open_item(item, e.kind, e.flags, e.offset, moment);

@@ -5,7 +5,7 @@ use crate::given::roles_fit;
 use crate::given::steps_fit;
 use crate::near::near_first;
 use crate::opening::open_items;
-use image::entry_in;
+use image::entry_of;
 use octets::part;
 use refusal::Refusal;
 use usable::counting_lists;
@@ -15,7 +15,7 @@ ghost use mathlib.Core.Path.{_≡_};
 ghost use Prim.Native.Nat.{_≤_, _<_};
 ghost use lib.ListN.{getD};
 ghost use Rattle.graph.specs.Chains.{Chain};
-ghost use Rattle.image.specs.Index.{entryCount, entryIn, itemsIn};
+ghost use Rattle.image.specs.Index.{entryCount, versionIn, entryIn, itemsIn};
 ghost use Rattle.usable.specs.Items.{itemAt};
 ghost use Rattle.usable.specs.Rows.{rowFrom, rowOf};
 ghost use Rattle.chain.specs.Answer.{goodChains};
@@ -32,19 +32,29 @@ pub enum Proposal {
 pub fn propose(image: &[u8], table: &[u8], moment: u64, target: u64, places: &[u8]) -> Proposal
     ensures { λ r. ⌜ Proposed (now (image .entry)) (now (table .entry)) moment target (now (places .entry)) r ⌝ }
 {
-    let count = match question(image, table, moment, target) {
-        Asked::Refused(refusal) => {
-            return Proposal::Refused(refusal);
+    match question(image, table, moment, target) {
+        Asked::Refused(refusal) => Proposal::Refused(refusal),
+        Asked::Over {
+            places: count,
+            version,
+        } => {
+            if !range_good(count, places) {
+                return Proposal::Refused(Refusal::Argument);
+            }
+            if !good_chain(
+                version,
+                image,
+                table,
+                count,
+                moment,
+                target as usize,
+                places,
+            ) {
+                return Proposal::Refused(Refusal::Chain);
+            }
+            Proposal::Accepted
         }
-        Asked::Over { places: entries } => entries,
-    };
-    if !range_good(count, places) {
-        return Proposal::Refused(Refusal::Argument);
     }
-    if !good_chain(image, table, count, moment, target as usize, places) {
-        return Proposal::Refused(Refusal::Chain);
-    }
-    Proposal::Accepted
 }
 
 // 2 to 96 places, all in the image.
@@ -75,6 +85,7 @@ fn all_there(count: usize, places: &[u8]) -> bool
 
 // The target is opened first: where it cannot stand in a chain there is none.
 fn good_chain(
+    version: usize,
     image: &[u8],
     table: &[u8],
     count: usize,
@@ -82,20 +93,21 @@ fn good_chain(
     target: usize,
     places: &[u8],
 ) -> bool
-    requires { ⌜ (count ≡ entryCount (now image)) × (count ≤ 96) × (target < count) × (entryIn (now image) target .kind ≡ 3) × InRange count (now places) ⌝ }
+    requires { ⌜ (version ≡ versionIn (now image)) × (count ≡ entryCount (now image)) × (count ≤ 96) × (target < count) × (entryIn (now image) target .kind ≡ 3) × InRange count (now places) ⌝ }
     ensures { λ r. ⌜ Decides (Chain (goodChains (now (image .entry)) (now (table .entry)) moment) target (now (places .entry))) r ⌝ }
 {
-    let e = entry_in(image, target);
+    let e = entry_of(version, image, target);
     let item = part(image, e.offset, e.length);
     let signer = open_item(item, e.kind, e.flags, e.offset, moment);
     if signer[0] == 0 {
         return false;
     }
-    good_home(image, table, count, moment, target, signer, places)
+    good_home(version, image, table, count, moment, target, signer, places)
 }
 
 // Of the other items the links that are named are opened, and the anchors and CRLs of the target's country.
 fn good_home(
+    version: usize,
     image: &[u8],
     table: &[u8],
     count: usize,
@@ -104,7 +116,7 @@ fn good_home(
     signer: [usize; 17],
     places: &[u8],
 ) -> bool
-    requires { ⌜ (count ≡ entryCount (now image)) × (count ≤ 96) × (target < count) × (entryIn (now image) target .kind ≡ 3) × (rowFrom signer ≡ rowOf moment (itemAt (itemsIn (now image)) target) (startsIn (now image) target)) × (getD signer 0 0 ≡ 0 → ⊥) × InRange count (now places) ⌝ }
+    requires { ⌜ (version ≡ versionIn (now image)) × (count ≡ entryCount (now image)) × (count ≤ 96) × (target < count) × (entryIn (now image) target .kind ≡ 3) × (rowFrom signer ≡ rowOf moment (itemAt (itemsIn (now image)) target) (startsIn (now image) target)) × (getD signer 0 0 ≡ 0 → ⊥) × InRange count (now places) ⌝ }
     ensures { λ r. ⌜ Decides (Chain (goodChains (now (image .entry)) (now (table .entry)) moment) target (now (places .entry))) r ⌝ }
 {
     let nothing = [0u8; 96];
@@ -114,8 +126,9 @@ fn good_home(
     rows[target] = signer;
     let mut opened = [0u8; 96];
     opened[target] = 1;
-    let near = near_named(near_first(image, count, target), places);
+    let near = near_named(near_first(version, image, count, target), places);
     open_items(
+        version,
         image,
         table,
         count,

@@ -1,8 +1,10 @@
 -- A blank row is of a target that no chain leads to; else the tables decide.
 use Prim.Native.Nat.{_<_}
+use mathlib.Core.Path.{_∙_}
 use native.Mathlib.Omega.{arith}
 use borrow.Author.Needs.{needs}
 use Rattle.image.specs.Index.{entryCount}
+use Rattle.image.proofs.Places.{entry-own}
 use Rattle.chain.specs.Given.{no}
 use Rattle.chain.proofs.ImageRounds.{blank-target}
 use Rattle.chain.proofs.PlacesMean.{row-read}
@@ -10,10 +12,10 @@ use Rattle.chain.proofs.proposal.good_chain.Statement.{statement}
 use Rattle.chain.proofs.proposal.good_chain.Tie as tie
 
 -- the points before the target's row is open, each from a later one
-abbrev found : tie.After-open-item → tie.After-entry-in
+abbrev found : tie.After-open-item → tie.After-entry-of
 found c = c .before .before
 
-abbrev start : tie.After-entry-in → tie.Start
+abbrev start : tie.After-entry-of → tie.Start
 start c = c .before .before .before .before
 
 returns : tie.Need-returns
@@ -21,19 +23,19 @@ returns c =
     let o = c .before in
     let f = found o in
     let s = start f in
-    let there : s .args .target < entryCount (s .args .image .now) = omega (arith, s .pre .0, s .pre .2) in
+    let there : s .args .target < entryCount (s .args .image .now) = omega (arith, s .pre .1, s .pre .3) in
     no
-    (blank-target _ _ _ _ _ (s .pre .0) (o .open-item .result)
-    (row-read _ _ there (f .entry-in .ensures) (o .before .part .ensures) _ (o .open-item .ensures)) (c .if1 .taken) _)
+    (blank-target _ _ _ _ _ (s .pre .1) (o .open-item .result)
+    (row-read _ _ there (f .entry-of .ensures ∙ entry-own _ (s .pre .0) _) (o .before .part .ensures) _ (o .open-item .ensures)) (c .if1 .taken) _)
 
 good-home-requires : tie.Need-good-home-requires
 good-home-requires c κs =
     let o = c .before in
     let f = found o in
     let s = start f in
-    let there : s .args .target < entryCount (s .args .image .now) = omega (arith, s .pre .0, s .pre .2) in
-    let row = row-read _ _ there (f .entry-in .ensures) (o .before .part .ensures) _ (o .open-item .ensures) in
-    (s .pre .0, s .pre .1, s .pre .2, s .pre .3, row, c .if1 .left, s .pre .4)
+    let there : s .args .target < entryCount (s .args .image .now) = omega (arith, s .pre .1, s .pre .3) in
+    let row = row-read _ _ there (f .entry-of .ensures ∙ entry-own _ (s .pre .0) _) (o .before .part .ensures) _ (o .open-item .ensures) in
+    (s .pre .0, s .pre .1, s .pre .2, s .pre .3, s .pre .4, row, c .if1 .left, s .pre .5)
 
 pub good-chain-spec : {M : Type 1} → statement M
 good-chain-spec =

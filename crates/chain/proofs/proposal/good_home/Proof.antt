@@ -21,13 +21,13 @@ abbrev opened : tie.After-roles-of → tie.After-rows2
 opened c = c .before .before .before
 
 near-named-requires : tie.Need-near-named-requires
-near-named-requires c κs = let s = start c in range-more _ (s .pre .1) (s .pre .6)
+near-named-requires c κs = let s = start c in range-more _ (s .pre .2) (s .pre .7)
 
 open-items-requires : tie.Need-open-items-requires
-open-items-requires c κs = let s = start (c .before .before) in (s .pre .0, s .pre .1, rw length-set refl)
+open-items-requires c κs = let s = start (c .before .before) in (s .pre .0, s .pre .1, s .pre .2, rw length-set refl)
 
 roles-fit-requires : tie.Need-roles-fit-requires
-roles-fit-requires c κs = let s = start (marked (opened c)) in range-more _ (s .pre .1) (s .pre .6)
+roles-fit-requires c κs = let s = start (marked (opened c)) in range-more _ (s .pre .2) (s .pre .7)
 
 returns : tie.Need-returns
 returns c =
@@ -39,14 +39,14 @@ returns c =
     no
     (λ d.
     not-so (c .before .roles-fit .ensures) (not-true _ (c .if1 .taken))
-    (good-fits _ _ _ _ _ (s .pre .0) {roles = w .roles-of .result}
-    (first-round _ _ _ _ _ (s .pre .0) (named-marks _ _ _ named (n .near-first .ensures)) (s .args .t6) (s .pre .1) (s .pre .2) (s .pre .3)
-    (s .pre .4) (s .pre .5) (m .before .open-items .ensures .1) (w .before .before .counting-lists .ensures .0 (s .pre .1))
-    (w .roles-of .ensures .0 (s .pre .1)))
-    (s .pre .6) (named-links _ _ _ named (n .near-first .ensures) (s .pre .6)) d .0))
+    (good-fits _ _ _ _ _ (s .pre .1) {roles = w .roles-of .result}
+    (first-round _ _ _ _ _ (s .pre .1) (named-marks _ _ _ named (n .near-first .ensures)) (s .args .t7) (s .pre .2) (s .pre .3) (s .pre .4)
+    (s .pre .5) (s .pre .6) (m .before .open-items .ensures .1) (w .before .before .counting-lists .ensures .0 (s .pre .2))
+    (w .roles-of .ensures .0 (s .pre .2)))
+    (s .pre .7) (named-links _ _ _ named (n .near-first .ensures) (s .pre .7)) d .0))
 
 steps-fit-requires : tie.Need-steps-fit-requires
-steps-fit-requires c κs = let s = start (marked (opened (c .before .before .before))) in (s .pre .1, s .pre .6)
+steps-fit-requires c κs = let s = start (marked (opened (c .before .before .before))) in (s .pre .2, s .pre .7)
 
 returns-2 : tie.Need-returns-2
 returns-2 c =
@@ -57,12 +57,12 @@ returns-2 c =
     let s = start n in
     let named = m .before .before .before .near-named .ensures in
     let round =
-    first-round _ _ _ _ _ (s .pre .0) (named-marks _ _ _ named (n .near-first .ensures)) (s .args .t6) (s .pre .1) (s .pre .2) (s .pre .3)
-    (s .pre .4) (s .pre .5) (m .before .open-items .ensures .1) (w .before .before .counting-lists .ensures .0 (s .pre .1))
-    (w .roles-of .ensures .0 (s .pre .1)) in
+    first-round _ _ _ _ _ (s .pre .1) (named-marks _ _ _ named (n .near-first .ensures)) (s .args .t7) (s .pre .2) (s .pre .3) (s .pre .4)
+    (s .pre .5) (s .pre .6) (m .before .open-items .ensures .1) (w .before .before .counting-lists .ensures .0 (s .pre .2))
+    (w .roles-of .ensures .0 (s .pre .2)) in
     both-ways
-    (λ steps. fits-good _ _ _ _ _ (s .pre .0) round (s .pre .6) (so (f .roles-fit .ensures) (not-false _ (c .before .before .if1 .left))) steps)
-    (λ d. good-fits _ _ _ _ _ (s .pre .0) round (s .pre .6) (named-links _ _ _ named (n .near-first .ensures) (s .pre .6)) d .1)
+    (λ steps. fits-good _ _ _ _ _ (s .pre .1) round (s .pre .7) (so (f .roles-fit .ensures) (not-false _ (c .before .before .if1 .left))) steps)
+    (λ d. good-fits _ _ _ _ _ (s .pre .1) round (s .pre .7) (named-links _ _ _ named (n .near-first .ensures) (s .pre .7)) d .1)
     (c .steps-fit .ensures)
 
 pub good-home-spec : {M : Type 1} → statement M
