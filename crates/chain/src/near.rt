@@ -1,5 +1,5 @@
 // Which places a round opens: 1 for these, 2 for a link that is not among them, else 0.
-use image::kind_of;
+use image::kinds_in;
 use octets::octet;
 use usable::led;
 ghost use mathlib.Core.Path.{_≡_};
@@ -18,16 +18,17 @@ pub(crate) fn near_first(version: usize, image: &[u8], places: usize, target: us
     requires { ⌜ (version ≡ versionIn (now image)) × (places ≡ entryCount (now image)) × (places ≤ 96) ⌝ }
     ensures { λ r. ⌜ ((p : ℕ) → p < places → getD r p 0 ≡ firstOf target p (itemAt (itemsIn (now (image .entry))) p .kind)) ⌝ }
 {
+    let kinds = kinds_in(version, image);
     let mut near = [0u8; 96];
     let mut place = 0;
     while place < places {
-        near[place] = first(kind_of(version, image, place), place, target);
+        near[place] = first(kinds[place], place, target);
         place += 1;
     }
     near
 }
 
-fn first(kind: usize, place: usize, target: usize) -> u8
+fn first(kind: u8, place: usize, target: usize) -> u8
     ensures { λ r. ⌜ r ≡ firstOf target place kind ⌝ }
 {
     if place == target {

@@ -1,12 +1,13 @@
 // The trust image: its entries and day, one entry, the bytes of an item.
 use calendar::real_day;
+use octets::octet;
 use octets::part;
 use refusal::Refusal;
 ghost use mathlib.Core.Path.{_≡_};
 ghost use mathlib.Core.Bool.{cond};
-ghost use Prim.Native.Nat.{_+_, _*_, _^_, _≤_, _<_};
+ghost use Prim.Native.Nat.{ℕ, _+_, _*_, _^_, _≤_, _<_};
 ghost use lib.Dec.{leb, eqb};
-ghost use lib.ListN.{length, take, drop};
+ghost use lib.ListN.{length, getD, take, drop};
 ghost use Rattle.octets.specs.Octets.{number};
 ghost use Rattle.image.specs.Index.{field, indexStart, width, letterAt, entryAt, entryOf};
 ghost use Rattle.image.specs.Rules.{fieldsGood, entryGood, padded, sumOf};
@@ -194,19 +195,20 @@ pub fn entry_of(version: usize, image: &[u8], place: usize) -> IndexEntry
     entry_at(version, image, at)
 }
 
-// The kind in the entry of a place.
-pub fn kind_of(version: usize, image: &[u8], place: usize) -> usize
-    ensures { λ r. ⌜ r ≡ entryOf version (now (image .entry)) place .kind ⌝ }
+// The kinds in the entries of 96 places; 0 where the octet is not there.
+pub fn kinds_in(version: usize, image: &[u8]) -> [u8; 96]
+    ensures { λ r. ⌜ ((place : ℕ) → place < 96 → getD r place 0 ≡ entryOf version (now (image .entry)) place .kind) ⌝ }
 {
-    let n = image.len();
-    if place <= n / LEAST {
-        let kind_at = entry_start(version, image, place);
-        if kind_at < n {
-            return image[kind_at] as usize;
-        }
+    let wide = width(version);
+    let mut kinds = [0u8; 96];
+    let mut at = index_start(image);
+    let mut place = 0;
+    while place < 96 {
+        kinds[place] = octet(image, at);
+        at += wide;
+        place += 1;
     }
-    let e = entry_of(version, image, place);
-    e.kind
+    kinds
 }
 
 // Where the entry of a place starts, if so many of the least entries have room in the image: no sum wraps.
@@ -232,13 +234,15 @@ fn entry_at(version: usize, image: &[u8], at: usize) -> IndexEntry
     requires { ⌜ at + width version ≤ length (now image) ⌝ }
     ensures { λ r. ⌜ (r ≡ entryAt version (now (image .entry)) at) × (r .length < 65536) ⌝ }
 {
+    let first = letter(version, image, at + 8);
+    let second = letter(version, image, at + 9);
     IndexEntry {
         kind: image[at] as usize,
         flags: image[at + 1] as usize,
         length: two(image, at + 2),
         offset: four(image, at + 4),
-        first: letter(version, image, at + 8),
-        second: letter(version, image, at + 9),
+        first,
+        second,
     }
 }
 
@@ -374,10 +378,13 @@ pub fn fields_good(kind: usize, flags: usize, length: usize) -> bool
 fn flags_good(kind: usize, flags: usize) -> bool
     ensures { λ r. ⌜ r ≡ cond (eqb kind 1) (leb flags 1) (eqb flags 0) ⌝ }
 {
-    if kind == 1 {
-        return flags <= 1;
+    if flags == 0 {
+        return true;
     }
-    flags == 0
+    if kind != 1 {
+        return false;
+    }
+    flags == 1
 }
 
 fn broken(rule: u64) -> Opened
