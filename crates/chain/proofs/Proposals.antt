@@ -1,21 +1,17 @@
--- The range of a proposal place by place, the links that it names, and what is decided of it.
-use Prim.Native.Nat.{ℕ, zero, suc, _+_, _-_, _<_, _≤_}
+-- The range of a proposal place by place, the places that it names, and what is decided of it.
+use Prim.Native.Nat.{ℕ, zero, suc, _+_, _<_, _≤_}
 use mathlib.Core.Path.{_≡_, refl, sym, _∙_}
-use mathlib.Core.Bool.{Bool, true, false, cond, _&&_}
+use mathlib.Core.Bool.{Bool, true, false, _&&_}
 use mathlib.Core.List.{List, [], _∷_}
 use mathlib.Core.Logic.{_⊎_, inl, inr, ⊎-elim}
 use native.Mathlib.Omega.{arith}
 use borrow.Author.Count.{below-more}
-use borrow.Author.Tests.{ltb-true, lt-ltb, le-ltb, leb-true, le-leb, eqb-true, eqb-false, eq-eqb}
+use borrow.Author.Tests.{ltb-true, lt-ltb, le-ltb, leb-true, le-leb, eqb-true, eqb-false}
 use lib.Dec.{leb, ltb, eqb}
 use lib.ListN.{length, getD, set}
 use lib.Seq.{getD-set-same, getD-set-other}
-use Rattle.image.specs.Items.{Item}
-use Rattle.usable.specs.Items.{itemAt}
-use Rattle.usable.specs.Rows.{isNear}
 use Rattle.usable.proofs.Booleans.{false-true, first, second}
-use Rattle.chain.specs.Near.{firstOf}
-use Rattle.chain.specs.Given.{Decides, yes, no, InRange, Named, roleAsked, RolesFit}
+use Rattle.chain.specs.Given.{Decides, yes, no, InRange, Named}
 use Rattle.chain.specs.Proposal.{inside, rangeGood}
 
 -- what is decided, either way
@@ -70,26 +66,10 @@ module _ (n : ℕ) where
   pub range-more : {m : ℕ} {c : List ℕ} → n ≤ m → InRange n c → InRange m c
   range-more few r = record { two = r .two; most = r .most; inside = λ i h. omega (arith, r .inside i h) }
 
--- what is near at first and named
-module _ (items : List Item) (target n : ℕ) {c before near : List ℕ} (named : Named c before near) (firsts : (p : ℕ) → p < n → getD before p 0 ≡ firstOf target p (itemAt items p .kind)) where
-  pub named-marks : (p : ℕ) → p < n → (getD near p 0 ≡ 1) ⊎ (getD near p 0 ≡ firstOf target p (itemAt items p .kind))
-  named-marks p h = ⊎-elim (λ e. inl e) (λ e. inr (e ∙ firsts p h)) (named .kept p)
-
-  pub named-links : InRange n c → (i : ℕ) → i < length c → itemAt items (getD c i 0) .kind ≡ 2 → isNear near (getD c i 0) ≡ true
-  unfolding isNear firstOf
-  named-links range i h two = go (eqb (getD c i 0) target) refl
-    where
-      here : getD before (getD c i 0) 0 ≡ cond (eqb (getD c i 0) target) 1 2
-      here = rw two at (firsts (getD c i 0) (range .inside i h))
-
-      go : (t : Bool) → eqb (getD c i 0) target ≡ t → eqb (getD near (getD c i 0) 0) 1 ≡ true
-      go true e = eq-eqb _ 1 (⊎-elim (λ k. k) (λ k. k ∙ (rw e at here)) (named .kept (getD c i 0)))
-      go false e = eq-eqb _ 1 (named .named i h (rw e at here))
-
--- the links of the first places are marked
+-- the first places are marked
 pub record Marking (c before near : List ℕ) (i : ℕ) : Type 0 where
   pub kept : (p : ℕ) → (getD near p 0 ≡ 1) ⊎ (getD near p 0 ≡ getD before p 0)
-  pub named : (k : ℕ) → k < i → getD before (getD c k 0) 0 ≡ 2 → getD near (getD c k 0) 0 ≡ 1
+  pub named : (k : ℕ) → k < i → getD near (getD c k 0) 0 ≡ 1
 
 pub marking-start : (c before : List ℕ) → Marking c before before 0
 marking-start c before = record { kept = λ p. inr refl; named = λ k h. absurd (omega arith) }
@@ -98,12 +78,12 @@ pub marking-all : {c before near : List ℕ} {i : ℕ} → Marking c before near
 marking-all m all = record { kept = m .kept; named = λ k h. m .named k (omega arith) }
 
 module _ {c before near : List ℕ} (i : ℕ) (m : Marking c before near i) where
-  -- one place more, marked or not
+  -- one place more
   pub marking-set : getD c i 0 < length near → Marking c before (set near (getD c i 0) 1) (i + 1)
   marking-set room =
       record {
         kept = λ p. ⊎-elim (λ e. inl (marked p e)) (λ e. other p e (eqb p (getD c i 0)) refl) (m .kept p);
-        named = below-more _ i (λ k h two. marked (getD c k 0) (m .named k h two)) (λ two. getD-set-same near (getD c i 0) 1 0 room);
+        named = below-more _ i (λ k h. marked (getD c k 0) (m .named k h)) (getD-set-same near (getD c i 0) 1 0 room);
       }
     where
       marked : (p : ℕ) → getD near p 0 ≡ 1 → getD (set near (getD c i 0) 1) p 0 ≡ 1
@@ -118,18 +98,3 @@ module _ {c before near : List ℕ} (i : ℕ) (m : Marking c before near i) wher
           → (getD (set near (getD c i 0) 1) p 0 ≡ 1) ⊎ (getD (set near (getD c i 0) 1) p 0 ≡ getD before p 0)
       other p e true q = let same = eqb-true p (getD c i 0) q in inl (rw same (getD-set-same near (getD c i 0) 1 0 room))
       other p e false q = inr (getD-set-other near (getD c i 0) p 1 0 (eqb-false p (getD c i 0) q) ∙ e)
-
-  pub marking-left : (getD before (getD c i 0) 0 ≡ 2 → ⊥) → Marking c before near (i + 1)
-  marking-left other = record { kept = m .kept; named = below-more _ i (m .named) (λ two. absurd (other two)) }
-
--- where each place has its role the last one decides
-pub roles-decided :
-    (roles : List ℕ) (target : ℕ) (c : List ℕ) → 2 ≤ length c
-    → ((i : ℕ) → i < length c → getD roles (getD c i 0) 0 ≡ roleAsked (length c) i)
-    → Decides (RolesFit roles target c) (eqb (getD c (length c - 1) 0) target)
-roles-decided roles target c two each = go (eqb (getD c (length c - 1) 0) target) refl
-  where
-    go : (t : Bool) → eqb (getD c (length c - 1) 0) target ≡ t → Decides (RolesFit roles target c) t
-    go true e =
-        yes (record { each = each; last = λ i h. let k : i ≡ length c - 1 = omega arith in rw k (eqb-true (getD c (length c - 1) 0) target e) })
-    go false e = no (λ fit. eqb-false (getD c (length c - 1) 0) target e (fit .last (length c - 1) (omega arith)))

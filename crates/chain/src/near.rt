@@ -6,7 +6,7 @@ ghost use mathlib.Core.Path.{_≡_};
 ghost use mathlib.Core.Bool.{true};
 ghost use Prim.Native.Nat.{ℕ, _≤_, _<_};
 ghost use lib.ListN.{getD};
-ghost use Rattle.chain.specs.Near.{firstOf, markedOf, Near, Wider};
+ghost use Rattle.chain.specs.Near.{firstOf, waitingOf, markedOf, Near, Wider};
 ghost use Rattle.image.specs.Index.{entryCount, versionIn, itemsIn};
 ghost use Rattle.usable.specs.Items.{itemAt};
 
@@ -26,6 +26,31 @@ pub(crate) fn near_first(version: usize, image: &[u8], places: usize, target: us
         place += 1;
     }
     near
+}
+
+// Of a proposal the CRLs; an anchor waits until a verdict for one of them is seen.
+pub(crate) fn near_lists(kinds: [u8; 96]) -> [u8; 96]
+    ensures { λ r. ⌜ ((p : ℕ) → p < 96 → getD r p 0 ≡ waitingOf (getD kinds p 0)) ⌝ }
+{
+    let mut near = [0u8; 96];
+    let mut place = 0;
+    while place < 96 {
+        near[place] = waiting(kinds[place]);
+        place += 1;
+    }
+    near
+}
+
+fn waiting(kind: u8) -> u8
+    ensures { λ r. ⌜ r ≡ waitingOf kind ⌝ }
+{
+    if kind == 4 {
+        return 1;
+    }
+    if kind == 1 {
+        return 2;
+    }
+    0
 }
 
 fn first(kind: u8, place: usize, target: usize) -> u8
@@ -73,7 +98,8 @@ fn with_links(places: usize, near: [u8; 96]) -> [u8; 96]
     more
 }
 
-fn with_signers(table: &[u8], places: usize, near: [u8; 96], roles: [u8; 96]) -> [u8; 96]
+// The places that wait and have verdict 1 for one of these roles are near too.
+pub(crate) fn with_signers(table: &[u8], places: usize, near: [u8; 96], roles: [u8; 96]) -> [u8; 96]
     requires { ⌜ places ≤ 96 ⌝ }
     ensures { λ r. ⌜ Near places (now (table .entry)) roles near r ⌝ }
 {

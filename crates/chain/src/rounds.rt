@@ -7,14 +7,13 @@ use crate::near::LAST;
 use crate::near::near_first;
 use crate::near::near_next;
 use crate::near::unchanged;
+use crate::opening::open_first;
 use crate::opening::open_items;
+use crate::opening::open_place;
 use graph::Found;
 use graph::chain_to;
 use graph::no_chain;
-use image::entry_of;
-use octets::part;
 use usable::counting_lists;
-use usable::open_item;
 use usable::roles_of;
 ghost use mathlib.Core.Path.{_≡_};
 ghost use mathlib.Core.Bool.{true};
@@ -39,9 +38,7 @@ pub(crate) fn chain_among(
     requires { ⌜ (version ≡ versionIn (now image)) × (places ≡ entryCount (now image)) × (places ≤ 96) × (target < places) × (entryIn (now image) target .kind ≡ 3) ⌝ }
     ensures { λ r. ⌜ search.Answered (goodChains (now (image .entry)) (now (table .entry)) moment) target r ⌝ }
 {
-    let e = entry_of(version, image, target);
-    let item = part(image, e.offset, e.length);
-    let signer = open_item(item, e.kind, e.flags, e.offset, moment);
+    let signer = open_place(version, image, moment, target);
     if signer[0] == 0 {
         return no_chain();
     }
@@ -68,19 +65,15 @@ fn chain_home(
     let first = signer[1];
     let second = signer[2];
     let mut rows = [[0usize; 17]; 96];
-    rows[target] = signer;
-    let mut opened = [0u8; 96];
-    opened[target] = 1;
     let mut near = near_first(version, image, places, target);
-    open_items(
+    open_first(
         version,
         image,
         table,
         places,
         moment,
-        first,
-        second,
-        opened,
+        target,
+        signer,
         near,
         &mut rows,
     );
