@@ -16,7 +16,7 @@ use Rattle.usable.specs.Items.{itemAt, listAt}
 use Rattle.usable.specs.Usable.{counts, covers}
 use Rattle.usable.specs.Steps.{hasKind}
 use Rattle.usable.specs.Table.{verdictIn}
-use Rattle.usable.specs.Rows.{blank, rowFrom, rowOf, rowAt, isNear, ledOf, Counted, Roles}
+use Rattle.usable.specs.Rows.{blank, rowFrom, rowOf, rowAt, isNear, Counted, Roles}
 use Rattle.usable.proofs.Booleans.{false-true, first, second, middle, both-true}
 use Rattle.usable.proofs.CountingMeans.{anchor-kind, counting-means}
 use Rattle.usable.proofs.RolesMean.{roles-mean}
@@ -24,9 +24,9 @@ use Rattle.usable.proofs.RowReadings.{currentOf, Reading, reading, certificate,
 use Rattle.usable.proofs.Scope.{Placed, Told, Scope}
 use Rattle.usable.proofs.StandingMeans.{standing-list}
 use Rattle.chain.specs.Good.{chains}
-use Rattle.chain.specs.Near.{waitingOf, Near}
+use Rattle.chain.specs.Near.{waitingOf}
 use Rattle.chain.specs.Rounds.{hereOf, Opens}
-use Rattle.chain.specs.Given.{InRange, Named, listOf}
+use Rattle.chain.specs.Given.{InRange, Named, listOf, Vouching}
 use Rattle.chain.proofs.FirstRound.{no-slots, first-told, first-kept, row-home}
 use Rattle.chain.proofs.GivenChain.{Tabled}
 use Rattle.chain.proofs.Homes.{home, country-same}
@@ -85,7 +85,7 @@ module _ (items : List Item) (moment : ℕ) where
       go false k e n f = refl
 
 -- the marks at first, and those with the anchors that have verdict 1 for a CRL
-module _ (a b : ℕ) (items : List Item) (at : ℕ → ℕ) (table : List ℕ) (moment : ℕ) (c before near wider lists : List ℕ) (rows : List (List ℕ)) (firsts : (p : ℕ) → p < length items → getD before p 0 ≡ waitingOf (itemAt items p .kind)) (named : Named c before near) (voucher : Near (length items) table lists near wider) (listed : (p : ℕ) → p < length items → getD lists p 0 ≡ listOf (rowAt rows p)) (told : Told moment items at (isOpen a b items table near) rows) where
+module _ (a b : ℕ) (items : List Item) (at : ℕ → ℕ) (table : List ℕ) (moment : ℕ) (c before near wider lists : List ℕ) (rows : List (List ℕ)) (firsts : (p : ℕ) → p < length items → getD before p 0 ≡ waitingOf (itemAt items p .kind)) (named : Named c before near) (voucher : Vouching (length items) table lists near wider) (listed : (p : ℕ) → p < length items → getD lists p 0 ≡ listOf (rowAt rows p)) (told : Told moment items at (isOpen a b items table near) rows) where
   abbrev there : ℕ → Bool
   there p = isOpen a b items table wider p && live items moment p
 
@@ -94,7 +94,7 @@ module _ (a b : ℕ) (items : List Item) (at : ℕ → ℕ) (table : List ℕ) (
 
   pub near-wider : (p : ℕ) → p < length items → isNear near p ≡ true → isNear wider p ≡ true
   unfolding isNear
-  near-wider p h e = ⊎-elim (λ one. eq-eqb (getD wider p 0) 1 one) (λ same. rw same e) (voucher .kept p h)
+  near-wider p h e = ⊎-elim (λ one. eq-eqb (getD wider p 0) 1 one) (λ same. rw same e) (voucher .kept p)
 
   list-near : (p : ℕ) → p < length items → eqb (itemAt items p .kind) 4 ≡ true → isNear near p ≡ true
   unfolding isNear waitingOf
@@ -111,8 +111,8 @@ module _ (a b : ℕ) (items : List Item) (at : ℕ → ℕ) (table : List ℕ) (
   -- a CRL that is here and within its times stands in its row
   list-stands :
       (p : ℕ) → p < length items → eqb (itemAt items p .kind) 4 ≡ true → hereOf a b (length items) table items p ≡ true
-      → currentOf moment (itemAt items p) ≡ true → ledOf (getD lists p 0) ≡ true
-  unfolding listOf ledOf
+      → currentOf moment (itemAt items p) ≡ true → getD lists p 0 ≡ 1
+  unfolding listOf
   list-stands p h four here current =
       let is-open : isOpen a b items table near p ≡ true =
       both-true (isNear near p) _ (list-near p h four) (wanted-here a b (length items) table items p here) in
@@ -143,7 +143,7 @@ module _ (a b : ℕ) (items : List Item) (at : ℕ → ℕ) (table : List ℕ) (
             let current = sym (live-list items moment l four) ∙ second (inside a b items table wider l) _ e in
             let is = sym (country-same a b items u l other four country) ∙ sym (here-other a b (length items) table items l no-anchor) ∙ here in
             let marked : isNear wider u ≡ true =
-            ⊎-elim (λ k. near-wider u hu k) (λ k. opened u (voucher .signers u l hu hl (list-stands l hl four here current) verdict k)) (anchor-waits u hu one) in
+            ⊎-elim (λ k. near-wider u hu k) (λ k. opened u (voucher .heard u l hu hl (list-stands l hl four here current) verdict k)) (anchor-waits u hu one) in
             both-true _ _ (both-true (isNear wider u) _ marked (here-anchor a b (length items) table items u l hl verdict is)) (live-other items moment u other);
         covering = λ l p hl hp counts there least most covers.
             let four = first (eqb (itemAt items l .kind) 4) _ counts in
@@ -186,7 +186,7 @@ module _ (items : List Item) (at : ℕ → ℕ) (held : Row → List ℕ) (place
       → InRange (length items) c → getD c (length c - 1) 0 ≡ target
       → ((p : ℕ) → p < length items → getD before p 0 ≡ waitingOf (itemAt items p .kind)) → Named c before near
       → Opens moment (getD signer 1 0) (getD signer 2 0) (length items) table items at (set (replicate 96 0) target 1) near (set (replicate 96 (replicate 17 0)) target signer) rows
-      → ((p : ℕ) → p < length items → getD lists p 0 ≡ listOf (rowAt rows p)) → Near (length items) table lists near wider
+      → ((p : ℕ) → p < length items → getD lists p 0 ≡ listOf (rowAt rows p)) → Vouching (length items) table lists near wider
       → Opens moment (getD signer 1 0) (getD signer 2 0) (length items) table items at near wider rows opened
       → Counted (length items) table opened counting → Roles held (length items) (replicate 96 0) opened counting (replicate 96 0) roles
       → Tabled items at table moment target c opened roles

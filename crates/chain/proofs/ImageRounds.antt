@@ -14,9 +14,9 @@ use Rattle.image.specs.Index.{entryCount, entryIn, itemsIn}
 use Rattle.usable.specs.Items.{itemAt}
 use Rattle.usable.specs.Rows.{heldIn, rowFrom, rowOf, rowAt, stepOf, Counted, Roles}
 use Rattle.chain.specs.Answer.{goodChains}
-use Rattle.chain.specs.Near.{firstOf, waitingOf, Near, Wider}
+use Rattle.chain.specs.Near.{firstOf, waitingOf, Wider}
 use Rattle.chain.specs.Rounds.{startsIn, Opens, Searched, Direct}
-use Rattle.chain.specs.Given.{InRange, Named, listOf, RolesFit, StepsFit}
+use Rattle.chain.specs.Given.{InRange, Named, listOf, Vouching, RolesFit, StepsFit}
 use Rattle.chain.proofs.Meaning.{goodOf}
 use Rattle.image.proofs.Places.{length-items}
 use Rattle.chain.proofs.PlacesMean.{item-told, image-placed}
@@ -116,7 +116,7 @@ module _ (s table : List ℕ) (moment target n : ℕ) (same : n ≡ entryCount s
       → InRange n c → getD c (length c - 1) 0 ≡ target
       → ((p : ℕ) → p < 96 → getD kinds p 0 ≡ entryIn s p .kind) → ((p : ℕ) → p < 96 → getD before p 0 ≡ waitingOf (getD kinds p 0)) → Named c before near
       → Opens moment (getD signer 1 0) (getD signer 2 0) n table (itemsIn s) (startsIn s) (set (replicate 96 0) target 1) near (set (replicate 96 (replicate 17 0)) target signer) rows
-      → ((p : ℕ) → p < n → getD lists p 0 ≡ listOf (rowAt rows p)) → Near n table lists near wider
+      → ((p : ℕ) → p < n → getD lists p 0 ≡ listOf (rowAt rows p)) → Vouching n table lists near wider
       → Opens moment (getD signer 1 0) (getD signer 2 0) n table (itemsIn s) (startsIn s) near wider rows opened
       → Counted n table opened counting → Roles (heldIn s) n (replicate 96 0) opened counting (replicate 96 0) roles → Weighed c opened roles
   given-tables signer c kinds before near wider lists counting roles rows opened few h three is some range last kinds-are marks named opens listed voucher more counted known =

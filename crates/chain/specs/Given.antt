@@ -27,9 +27,15 @@ pub record Named (c before near : List ℕ) : Type 0 where
   pub kept : (p : ℕ) → (getD near p 0 ≡ 1) ⊎ (getD near p 0 ≡ getD before p 0)
   pub named : (i : ℕ) → i < length c → getD near (getD c i 0) 0 ≡ 1
 
--- 3 for a CRL that is open and within its times
+-- 1 for a CRL that is open and within its times
 unfoldable pub listOf : Row → ℕ
-listOf row = cond (eqb (row .standing) 4) 3 0
+listOf row = cond (eqb (row .standing) 4) 1 0
+
+-- some slots are 1 now, among them each anchor that waits and has verdict 1 for one of the CRLs
+pub record Vouching (n : ℕ) (table lists before near : List ℕ) : Type 0 where
+  pub kept : (p : ℕ) → (getD near p 0 ≡ 1) ⊎ (getD near p 0 ≡ getD before p 0)
+  pub heard :
+      (u v : ℕ) → u < n → v < n → getD lists v 0 ≡ 1 → verdictIn n table u v ≡ true → getD before u 0 ≡ 2 → getD near u 0 ≡ 1
 
 -- the role that is asked of a place before the last: the first an anchor, the others links
 unfoldable pub roleAsked : ℕ → ℕ

@@ -25,7 +25,7 @@ waitingOf kind = cond (eqb kind 4) 1 (cond (eqb kind 1) 2 0)
 unfoldable pub markedOf : ℕ → ℕ → ℕ → ℕ
 markedOf before verdict mark = cond (eqb before 2) (cond (eqb verdict 1) 1 mark) mark
 
--- some slots are 1 now, among them each that was 2 and has verdict 1 for a place whose own slot is 2 or 3: a usable link or signer
+-- some slots are 1 now, among them each link that has verdict 1 for a usable link or signer
 pub record Near (n : ℕ) (table roles before near : List ℕ) : Type 0 where
   pub kept : (p : ℕ) → p < n → (getD near p 0 ≡ 1) ⊎ (getD near p 0 ≡ getD before p 0)
   pub signers :

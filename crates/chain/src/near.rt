@@ -98,8 +98,7 @@ fn with_links(places: usize, near: [u8; 96]) -> [u8; 96]
     more
 }
 
-// The places that wait and have verdict 1 for one of these roles are near too.
-pub(crate) fn with_signers(table: &[u8], places: usize, near: [u8; 96], roles: [u8; 96]) -> [u8; 96]
+fn with_signers(table: &[u8], places: usize, near: [u8; 96], roles: [u8; 96]) -> [u8; 96]
     requires { ⌜ places ≤ 96 ⌝ }
     ensures { λ r. ⌜ Near places (now (table .entry)) roles near r ⌝ }
 {

@@ -4,26 +4,27 @@ use crate::asking::question;
 use crate::given::roles_fit;
 use crate::given::steps_fit;
 use crate::near::near_lists;
-use crate::near::with_signers;
 use crate::opening::open_first;
 use crate::opening::open_items;
 use crate::opening::open_place;
 use image::kinds_in;
+use octets::part;
 use refusal::Refusal;
 use usable::counting_lists;
 use usable::roles_of;
 ghost use mathlib.Core.Path.{_≡_};
-ghost use mathlib.Core.Bool.{cond};
+ghost use mathlib.Core.Bool.{true, false, cond};
 ghost use Prim.Native.Nat.{ℕ, _-_, _≤_, _<_};
 ghost use lib.Dec.{eqb};
 ghost use lib.ListN.{length, getD};
 ghost use Rattle.graph.specs.Chains.{Chain};
 ghost use Rattle.image.specs.Index.{entryCount, versionIn, entryIn, itemsIn};
 ghost use Rattle.usable.specs.Items.{itemAt};
+ghost use Rattle.usable.specs.Table.{verdictIn};
 ghost use Rattle.usable.specs.Rows.{rowFrom, rowOf, rowAt};
 ghost use Rattle.chain.specs.Answer.{goodChains};
 ghost use Rattle.chain.specs.Rounds.{startsIn};
-ghost use Rattle.chain.specs.Given.{Decides, InRange, Named, listOf};
+ghost use Rattle.chain.specs.Given.{Decides, InRange, Named, listOf, Vouching};
 ghost use Rattle.chain.specs.Proposal.{Proposed, rangeGood, inside};
 
 pub enum Proposal {
@@ -141,7 +142,7 @@ fn good_home(
         near,
         &mut rows,
     );
-    let wider = with_signers(table, count, near, open_lists(count, &rows));
+    let wider = near_vouching(table, count, near, open_lists(count, &rows));
     open_items(
         version,
         image,
@@ -196,10 +197,43 @@ fn open_lists(places: usize, rows: &[[usize; 17]; 96]) -> [u8; 96]
 }
 
 fn list_mark(standing: usize) -> u8
-    ensures { λ r. ⌜ r ≡ cond (eqb standing 4) 3 0 ⌝ }
+    ensures { λ r. ⌜ r ≡ cond (eqb standing 4) 1 0 ⌝ }
 {
     if standing == 4 {
-        return 3;
+        return 1;
     }
     0
+}
+
+// The anchors that wait and have verdict 1 for one of the CRLs are near too.
+fn near_vouching(table: &[u8], places: usize, near: [u8; 96], lists: [u8; 96]) -> [u8; 96]
+    requires { ⌜ places ≤ 96 ⌝ }
+    ensures { λ r. ⌜ Vouching places (now (table .entry)) lists near r ⌝ }
+{
+    let mut more = near;
+    let mut u = 0;
+    while u < places {
+        if near[u] == 2 {
+            if vouches(table, places, u, lists) {
+                more[u] = 1;
+            }
+        }
+        u += 1;
+    }
+    more
+}
+
+// Whether the place has verdict 1 for one of the CRLs, with no exit before the last octet of its line.
+fn vouches(table: &[u8], places: usize, u: usize, lists: [u8; 96]) -> bool
+    requires { ⌜ (places ≤ 96) × (u < places) ⌝ }
+    ensures { λ r. ⌜ (r ≡ false → (v : ℕ) → v < places → getD lists v 0 ≡ 1 → verdictIn places (now (table .entry)) u v ≡ true → ⊥) ⌝ }
+{
+    let line = part(table, u * places, places);
+    let mut heard = false;
+    let mut v = 0;
+    while v < line.len() {
+        heard = heard | ((line[v] == 1) & (lists[v] == 1));
+        v += 1;
+    }
+    heard
 }

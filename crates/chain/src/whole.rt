@@ -1,7 +1,5 @@
 // All items of an image, each opened once.
-use image::entry_of;
-use octets::part;
-use usable::open_item;
+use crate::opening::open_place;
 ghost use mathlib.Core.Path.{_≡_};
 ghost use Prim.Native.Nat.{_≤_};
 ghost use lib.ListN.{length};
@@ -22,9 +20,7 @@ pub(crate) fn open_all(
 {
     let mut place = 0;
     while place < places {
-        let e = entry_of(version, image, place);
-        let item = part(image, e.offset, e.length);
-        let row = open_item(item, e.kind, e.flags, e.offset, moment);
+        let row = open_place(version, image, moment, place);
         rows[place] = row;
         place += 1;
     }

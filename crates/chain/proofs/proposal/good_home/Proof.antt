@@ -48,8 +48,8 @@ open-first-requires c κs = let s = start (marked c) in (s .pre .0, s .pre .1, s
 open-lists-requires : tie.Need-open-lists-requires
 open-lists-requires c κs = start (marked (c .before .before)) .pre .2
 
-with-signers-requires : tie.Need-with-signers-requires
-with-signers-requires c κs = start (marked (opened c)) .pre .2
+near-vouching-requires : tie.Need-near-vouching-requires
+near-vouching-requires c κs = start (marked (opened c)) .pre .2
 
 open-items-requires : tie.Need-open-items-requires
 open-items-requires c κs =
@@ -71,7 +71,7 @@ returns c =
     let tables =
     given-tables _ _ _ _ _ (s .pre .1) (s .args .t7) _ (m .kinds-in .result) _ _ _ _ _ (w .roles-of .result) _ _ (s .pre .2) (s .pre .3) (s .pre .4) (s .pre .5) (s .pre .6)
     (s .pre .7) (s .pre .8) (kinds m) (o .before .before .near-lists .ensures) (o .before .near-named .ensures) (l .before .before .open-first .ensures .1)
-    (l .open-lists .ensures) (f .before .with-signers .ensures) (w .before .before .before .before .open-items .ensures .1)
+    (l .open-lists .ensures) (f .before .near-vouching .ensures) (w .before .before .before .before .open-items .ensures .1)
     (w .before .before .counting-lists .ensures .0 (s .pre .2)) (w .roles-of .ensures .0 (s .pre .2)) in
     no (λ d. c .if1 .taken (good-fits _ _ _ _ _ (s .pre .1) tables (s .pre .7) d .0))
 
@@ -89,7 +89,7 @@ returns-2 c =
     let tables =
     given-tables _ _ _ _ _ (s .pre .1) (s .args .t7) _ (m .kinds-in .result) _ _ _ _ _ (w .roles-of .result) _ _ (s .pre .2) (s .pre .3) (s .pre .4) (s .pre .5) (s .pre .6)
     (s .pre .7) (s .pre .8) (kinds m) (o .before .before .near-lists .ensures) (o .before .near-named .ensures) (l .before .before .open-first .ensures .1)
-    (l .open-lists .ensures) (f .before .with-signers .ensures) (w .before .before .before .before .open-items .ensures .1)
+    (l .open-lists .ensures) (f .before .near-vouching .ensures) (w .before .before .before .before .open-items .ensures .1)
     (w .before .before .counting-lists .ensures .0 (s .pre .2)) (w .roles-of .ensures .0 (s .pre .2)) in
     no (λ d. not-so (c .before .roles-fit .ensures) (not-true _ (c .if2 .taken)) (good-fits _ _ _ _ _ (s .pre .1) tables (s .pre .7) d .1))
 
@@ -108,7 +108,7 @@ returns-3 c =
     let tables =
     given-tables _ _ _ _ _ (s .pre .1) (s .args .t7) _ (m .kinds-in .result) _ _ _ _ _ (w .roles-of .result) _ _ (s .pre .2) (s .pre .3) (s .pre .4) (s .pre .5) (s .pre .6)
     (s .pre .7) (s .pre .8) (kinds m) (o .before .before .near-lists .ensures) (o .before .near-named .ensures) (l .before .before .open-first .ensures .1)
-    (l .open-lists .ensures) (g .before .with-signers .ensures) (w .before .before .before .before .open-items .ensures .1)
+    (l .open-lists .ensures) (g .before .near-vouching .ensures) (w .before .before .before .before .open-items .ensures .1)
     (w .before .before .counting-lists .ensures .0 (s .pre .2)) (w .roles-of .ensures .0 (s .pre .2)) in
     both-ways
     (λ steps.
@@ -127,7 +127,7 @@ good-home-spec =
     near-named-requires
     open-first-requires
     open-lists-requires
-    with-signers-requires
+    near-vouching-requires
     open-items-requires
     (λ c κs. search needs)
     (λ c κs. search needs)
