@@ -96,7 +96,7 @@ module _ (s table : List ℕ) (moment target : ℕ) where
     no-later d e (inl k) = absurd (omega arith)
     no-later d e (inr k) = k .1
 
-    pub demands : {n : ℕ} → askedOf s table moment target ≡ asked.Over n → Demanded s table moment target c
+    pub demands : {n version : ℕ} → askedOf s table moment target ≡ asked.Over n version → Demanded s table moment target c
     unfolding chains
     demands e =
         let o = asked-over s table moment target e in
@@ -109,7 +109,7 @@ module _ (s table : List ℕ) (moment target : ℕ) where
           signer = usable-signer target (chain-target (b .good) .1);
           steps = places.step-by-step (b .good);
           two = places.two-places (b .good);
-          most = best-fits kinds (omega (arith, all-places, o .0, o .1)) b;
+          most = best-fits kinds (omega (arith, all-places, o .1, o .2)) b;
           inside = λ i h. omega (arith, all-places, places.below (b .good) i h);
           once = places.no-place-twice kinds b;
           shortest = λ d h. no-longer d (b .least d h);
@@ -117,8 +117,8 @@ module _ (s table : List ℕ) (moment target : ℕ) where
         }
 
     -- so it is in the range of a proposal
-    pub best-in-range : {n : ℕ} → askedOf s table moment target ≡ asked.Over n → InRange n c
+    pub best-in-range : {n version : ℕ} → askedOf s table moment target ≡ asked.Over n version → InRange n c
     best-in-range e =
         let d = demands e in
         let o = asked-over s table moment target e in
-        record { two = d .two; most = d .most; inside = λ i h. omega (arith, o .0, d .inside i h) }
+        record { two = d .two; most = d .most; inside = λ i h. omega (arith, o .1, d .inside i h) }

@@ -41,47 +41,9 @@ pub no-slots : (p : ℕ) → isNear (replicate 96 0) p ≡ true → ⊥
 unfolding isNear
 no-slots p e = false-true (rw (empty-slots {A = ℕ} 96 p) at e)
 
-module _ (items : List Item) (at : ℕ → ℕ) (held : Row → List ℕ) (placed : Placed held items at) (table : List ℕ) (moment target : ℕ) (near : List ℕ) (marks : (p : ℕ) → p < length items → (getD near p 0 ≡ 1) ⊎ (getD near p 0 ≡ firstOf target p (itemAt items p .kind))) where
-  first-based : Based items near
-  unfolding isNear firstOf
-  first-based p h e =
-      ⊎-elim (λ one. false-true (sym e ∙ eq-eqb (getD near p 0) 1 one))
-      (λ is. go (eqb p target) (eqb (itemAt items p .kind) 2) refl (eqb (itemAt items p .kind) 3) refl (rw is at e)) (marks p h)
-    where
-      go :
-          (a b : Bool) → eqb (itemAt items p .kind) 2 ≡ b → (c : Bool) → eqb (itemAt items p .kind) 3 ≡ c
-          → eqb (cond a 1 (cond b 2 (cond c 0 1))) 1 ≡ false
-          → (eqb (itemAt items p .kind) 1 ≡ false) × (eqb (itemAt items p .kind) 4 ≡ false)
-      go true b q c k f = false-true (sym f)
-      go false true q c k f = let two = eqb-true (itemAt items p .kind) 2 q in (rw two, rw two)
-      go false false q true k f = let three = eqb-true (itemAt items p .kind) 3 k in (rw three, rw three)
-      go false false q false k f = false-true (sym f)
-
-  first-waiting : (p : ℕ) → p < length items → isNear near p ≡ false → itemAt items p .kind ≡ 2 → getD near p 0 ≡ 2
-  unfolding isNear firstOf
-  first-waiting p h e two =
-      ⊎-elim (λ one. false-true (sym e ∙ eq-eqb (getD near p 0) 1 one))
-      (λ (is : getD near p 0 ≡ firstOf target p (itemAt items p .kind)). rw (is, two) (go (eqb p target) (rw (is, two) at e))) (marks p h)
-    where
-      go : (a : Bool) → eqb (cond a 1 2) 1 ≡ false → _≡_ {A = ℕ} (cond a 1 2) 2
-      go true f = false-true (sym f)
-      go false f = refl
-
-  first-end : target < length items → isNear near target ≡ true
-  unfolding isNear firstOf
-  first-end h =
-      ⊎-elim (λ one. eq-eqb (getD near target 0) 1 one)
-      (λ (is : getD near target 0 ≡ firstOf target target (itemAt items target .kind)). rw (is, eq-eqb target target refl)) (marks target h)
-
-  first-reach :
-      target < length items → {u : ℕ} {c : List ℕ} → Onward (goodOf items table moment) target u c → (length c ≤ 0 + 1) ⊎ (_≡_ {A = ℕ} 0 4)
-      → AllNear (isNear near) c
-  first-reach h (ends l signer step) few = more (first-end h) done
-  first-reach h (goes l link step (ends m signer next)) few = absurd (⊎-elim (λ k. omega arith) (λ k. omega arith) few)
-  first-reach h (goes l link step (goes m other next rest)) few = absurd (⊎-elim (λ k. omega arith) (λ k. omega arith) few)
-
+module _ (items : List Item) (at : ℕ → ℕ) (table : List ℕ) (moment target : ℕ) where
   -- the target's row, and none else, is told first
-  first-told :
+  pub first-told :
       (a b : ℕ) (signer : List ℕ) → target < length items → length items ≤ 96 → itemAt items target .kind ≡ 3 → rowFrom signer ≡ rowOf moment (itemAt items target) (at target)
       → Told moment items at (isOpen a b items table (set (replicate 96 0) target 1)) (set (replicate 96 (replicate 17 0)) target signer)
   unfolding isNear
@@ -104,18 +66,20 @@ module _ (items : List Item) (at : ℕ → ℕ) (held : Row → List ℕ) (place
           rw (getD-set-other {A = ℕ} (replicate 96 0) target p 1 0 q, empty-slots {A = ℕ} {d = 0} 96 p)
           (set-there (replicate 96 (replicate 17 0)) target signer p q ∙ blank-rows 96 p)
 
-  first-kept : (p : ℕ) → p < length items → isNear (set (replicate 96 0) target 1) p ≡ true → isNear near p ≡ true
+  -- and it is near now too
+  pub first-kept :
+      (near : List ℕ) → isNear near target ≡ true → (p : ℕ) → isNear (set (replicate 96 0) target 1) p ≡ true → isNear near p ≡ true
   unfolding isNear
-  first-kept p h e = go (eqb p target) refl
+  first-kept near end p e = go (eqb p target) refl
     where
       go : (t : Bool) → eqb p target ≡ t → eqb (getD near p 0) 1 ≡ true
-      go true k = let q : p ≡ target = eqb-true p target k in rw q (first-end (rw q at h))
+      go true k = let q : p ≡ target = eqb-true p target k in rw q end
       go false k =
           let q = eqb-false p target k in
           false-true (rw (getD-set-other {A = ℕ} (replicate 96 0) target p 1 0 q, empty-slots {A = ℕ} {d = 0} 96 p) at e)
 
   -- the letters of a signer's row are its country's
-  row-home :
+  pub row-home :
       (signer : List ℕ) → itemAt items target .kind ≡ 3 → rowFrom signer ≡ rowOf moment (itemAt items target) (at target) → (getD signer 0 0 ≡ 0 → ⊥)
       → home (getD signer 1 0) (getD signer 2 0) items target ≡ true
   unfolding blank
@@ -130,6 +94,41 @@ module _ (items : List Item) (at : ℕ → ℕ) (held : Row → List ℕ) (place
       go (list f n four j v h) = absurd (omega arith)
       go (neither x y z h) = absurd (some (ap (λ (r : Row). r .standing) (is ∙ h)))
 
+module _ (items : List Item) (at : ℕ → ℕ) (held : Row → List ℕ) (placed : Placed held items at) (table : List ℕ) (moment target : ℕ) (near : List ℕ) (marks : (p : ℕ) → p < length items → getD near p 0 ≡ firstOf target p (itemAt items p .kind)) where
+  first-based : Based items near
+  unfolding isNear firstOf
+  first-based p h e = go (eqb p target) (eqb (itemAt items p .kind) 2) refl (eqb (itemAt items p .kind) 3) refl (rw (marks p h) at e)
+    where
+      go :
+          (a b : Bool) → eqb (itemAt items p .kind) 2 ≡ b → (c : Bool) → eqb (itemAt items p .kind) 3 ≡ c
+          → eqb (cond a 1 (cond b 2 (cond c 0 1))) 1 ≡ false
+          → (eqb (itemAt items p .kind) 1 ≡ false) × (eqb (itemAt items p .kind) 4 ≡ false)
+      go true b q c k f = false-true (sym f)
+      go false true q c k f = let two = eqb-true (itemAt items p .kind) 2 q in (rw two, rw two)
+      go false false q true k f = let three = eqb-true (itemAt items p .kind) 3 k in (rw three, rw three)
+      go false false q false k f = false-true (sym f)
+
+  first-waiting : (p : ℕ) → p < length items → isNear near p ≡ false → itemAt items p .kind ≡ 2 → getD near p 0 ≡ 2
+  unfolding isNear firstOf
+  first-waiting p h e two =
+      let is : getD near p 0 ≡ firstOf target p (itemAt items p .kind) = marks p h in rw (is, two) (go (eqb p target) (rw (is, two) at e))
+    where
+      go : (a : Bool) → eqb (cond a 1 2) 1 ≡ false → _≡_ {A = ℕ} (cond a 1 2) 2
+      go true f = false-true (sym f)
+      go false f = refl
+
+  first-end : target < length items → isNear near target ≡ true
+  unfolding isNear firstOf
+  first-end h =
+      let is : getD near target 0 ≡ firstOf target target (itemAt items target .kind) = marks target h in rw (is, eq-eqb target target refl)
+
+  first-reach :
+      target < length items → {u : ℕ} {c : List ℕ} → Onward (goodOf items table moment) target u c → (length c ≤ 0 + 1) ⊎ (_≡_ {A = ℕ} 0 4)
+      → AllNear (isNear near) c
+  first-reach h (ends l signer step) few = more (first-end h) done
+  first-reach h (goes l link step (ends m signer next)) few = absurd (⊎-elim (λ k. omega arith) (λ k. omega arith) few)
+  first-reach h (goes l link step (goes m other next rest)) few = absurd (⊎-elim (λ k. omega arith) (λ k. omega arith) few)
+
   pub first-round :
       (signer : List ℕ) {rows : List (List ℕ)} {counting roles : List ℕ} → length items ≤ 96 → target < length items → itemAt items target .kind ≡ 3
       → rowFrom signer ≡ rowOf moment (itemAt items target) (at target) → (getD signer 0 0 ≡ 0 → ⊥)
@@ -139,7 +138,8 @@ module _ (items : List Item) (at : ℕ → ℕ) (held : Row → List ℕ) (place
   first-round signer {rows} {counting} {roles} few h three is some opens counted known =
       let a = getD signer 1 0 in
       let b = getD signer 2 0 in
-      let told = told-next a b items at table moment _ near _ rows (first-told a b signer h few three is) first-kept opens in
+      let told = told-next a b items at table moment _ near _ rows (first-told items at table moment target a b signer h few three is)
+      (λ p k. first-kept items at table moment target near (first-end h) p) opens in
       let scope = home-scope a b items table moment near first-based in
       let counts = counting-means items at table moment scope rows told counting counted in
       record {
@@ -148,7 +148,7 @@ module _ (items : List Item) (at : ℕ → ℕ) (held : Row → List ℕ) (place
         counts = counts;
         known = roles-mean items at table moment scope rows told held placed counting counts (replicate 96 0) (replicate 96 0) roles known
             (λ p k e. absurd (no-slots p e));
-        country = row-home signer three is some;
+        country = row-home items at table moment target signer three is some;
         end = first-end h;
         waiting = first-waiting;
         reach = first-reach h;

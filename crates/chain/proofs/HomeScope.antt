@@ -116,8 +116,9 @@ module _ (a b n : ℕ) (table : List ℕ) (items : List Item) (p : ℕ) where
       go false true = refl
       go false false = refl
 
-module _ (a b : ℕ) (items : List Item) (table : List ℕ) (moment : ℕ) (near : List ℕ) (based : Based items near) where
-  asked :
+module _ (a b : ℕ) (items : List Item) (table near : List ℕ) where
+  -- of an anchor or a CRL it is asked whether it is here
+  pub asked :
       (p : ℕ) → p < length items → (eqb (itemAt items p .kind) 1 ≡ true) ⊎ (eqb (itemAt items p .kind) 4 ≡ true)
       → isOpen a b items table near p ≡ inside a b items table near p
   asked p h which =
@@ -129,6 +130,7 @@ module _ (a b : ℕ) (items : List Item) (table : List ℕ) (moment : ℕ) (near
       kind k is l m (inl e) = let one = eqb-true (itemAt items p .kind) 1 e in omega arith
       kind k is l m (inr e) = let four = eqb-true (itemAt items p .kind) 4 e in omega arith
 
+module _ (a b : ℕ) (items : List Item) (table : List ℕ) (moment : ℕ) (near : List ℕ) (based : Based items near) where
   list-inside : (c : ℕ) → c < length items → eqb (itemAt items c .kind) 4 ≡ true → inside a b items table near c ≡ home a b items c
   list-inside c h four =
       let other : eqb (itemAt items c .kind) 1 ≡ false = ne-eqb (itemAt items c .kind) 1 (λ z. let k = eqb-true (itemAt items c .kind) 4 four in omega arith) in
@@ -138,7 +140,7 @@ module _ (a b : ℕ) (items : List Item) (table : List ℕ) (moment : ℕ) (near
   unfolding counts covers
   home-scope =
       record {
-        asked = asked;
+        asked = asked a b items table near;
         inner = λ p h e.
             both-true (isNear near p) _ (first (isNear near p) _ e) (wanted-here a b (length items) table items p (second (isNear near p) _ e));
         vouching = λ u c hu hc within four usable country verdict.

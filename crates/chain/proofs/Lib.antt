@@ -18,6 +18,7 @@ pub mod DirectMeans
 pub mod SpeakingUp
 pub mod OpeningLaws
 pub mod GivenChain
+pub mod GivenScope
 pub mod Proposals
 pub mod ImageRounds
 pub mod WholeMeans

@@ -1,21 +1,20 @@
--- The range of a proposal place by place, the links that it names, and what is decided of it.
-use Prim.Native.Nat.{ℕ, zero, suc, _+_, _-_, _<_, _≤_}
+-- The range of a proposal place by place, the places that it names, and what is decided of it.
+use Prim.Native.Nat.{ℕ, zero, suc, _+_, _*_, _<_, _≤_}
 use mathlib.Core.Path.{_≡_, refl, sym, _∙_}
-use mathlib.Core.Bool.{Bool, true, false, cond, _&&_}
+use mathlib.Core.Bool.{Bool, true, false, _&&_, _||_}
 use mathlib.Core.List.{List, [], _∷_}
 use mathlib.Core.Logic.{_⊎_, inl, inr, ⊎-elim}
 use native.Mathlib.Omega.{arith}
 use borrow.Author.Count.{below-more}
 use borrow.Author.Tests.{ltb-true, lt-ltb, le-ltb, leb-true, le-leb, eqb-true, eqb-false, eq-eqb}
 use lib.Dec.{leb, ltb, eqb}
-use lib.ListN.{length, getD, set}
+use lib.ListN.{length, getD, set, take, drop}
 use lib.Seq.{getD-set-same, getD-set-other}
-use Rattle.image.specs.Items.{Item}
-use Rattle.usable.specs.Items.{itemAt}
-use Rattle.usable.specs.Rows.{isNear}
-use Rattle.usable.proofs.Booleans.{false-true, first, second}
-use Rattle.chain.specs.Near.{firstOf}
-use Rattle.chain.specs.Given.{Decides, yes, no, InRange, Named, roleAsked, RolesFit}
+use Rattle.usable.proofs.Booleans.{false-true, first, second, both-true}
+use Rattle.usable.specs.Table.{verdictIn}
+use Rattle.usable.proofs.RowLaws.{line-read, line-past}
+use Rattle.chain.specs.Given.{Decides, yes, no, InRange, Named, Vouching}
+use Rattle.chain.proofs.Cells.{below-or-not}
 use Rattle.chain.specs.Proposal.{inside, rangeGood}
 
 -- what is decided, either way
@@ -70,26 +69,30 @@ module _ (n : ℕ) where
   pub range-more : {m : ℕ} {c : List ℕ} → n ≤ m → InRange n c → InRange m c
   range-more few r = record { two = r .two; most = r .most; inside = λ i h. omega (arith, r .inside i h) }
 
--- what is near at first and named
-module _ (items : List Item) (target n : ℕ) {c before near : List ℕ} (named : Named c before near) (firsts : (p : ℕ) → p < n → getD before p 0 ≡ firstOf target p (itemAt items p .kind)) where
-  pub named-marks : (p : ℕ) → p < n → (getD near p 0 ≡ 1) ⊎ (getD near p 0 ≡ firstOf target p (itemAt items p .kind))
-  named-marks p h = ⊎-elim (λ e. inl e) (λ e. inr (e ∙ firsts p h)) (named .kept p)
-
-  pub named-links : InRange n c → (i : ℕ) → i < length c → itemAt items (getD c i 0) .kind ≡ 2 → isNear near (getD c i 0) ≡ true
-  unfolding isNear firstOf
-  named-links range i h two = go (eqb (getD c i 0) target) refl
+-- one slot more is 1
+module _ (near : List ℕ) (u : ℕ) (room : u < length near) where
+  one-set : (p : ℕ) → getD near p 0 ≡ 1 → getD (set near u 1) p 0 ≡ 1
+  one-set p e = go (eqb p u) refl
     where
-      here : getD before (getD c i 0) 0 ≡ cond (eqb (getD c i 0) target) 1 2
-      here = rw two at (firsts (getD c i 0) (range .inside i h))
+      go : (t : Bool) → eqb p u ≡ t → getD (set near u 1) p 0 ≡ 1
+      go true q = let same = eqb-true p u q in rw same (getD-set-same near u 1 0 room)
+      go false q = getD-set-other near u p 1 0 (eqb-false p u q) ∙ e
 
-      go : (t : Bool) → eqb (getD c i 0) target ≡ t → eqb (getD near (getD c i 0) 0) 1 ≡ true
-      go true e = eq-eqb _ 1 (⊎-elim (λ k. k) (λ k. k ∙ (rw e at here)) (named .kept (getD c i 0)))
-      go false e = eq-eqb _ 1 (named .named i h (rw e at here))
+  kept-set :
+      (before : List ℕ) → ((p : ℕ) → (getD near p 0 ≡ 1) ⊎ (getD near p 0 ≡ getD before p 0)) → (p : ℕ)
+      → (getD (set near u 1) p 0 ≡ 1) ⊎ (getD (set near u 1) p 0 ≡ getD before p 0)
+  kept-set before kept p = ⊎-elim (λ e. inl (one-set p e)) (λ e. other e (eqb p u) refl) (kept p)
+    where
+      other :
+          getD near p 0 ≡ getD before p 0 → (t : Bool) → eqb p u ≡ t
+          → (getD (set near u 1) p 0 ≡ 1) ⊎ (getD (set near u 1) p 0 ≡ getD before p 0)
+      other e true q = let same = eqb-true p u q in inl (rw same (getD-set-same near u 1 0 room))
+      other e false q = inr (getD-set-other near u p 1 0 (eqb-false p u q) ∙ e)
 
--- the links of the first places are marked
+-- the first places are marked
 pub record Marking (c before near : List ℕ) (i : ℕ) : Type 0 where
   pub kept : (p : ℕ) → (getD near p 0 ≡ 1) ⊎ (getD near p 0 ≡ getD before p 0)
-  pub named : (k : ℕ) → k < i → getD before (getD c k 0) 0 ≡ 2 → getD near (getD c k 0) 0 ≡ 1
+  pub named : (k : ℕ) → k < i → getD near (getD c k 0) 0 ≡ 1
 
 pub marking-start : (c before : List ℕ) → Marking c before before 0
 marking-start c before = record { kept = λ p. inr refl; named = λ k h. absurd (omega arith) }
@@ -97,39 +100,62 @@ marking-start c before = record { kept = λ p. inr refl; named = λ k h. absurd 
 pub marking-all : {c before near : List ℕ} {i : ℕ} → Marking c before near i → length c ≤ i → Named c before near
 marking-all m all = record { kept = m .kept; named = λ k h. m .named k (omega arith) }
 
-module _ {c before near : List ℕ} (i : ℕ) (m : Marking c before near i) where
-  -- one place more, marked or not
-  pub marking-set : getD c i 0 < length near → Marking c before (set near (getD c i 0) 1) (i + 1)
-  marking-set room =
+-- one place more
+pub marking-set :
+    {c before near : List ℕ} (i : ℕ) → Marking c before near i → getD c i 0 < length near → Marking c before (set near (getD c i 0) 1) (i + 1)
+marking-set {c} {before} {near} i m room =
+    record {
+      kept = kept-set near (getD c i 0) room before (m .kept);
+      named = below-more _ i (λ k h. one-set near (getD c i 0) room (getD c k 0) (m .named k h)) (getD-set-same near (getD c i 0) 1 0 room);
+    }
+
+-- the first anchors that wait are asked
+pub record Asking (n : ℕ) (table lists before near : List ℕ) (u : ℕ) : Type 0 where
+  pub kept : (p : ℕ) → (getD near p 0 ≡ 1) ⊎ (getD near p 0 ≡ getD before p 0)
+  pub heard :
+      (w : ℕ) → w < u → (v : ℕ) → v < n → getD lists v 0 ≡ 1 → verdictIn n table w v ≡ true → getD before w 0 ≡ 2 → getD near w 0 ≡ 1
+
+pub asking-start : (n : ℕ) (table lists before : List ℕ) → Asking n table lists before before 0
+asking-start n table lists before = record { kept = λ p. inr refl; heard = λ w h. absurd (omega arith) }
+
+pub asking-all : {n : ℕ} {table lists before near : List ℕ} {u : ℕ} → Asking n table lists before near u → n ≤ u → Vouching n table lists before near
+asking-all a all = record { kept = a .kept; heard = λ w v h. a .heard w (omega arith) v }
+
+-- one anchor more, which is heard or not
+module _ {n : ℕ} {table lists before near : List ℕ} (u : ℕ) (a : Asking n table lists before near u) where
+  pub asking-set : u < length near → Asking n table lists before (set near u 1) (u + 1)
+  asking-set room =
       record {
-        kept = λ p. ⊎-elim (λ e. inl (marked p e)) (λ e. other p e (eqb p (getD c i 0)) refl) (m .kept p);
-        named = below-more _ i (λ k h two. marked (getD c k 0) (m .named k h two)) (λ two. getD-set-same near (getD c i 0) 1 0 room);
+        kept = kept-set near u room before (a .kept);
+        heard = below-more _ u (λ w h v k l e two. one-set near u room w (a .heard w h v k l e two))
+            (λ v k l e two. getD-set-same near u 1 0 room);
       }
-    where
-      marked : (p : ℕ) → getD near p 0 ≡ 1 → getD (set near (getD c i 0) 1) p 0 ≡ 1
-      marked p e = go (eqb p (getD c i 0)) refl
-        where
-          go : (t : Bool) → eqb p (getD c i 0) ≡ t → getD (set near (getD c i 0) 1) p 0 ≡ 1
-          go true q = let same = eqb-true p (getD c i 0) q in rw same (getD-set-same near (getD c i 0) 1 0 room)
-          go false q = getD-set-other near (getD c i 0) p 1 0 (eqb-false p (getD c i 0) q) ∙ e
 
-      other :
-          (p : ℕ) → getD near p 0 ≡ getD before p 0 → (t : Bool) → eqb p (getD c i 0) ≡ t
-          → (getD (set near (getD c i 0) 1) p 0 ≡ 1) ⊎ (getD (set near (getD c i 0) 1) p 0 ≡ getD before p 0)
-      other p e true q = let same = eqb-true p (getD c i 0) q in inl (rw same (getD-set-same near (getD c i 0) 1 0 room))
-      other p e false q = inr (getD-set-other near (getD c i 0) p 1 0 (eqb-false p (getD c i 0) q) ∙ e)
+  pub asking-left :
+      (getD before u 0 ≡ 2 → (v : ℕ) → v < n → getD lists v 0 ≡ 1 → verdictIn n table u v ≡ true → ⊥) → Asking n table lists before near (u + 1)
+  asking-left none = record { kept = a .kept; heard = below-more _ u (a .heard) (λ v k l e two. absurd (none two v k l e)) }
 
-  pub marking-left : (getD before (getD c i 0) 0 ≡ 2 → ⊥) → Marking c before near (i + 1)
-  marking-left other = record { kept = m .kept; named = below-more _ i (m .named) (λ two. absurd (other two)) }
+-- of the octets before v none is 1 where a CRL stands
+abbrev pub Unheard : List ℕ → List ℕ → ℕ → Type 0
+Unheard line lists v = (w : ℕ) → w < v → getD line w 0 ≡ 1 → getD lists w 0 ≡ 1 → ⊥
 
--- where each place has its role the last one decides
-pub roles-decided :
-    (roles : List ℕ) (target : ℕ) (c : List ℕ) → 2 ≤ length c
-    → ((i : ℕ) → i < length c → getD roles (getD c i 0) 0 ≡ roleAsked (length c) i)
-    → Decides (RolesFit roles target c) (eqb (getD c (length c - 1) 0) target)
-roles-decided roles target c two each = go (eqb (getD c (length c - 1) 0) target) refl
+pub unheard-more :
+    (line lists : List ℕ) (heard : Bool) (v : ℕ) → (heard ≡ false → Unheard line lists v)
+    → (heard || (eqb (getD line v 0) 1 && eqb (getD lists v 0) 1)) ≡ false → Unheard line lists (v + 1)
+unheard-more line lists heard v before = go heard before
   where
-    go : (t : Bool) → eqb (getD c (length c - 1) 0) target ≡ t → Decides (RolesFit roles target c) t
-    go true e =
-        yes (record { each = each; last = λ i h. let k : i ≡ length c - 1 = omega arith in rw k (eqb-true (getD c (length c - 1) 0) target e) })
-    go false e = no (λ fit. eqb-false (getD c (length c - 1) 0) target e (fit .last (length c - 1) (omega arith)))
+    go :
+        (b : Bool) → (b ≡ false → Unheard line lists v) → (b || (eqb (getD line v 0) 1 && eqb (getD lists v 0) 1)) ≡ false
+        → Unheard line lists (v + 1)
+    go true h e = false-true (sym e)
+    go false h e =
+        below-more _ v (h refl) (λ one list. false-true (sym e ∙ both-true _ _ (eq-eqb (getD line v 0) 1 one) (eq-eqb (getD lists v 0) 1 list)))
+
+pub unheard-all :
+    (table : List ℕ) (n u : ℕ) (line lists : List ℕ) {v : ℕ} → line ≡ take n (drop (u * n) table) → length line ≤ v → Unheard line lists v
+    → (w : ℕ) → w < n → getD lists w 0 ≡ 1 → verdictIn n table u w ≡ true → ⊥
+unfolding verdictIn
+unheard-all table n u line lists is all none w h list e =
+    let one : getD table (u * n + w) 0 ≡ 1 = eqb-true (getD table (u * n + w) 0) 1 e in
+    ⊎-elim (λ (k : w < length line). none w (omega arith) (line-read table n u w is h ∙ one) list) (λ (k : length line ≤ w). line-past table n u w is h k one)
+    (below-or-not w (length line))

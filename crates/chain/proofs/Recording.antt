@@ -69,7 +69,7 @@ module _ (s table : List ℕ) (moment n : ℕ) where
       rw (item-told s p h) at kind
 
   module _ (same : n ≡ entryCount s) {day version : ℕ} (is : openedOf s ≡ opened.Image n day version) (good : tableGood n table ≡ true) (real : realMoment 1950 2099 moment ≡ true) where
-    asked-signer : (p : ℕ) → p < n → eqb (entryIn s p .kind) 3 ≡ true → askedOf s table moment p ≡ asked.Over n
+    asked-signer : (p : ℕ) → p < n → eqb (entryIn s p .kind) 3 ≡ true → askedOf s table moment p ≡ asked.Over n version
     unfolding askedOf onImage
     asked-signer p h k = rw (is, good, real, lt-ltb _ _ h, k) refl
 

@@ -83,21 +83,19 @@ module _ (a b : ℕ) (items : List Item) (table : List ℕ) (moment target : ℕ
       more (both-true _ _ n (link-here v link (way-home rest))) (all-inside near rest others)
 
   -- an anchor from which a way starts
-  first-inside :
-      (near : List ℕ) → Based items near → (u : ℕ) → u < length items → goodOf items table moment .anchor u ≡ true → (v : ℕ) → v < length items
-      → goodOf items table moment .step u v ≡ true → home a b items u ≡ true → inside a b items table near u ≡ true
+  pub anchor-here : {u : ℕ} {c : List ℕ} → Onward (goodOf items table moment) target u c → hereOf a b (length items) table items u ≡ true
   unfolding chains
-  first-inside near based u h anchor v k step is =
-      both-true (isNear near u) _ (always-near items near based u h (inl (anchor-kind items moment u anchor)))
-      (here-anchor a b (length items) table items u v k (step-verdict items (verdictIn (length items) table) u v step) is)
+  anchor-here {u} (ends m signer step) =
+      here-anchor a b (length items) table items u target m (step-verdict items (verdictIn (length items) table) u target step) (stays u target step there)
+  anchor-here {u} (goes {v = v} m link step rest) =
+      here-anchor a b (length items) table items u v m (step-verdict items (verdictIn (length items) table) u v step) (stays u v step (way-home rest))
 
   pub anchor-inside :
       (near : List ℕ) → Based items near → {u : ℕ} {c : List ℕ} → u < length items → goodOf items table moment .anchor u ≡ true
       → Onward (goodOf items table moment) target u c → inside a b items table near u ≡ true
   unfolding chains
-  anchor-inside near based {u} h anchor (ends m signer step) = first-inside near based u h anchor target m step (stays u target step there)
-  anchor-inside near based {u} h anchor (goes {v = v} m link step rest) =
-      first-inside near based u h anchor v m step (stays u v step (way-home rest))
+  anchor-inside near based {u} h anchor o =
+      both-true (isNear near u) _ (always-near items near based u h (inl (anchor-kind items moment u anchor))) (anchor-here o)
 
 module _ (a b : ℕ) (items : List Item) (at : ℕ → ℕ) (table : List ℕ) (moment target round : ℕ) (near : List ℕ) (rows : List (List ℕ)) (counting roles : List ℕ) where
   -- the tables tell what is near, and so is each way on to the target of at most a place more than rounds were done, in the

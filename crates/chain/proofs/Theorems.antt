@@ -139,15 +139,15 @@ image-refused s why e = go (firstBroken 1 (rules 1 2 s)) (eqb (firstBroken 1 (ru
     go rule false f = inl (rule, cc)
 
 tests-refused :
-    (a b c d : Bool) (n : ℕ) (why : Refusal)
-    → cond a (cond b (cond c (cond d (asked.Over n) (asked.Refused refusal.Argument)) (asked.Refused refusal.Argument)) (asked.Refused refusal.Argument))
+    (a b c d : Bool) (n version : ℕ) (why : Refusal)
+    → cond a (cond b (cond c (cond d (asked.Over n version) (asked.Refused refusal.Argument)) (asked.Refused refusal.Argument)) (asked.Refused refusal.Argument))
     (asked.Refused refusal.Argument)
     ≡ asked.Refused why → FiveOrOne why
-tests-refused true true true true n why e = absurd (let z : _≡_ {A = ℕ} 0 1 = cc in omega arith)
-tests-refused true true true false n why e = inr (cc)
-tests-refused true true false d n why e = inr (cc)
-tests-refused true false c d n why e = inr (cc)
-tests-refused false b c d n why e = inr (cc)
+tests-refused true true true true n version why e = absurd (let z : _≡_ {A = ℕ} 0 1 = cc in omega arith)
+tests-refused true true true false n version why e = inr (cc)
+tests-refused true true false d n version why e = inr (cc)
+tests-refused true false c d n version why e = inr (cc)
+tests-refused false b c d n version why e = inr (cc)
 
 module _ (s table : List ℕ) (moment target : ℕ) where
   -- A question is refused with the image's 5, or with 1.
@@ -158,7 +158,7 @@ module _ (s table : List ℕ) (moment target : ℕ) where
       go : (o : Opened) → openedOf s ≡ o → onImage s table moment target o ≡ asked.Refused why → FiveOrOne why
       go (opened.Refused w) h f = image-refused s why (h ∙ (cc))
       go (opened.Image n day version) h f =
-          tests-refused (tableGood n table) (realMoment 1950 2099 moment) (ltb target n) (eqb (entryIn s target .kind) 3) n why f
+          tests-refused (tableGood n table) (realMoment 1950 2099 moment) (ltb target n) (eqb (entryIn s target .kind) 3) n version why f
 
   question-not-7 : askedOf s table moment target ≡ asked.Refused refusal.Chain → ⊥
   question-not-7 e = go (question-refused refusal.Chain e)
@@ -217,23 +217,23 @@ module _ (s table : List ℕ) (moment target : ℕ) where
     -- The answer is 7 only where the question is good and no good chain exists.
     pub none-sound :
         r .outcome ≡ Refused refusal.Chain
-        → ((n : ℕ) × (askedOf s table moment target ≡ asked.Over n)) × ((c : List ℕ) → Chain (goodChains s table moment) target c → ⊥)
+        → ((n : ℕ) × (version : ℕ) × (askedOf s table moment target ≡ asked.Over n version)) × ((c : List ℕ) → Chain (goodChains s table moment) target c → ⊥)
     none-sound e = go a
       where
         go :
             Answered s table moment target r
-            → ((n : ℕ) × (askedOf s table moment target ≡ asked.Over n))
+            → ((n : ℕ) × (version : ℕ) × (askedOf s table moment target ≡ asked.Over n version))
             × ((c : List ℕ) → Chain (goodChains s table moment) target c → ⊥)
         go (answers.refused why f w) =
             absurd (let t = w .told in let same : why ≡ refusal.Chain = cc in question-not-7 (f ∙ ap asked.Refused same))
-        go (answers.none {n} f h w) = ((n, f), h)
+        go (answers.none {n} {version} f h w) = ((n, version, f), h)
         go (answers.found c f h w) = absurd (let t = w .told in let z : _≡_ {A = ℕ} 0 1 = cc in omega arith)
 
     -- And there it is always 7.
     pub none-complete :
-        (n : ℕ) → askedOf s table moment target ≡ asked.Over n → ((c : List ℕ) → Chain (goodChains s table moment) target c → ⊥)
+        (n version : ℕ) → askedOf s table moment target ≡ asked.Over n version → ((c : List ℕ) → Chain (goodChains s table moment) target c → ⊥)
         → r .outcome ≡ Refused refusal.Chain
-    none-complete n e empty = go a
+    none-complete n version e empty = go a
       where
         go : Answered s table moment target r → r .outcome ≡ Refused refusal.Chain
         go (answers.refused why f w) = absurd (let z : _≡_ {A = ℕ} 0 1 = cc in omega arith)
@@ -242,9 +242,9 @@ module _ (s table : List ℕ) (moment target : ℕ) where
 
     -- Where the question is good and a good chain exists, one is shown.
     pub answer-complete :
-        (n : ℕ) (c : List ℕ) → askedOf s table moment target ≡ asked.Over n → Chain (goodChains s table moment) target c
+        (n version : ℕ) (c : List ℕ) → askedOf s table moment target ≡ asked.Over n version → Chain (goodChains s table moment) target c
         → r .outcome ≡ Shown
-    answer-complete n c e good = go a
+    answer-complete n version c e good = go a
       where
         go : Answered s table moment target r → r .outcome ≡ Shown
         go (answers.refused why f w) = absurd (let z : _≡_ {A = ℕ} 0 1 = cc in omega arith)
@@ -254,27 +254,28 @@ module _ (s table : List ℕ) (moment target : ℕ) where
 module _ (s table : List ℕ) (moment target : ℕ) where
   -- a range is good or not
   apart :
-      (n m : ℕ) (places : List ℕ) → askedOf s table moment target ≡ asked.Over n → askedOf s table moment target ≡ asked.Over m
+      (n m : ℕ) {version own : ℕ} (places : List ℕ) → askedOf s table moment target ≡ asked.Over n version
+      → askedOf s table moment target ≡ asked.Over m own
       → rangeGood n places ≡ false → rangeGood m places ≡ true → ⊥
   apart n m places e f a b = let same : n ≡ m = cc in false-true (sym a ∙ (rw (← same) at b))
 
   -- what is accepted is a good chain
   accepted-good :
       (places : List ℕ) (p : Proposal) → Proposed s table moment target places p → p ≡ proposal.Accepted
-      → ((n : ℕ) × (askedOf s table moment target ≡ asked.Over n)) × Chain (goodChains s table moment) target places
+      → ((n : ℕ) × (version : ℕ) × (askedOf s table moment target ≡ asked.Over n version)) × Chain (goodChains s table moment) target places
   accepted-good places p (proposed.refused why f w) e = absurd (let z : _≡_ {A = ℕ} 0 1 = cc in omega arith)
   accepted-good places p (proposed.outside f b w) e = absurd (let z : _≡_ {A = ℕ} 0 1 = cc in omega arith)
-  accepted-good places p (proposed.accepted {n} f b g w) e = ((n, f), g)
+  accepted-good places p (proposed.accepted {n} {version} f b g w) e = ((n, version, f), g)
   accepted-good places p (proposed.unfounded f b g w) e = absurd (let z : _≡_ {A = ℕ} 0 1 = cc in omega arith)
 
   -- and a best chain is accepted
   best-accepted :
-      (n : ℕ) (c : List ℕ) → askedOf s table moment target ≡ asked.Over n → Best (goodChains s table moment) target c → (p : Proposal)
+      (n version : ℕ) (c : List ℕ) → askedOf s table moment target ≡ asked.Over n version → Best (goodChains s table moment) target c → (p : Proposal)
       → Proposed s table moment target c p → p ≡ proposal.Accepted
-  best-accepted n c e b p (proposed.refused why f w) = absurd (let z : _≡_ {A = ℕ} 0 1 = cc in omega arith)
-  best-accepted n c e b p (proposed.outside {n = m} f a w) = absurd (apart m n c f e a (range-good n c (best-in-range s table moment target b e)))
-  best-accepted n c e b p (proposed.accepted f a g w) = w
-  best-accepted n c e b p (proposed.unfounded f a g w) = absurd (g (b .good))
+  best-accepted n version c e b p (proposed.refused why f w) = absurd (let z : _≡_ {A = ℕ} 0 1 = cc in omega arith)
+  best-accepted n version c e b p (proposed.outside {n = m} f a w) = absurd (apart m n c f e a (range-good n c (best-in-range s table moment target b e)))
+  best-accepted n version c e b p (proposed.accepted f a g w) = w
+  best-accepted n version c e b p (proposed.unfounded f a g w) = absurd (g (b .good))
 
   -- No second answer fits a proposal.
   pub one-verdict :
@@ -303,8 +304,8 @@ module _ (s table : List ℕ) (moment target : ℕ) where
       → Proposed s table moment target (take (r .length) (r .places)) p → p ≡ proposal.Accepted
   shown-accepted r (answers.refused why f w) e p = absurd (let t = w .told in let z : _≡_ {A = ℕ} 0 1 = cc in omega arith)
   shown-accepted r (answers.none f h w) e p = absurd (let t = w .told in let z : _≡_ {A = ℕ} 0 1 = cc in omega arith)
-  shown-accepted r (answers.found {n} c f h w) e p = λ is.
-      best-accepted n c f h p (rw (w .many, w .slots, take-append-seam c (replicate (96 - length c) 255)) at is)
+  shown-accepted r (answers.found {n} {version} c f h w) e p = λ is.
+      best-accepted n version c f h p (rw (w .many, w .slots, take-append-seam c (replicate (96 - length c) 255)) at is)
 
   module _ (places : List ℕ) (p : Proposal) (is : Proposed s table moment target places p) where
     -- Where a proposal is accepted a chain is shown that is no longer.
@@ -316,9 +317,9 @@ module _ (s table : List ℕ) (moment target : ℕ) where
         least c (inr k) = omega (arith, k .0)
 
         go :
-            Answered s table moment target r → ((n : ℕ) × (askedOf s table moment target ≡ asked.Over n)) × Chain (goodChains s table moment) target places
+            Answered s table moment target r → ((n : ℕ) × (version : ℕ) × (askedOf s table moment target ≡ asked.Over n version)) × Chain (goodChains s table moment) target places
             → (r .outcome ≡ Shown) × (r .length ≤ length places)
-        go (answers.refused why f w) ((n, x), g) = absurd (let z : _≡_ {A = ℕ} 0 1 = cc in omega arith)
+        go (answers.refused why f w) ((n, version, x), g) = absurd (let z : _≡_ {A = ℕ} 0 1 = cc in omega arith)
         go (answers.none f h w) (x, g) = absurd (h places g)
         go (answers.found c f h w) (x, g) = (w .told, omega (arith, w .many, least c (h .least places g)))
 

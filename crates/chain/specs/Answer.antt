@@ -28,7 +28,7 @@ onImage s table moment target (opened.Refused refusal) = asked.Refused refusal
 onImage s table moment target (opened.Image n day version) =
     cond (tableGood n table)
     (cond (realMoment 1950 2099 moment)
-    (cond (ltb target n) (cond (eqb (entryIn s target .kind) 3) (asked.Over n) (asked.Refused refusal.Argument))
+    (cond (ltb target n) (cond (eqb (entryIn s target .kind) 3) (asked.Over n version) (asked.Refused refusal.Argument))
     (asked.Refused refusal.Argument))
     (asked.Refused refusal.Argument))
     (asked.Refused refusal.Argument)
@@ -63,10 +63,10 @@ pub data Answered (s table : List ℕ) (moment target : ℕ) (r : Answer) : Type
       (why : Refusal) → askedOf s table moment target ≡ asked.Refused why → Without why r → Answered s table moment target r
   -- 7: no good chain exists
   none :
-      {n : ℕ} → askedOf s table moment target ≡ asked.Over n
+      {n version : ℕ} → askedOf s table moment target ≡ asked.Over n version
       → ((c : List ℕ) → Chain (goodChains s table moment) target c → ⊥) → Without refusal.Chain r
       → Answered s table moment target r
   -- the best of the good chains
   found :
-      {n : ℕ} (c : List ℕ) → askedOf s table moment target ≡ asked.Over n → Best (goodChains s table moment) target c → With c r
+      {n version : ℕ} (c : List ℕ) → askedOf s table moment target ≡ asked.Over n version → Best (goodChains s table moment) target c → With c r
       → Answered s table moment target r

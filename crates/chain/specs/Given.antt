@@ -22,19 +22,28 @@ pub record InRange (n : ℕ) (c : List ℕ) : Type 0 where
   pub most : length c ≤ 96
   pub inside : (i : ℕ) → i < length c → getD c i 0 < n
 
--- some slots are 1 now, among them each link that the proposal names
+-- some slots are 1 now, among them each place that the proposal names
 pub record Named (c before near : List ℕ) : Type 0 where
   pub kept : (p : ℕ) → (getD near p 0 ≡ 1) ⊎ (getD near p 0 ≡ getD before p 0)
-  pub named : (i : ℕ) → i < length c → getD before (getD c i 0) 0 ≡ 2 → getD near (getD c i 0) 0 ≡ 1
+  pub named : (i : ℕ) → i < length c → getD near (getD c i 0) 0 ≡ 1
 
--- the role that is asked of one of so many places: the first an anchor, the last a signer, those between links
-unfoldable pub roleAsked : ℕ → ℕ → ℕ
-roleAsked many i = cond (eqb i 0) 1 (cond (eqb (i + 1) many) 3 2)
+-- 1 for a CRL that is open and within its times
+unfoldable pub listOf : Row → ℕ
+listOf row = cond (eqb (row .standing) 4) 1 0
 
--- each place has its role, and the last is the target
-pub record RolesFit (roles : List ℕ) (target : ℕ) (c : List ℕ) : Type 0 where
-  pub each : (i : ℕ) → i < length c → getD roles (getD c i 0) 0 ≡ roleAsked (length c) i
-  pub last : (i : ℕ) → i + 1 ≡ length c → getD c i 0 ≡ target
+-- some slots are 1 now, among them each anchor that waits and has verdict 1 for one of the CRLs
+pub record Vouching (n : ℕ) (table lists before near : List ℕ) : Type 0 where
+  pub kept : (p : ℕ) → (getD near p 0 ≡ 1) ⊎ (getD near p 0 ≡ getD before p 0)
+  pub heard :
+      (u v : ℕ) → u < n → v < n → getD lists v 0 ≡ 1 → verdictIn n table u v ≡ true → getD before u 0 ≡ 2 → getD near u 0 ≡ 1
+
+-- the role that is asked of a place before the last: the first an anchor, the others links
+unfoldable pub roleAsked : ℕ → ℕ
+roleAsked i = cond (eqb i 0) 1 2
+
+-- each place before the last has its role
+abbrev pub RolesFit : List ℕ → List ℕ → Type 0
+RolesFit roles c = (i : ℕ) → i + 1 < length c → getD roles (getD c i 0) 0 ≡ roleAsked i
 
 -- verdict 1, and the second row fits the first
 unfoldable pub joined : (Row → List ℕ) → ℕ → List ℕ → List (List ℕ) → ℕ → ℕ → Bool

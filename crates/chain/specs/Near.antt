@@ -17,6 +17,10 @@ freshOf before near = cond (eqb near 1) (cond (eqb before 1) false true) false
 unfoldable pub firstOf : ℕ → ℕ → ℕ → ℕ
 firstOf target place kind = cond (eqb place target) 1 (cond (eqb kind 2) 2 (cond (eqb kind 3) 0 1))
 
+-- of a proposal at first the CRLs; 2 for an anchor, which waits for a verdict
+unfoldable pub waitingOf : ℕ → ℕ
+waitingOf kind = cond (eqb kind 4) 1 (cond (eqb kind 1) 2 0)
+
 -- a link with verdict 1 is near
 unfoldable pub markedOf : ℕ → ℕ → ℕ → ℕ
 markedOf before verdict mark = cond (eqb before 2) (cond (eqb verdict 1) 1 mark) mark

@@ -30,14 +30,14 @@ pub data Proposed (s table : List ℕ) (moment target : ℕ) (places : List ℕ)
       → Proposed s table moment target places r
   -- 1: not 2 to 96 places, or one that is not in the image
   outside :
-      {n : ℕ} → askedOf s table moment target ≡ asked.Over n → rangeGood n places ≡ false → r ≡ Refused refusal.Argument
+      {n version : ℕ} → askedOf s table moment target ≡ asked.Over n version → rangeGood n places ≡ false → r ≡ Refused refusal.Argument
       → Proposed s table moment target places r
   -- a good chain to the signer asked for
   accepted :
-      {n : ℕ} → askedOf s table moment target ≡ asked.Over n → rangeGood n places ≡ true
+      {n version : ℕ} → askedOf s table moment target ≡ asked.Over n version → rangeGood n places ≡ true
       → Chain (goodChains s table moment) target places → r ≡ Accepted → Proposed s table moment target places r
   -- 7: it is none
   unfounded :
-      {n : ℕ} → askedOf s table moment target ≡ asked.Over n → rangeGood n places ≡ true
+      {n version : ℕ} → askedOf s table moment target ≡ asked.Over n version → rangeGood n places ≡ true
       → (Chain (goodChains s table moment) target places → ⊥) → r ≡ Refused refusal.Chain
       → Proposed s table moment target places r

@@ -1,7 +1,7 @@
 // Whether a question may be asked.
 use calendar::real_moment;
 use image::Opened;
-use image::entry_in;
+use image::entry_of;
 use image::open;
 use refusal::Refusal;
 ghost use mathlib.Core.Path.{_≡_};
@@ -9,9 +9,9 @@ ghost use Prim.Native.Nat.{_≤_};
 ghost use Rattle.chain.specs.Answer.{askedOf};
 ghost use Rattle.usable.specs.Table.{bits, tableGood};
 
-// The number of places that it is asked over.
+// The number of places that it is asked over, and the version of their entries.
 pub enum Asked {
-    Over { places: usize },
+    Over { places: usize, version: usize },
     Refused(Refusal),
 }
 
@@ -19,30 +19,32 @@ pub enum Asked {
 pub(crate) fn question(image: &[u8], table: &[u8], moment: u64, target: u64) -> Asked
     ensures { λ r. ⌜ r ≡ askedOf (now (image .entry)) (now (table .entry)) moment target ⌝ }
 {
-    let entries = match open(image) {
-        Opened::Refused(refusal) => {
-            return Asked::Refused(refusal);
-        }
+    match open(image) {
+        Opened::Refused(refusal) => Asked::Refused(refusal),
         Opened::Image {
             entries,
             day: _,
-            version: _,
-        } => entries,
-    };
-    if !table_good(entries, table) {
-        return Asked::Refused(Refusal::Argument);
+            version,
+        } => {
+            if !table_good(entries, table) {
+                return Asked::Refused(Refusal::Argument);
+            }
+            if !real_moment(moment) {
+                return Asked::Refused(Refusal::Argument);
+            }
+            if entries as u64 <= target {
+                return Asked::Refused(Refusal::Argument);
+            }
+            let e = entry_of(version, image, target as usize);
+            if e.kind != 3 {
+                return Asked::Refused(Refusal::Argument);
+            }
+            Asked::Over {
+                places: entries,
+                version,
+            }
+        }
     }
-    if !real_moment(moment) {
-        return Asked::Refused(Refusal::Argument);
-    }
-    if entries as u64 <= target {
-        return Asked::Refused(Refusal::Argument);
-    }
-    let e = entry_in(image, target as usize);
-    if e.kind != 3 {
-        return Asked::Refused(Refusal::Argument);
-    }
-    Asked::Over { places: entries }
 }
 
 // Octets for each pair of places, each 0 or 1.

@@ -17,7 +17,7 @@ ghost use mathlib.Core.Path.{_≡_};
 ghost use Prim.Native.Nat.{_≤_};
 ghost use Rattle.chain.specs.Answer.{Answered, goodChains};
 ghost use Rattle.graph.specs.Answer as search;
-ghost use Rattle.image.specs.Index.{entryCount};
+ghost use Rattle.image.specs.Index.{entryCount, versionIn};
 ghost use Rattle.usable.specs.Rows.{heldIn, Matched};
 
 // Answers and refusals as `best_chain` has them, the same for each question.
@@ -26,7 +26,8 @@ pub fn best_chain_by_rounds(image: &[u8], table: &[u8], moment: u64, target: u64
 {
     match question(image, table, moment, target) {
         Asked::Refused(refusal) => refused(refusal),
-        Asked::Over { places } => shown(chain_over_all(
+        Asked::Over { places, version } => shown(chain_over_all(
+            version,
             image,
             table,
             places,
@@ -37,13 +38,20 @@ pub fn best_chain_by_rounds(image: &[u8], table: &[u8], moment: u64, target: u64
 }
 
 // The best chain, with every place open.
-fn chain_over_all(image: &[u8], table: &[u8], places: usize, moment: u64, target: usize) -> Found
-    requires { ⌜ (places ≡ entryCount (now image)) × (places ≤ 96) ⌝ }
+fn chain_over_all(
+    version: usize,
+    image: &[u8],
+    table: &[u8],
+    places: usize,
+    moment: u64,
+    target: usize,
+) -> Found
+    requires { ⌜ (version ≡ versionIn (now image)) × (places ≡ entryCount (now image)) × (places ≤ 96) ⌝ }
     ensures { λ r. ⌜ search.Answered (goodChains (now (image .entry)) (now (table .entry)) moment) target r ⌝ }
 {
     let nothing = [0u8; 96];
     let mut rows = [[0usize; 17]; 96];
-    open_all(image, places, moment, &mut rows);
+    open_all(version, image, places, moment, &mut rows);
     let counting = counting_lists(table, places, &rows);
     let roles = roles_of(image, places, nothing, &rows, counting, nothing);
     let steps = matching_steps(image, table, places, &rows, roles);

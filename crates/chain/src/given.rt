@@ -6,33 +6,29 @@ ghost use Prim.Native.Nat.{_≤_, _<_};
 ghost use Rattle.usable.specs.Rows.{heldIn};
 ghost use Rattle.chain.specs.Given.{Decides, InRange, RolesFit, StepsFit, roleAsked, joined};
 
-// Each place has the role that is asked of it, and the last is the target.
-pub(crate) fn roles_fit(roles: [u8; 96], target: usize, places: &[u8]) -> bool
+// Each place before the last has the role that is asked of it.
+pub(crate) fn roles_fit(roles: [u8; 96], places: &[u8]) -> bool
     requires { ⌜ InRange 96 (now places) ⌝ }
-    ensures { λ r. ⌜ Decides (RolesFit roles target (now (places .entry))) r ⌝ }
+    ensures { λ r. ⌜ Decides (RolesFit roles (now (places .entry))) r ⌝ }
 {
-    let many = places.len();
+    let end = places.len() - 1;
     let mut i = 0;
-    while i < many {
+    while i < end {
         let place = places[i] as usize;
-        if roles[place] != role_asked(many, i) {
+        if roles[place] != role_asked(i) {
             return false;
         }
         i += 1;
     }
-    places[many - 1] as usize == target
+    true
 }
 
-// An anchor, then links, then the signer.
-fn role_asked(many: usize, i: usize) -> u8
-    requires { ⌜ i < many ⌝ }
-    ensures { λ r. ⌜ r ≡ roleAsked many i ⌝ }
+// An anchor, then links.
+fn role_asked(i: usize) -> u8
+    ensures { λ r. ⌜ r ≡ roleAsked i ⌝ }
 {
     if i == 0 {
         return 1;
-    }
-    if i + 1 == many {
-        return 3;
     }
     2
 }

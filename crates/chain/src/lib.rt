@@ -43,7 +43,14 @@ pub fn best_chain(image: &[u8], table: &[u8], moment: u64, target: u64) -> Answe
 {
     match question(image, table, moment, target) {
         Asked::Refused(refusal) => refused(refusal),
-        Asked::Over { places } => shown(chain_among(image, table, places, moment, target as usize)),
+        Asked::Over { places, version } => shown(chain_among(
+            version,
+            image,
+            table,
+            places,
+            moment,
+            target as usize,
+        )),
     }
 }
 

@@ -1,33 +1,59 @@
 // Which places a round opens: 1 for these, 2 for a link that is not among them, else 0.
-use image::kind_in;
+use image::kinds_in;
 use octets::octet;
 use usable::led;
 ghost use mathlib.Core.Path.{_≡_};
 ghost use mathlib.Core.Bool.{true};
 ghost use Prim.Native.Nat.{ℕ, _≤_, _<_};
 ghost use lib.ListN.{getD};
-ghost use Rattle.chain.specs.Near.{firstOf, markedOf, Near, Wider};
-ghost use Rattle.image.specs.Index.{entryCount, itemsIn};
+ghost use Rattle.chain.specs.Near.{firstOf, waitingOf, markedOf, Near, Wider};
+ghost use Rattle.image.specs.Index.{entryCount, versionIn, itemsIn};
 ghost use Rattle.usable.specs.Items.{itemAt};
 
 // The round that opens all links.
 pub(crate) const LAST: usize = 4;
 
 // At first the target, the anchors and the CRLs. Other signers are in no chain to the target.
-pub(crate) fn near_first(image: &[u8], places: usize, target: usize) -> [u8; 96]
-    requires { ⌜ (places ≡ entryCount (now image)) × (places ≤ 96) ⌝ }
+pub(crate) fn near_first(version: usize, image: &[u8], places: usize, target: usize) -> [u8; 96]
+    requires { ⌜ (version ≡ versionIn (now image)) × (places ≡ entryCount (now image)) × (places ≤ 96) ⌝ }
     ensures { λ r. ⌜ ((p : ℕ) → p < places → getD r p 0 ≡ firstOf target p (itemAt (itemsIn (now (image .entry))) p .kind)) ⌝ }
 {
+    let kinds = kinds_in(version, image);
     let mut near = [0u8; 96];
     let mut place = 0;
     while place < places {
-        near[place] = first(kind_in(image, place), place, target);
+        near[place] = first(kinds[place], place, target);
         place += 1;
     }
     near
 }
 
-fn first(kind: usize, place: usize, target: usize) -> u8
+// Of a proposal the CRLs; an anchor waits until a verdict for one of them is seen.
+pub(crate) fn near_lists(kinds: [u8; 96]) -> [u8; 96]
+    ensures { λ r. ⌜ ((p : ℕ) → p < 96 → getD r p 0 ≡ waitingOf (getD kinds p 0)) ⌝ }
+{
+    let mut near = [0u8; 96];
+    let mut place = 0;
+    while place < 96 {
+        near[place] = waiting(kinds[place]);
+        place += 1;
+    }
+    near
+}
+
+fn waiting(kind: u8) -> u8
+    ensures { λ r. ⌜ r ≡ waitingOf kind ⌝ }
+{
+    if kind == 4 {
+        return 1;
+    }
+    if kind == 1 {
+        return 2;
+    }
+    0
+}
+
+fn first(kind: u8, place: usize, target: usize) -> u8
     ensures { λ r. ⌜ r ≡ firstOf target place kind ⌝ }
 {
     if place == target {

@@ -6,14 +6,13 @@ use crate::near::LAST;
 use crate::near::near_first;
 use crate::near::near_next;
 use crate::near::unchanged;
+use crate::opening::open_first;
 use crate::opening::open_items;
+use crate::opening::open_place;
 use graph::Found;
 use graph::no_chain;
-use image::entry_in;
-use octets::part;
 use search::chain_to;
 use usable::counting_lists;
-use usable::open_item;
 use usable::roles_of;
 ghost use mathlib.Core.Path.{_≡_};
 ghost use mathlib.Core.Bool.{true};
@@ -24,26 +23,25 @@ ghost use Rattle.usable.specs.Items.{itemAt};
 ghost use Rattle.usable.specs.Rows.{rowFrom, rowOf};
 ghost use Rattle.chain.specs.Rounds.{startsIn, enoughOf};
 ghost use Rattle.graph.specs.Answer as search;
-ghost use Rattle.image.specs.Index.{entryCount, entryIn, itemsIn};
+ghost use Rattle.image.specs.Index.{entryCount, versionIn, entryIn, itemsIn};
 
 // The target is opened first: where it cannot stand in a chain there is none.
 pub(crate) fn chain_among(
+    version: usize,
     image: &[u8],
     table: &[u8],
     places: usize,
     moment: u64,
     target: usize,
 ) -> Found
-    requires { ⌜ (places ≡ entryCount (now image)) × (places ≤ 96) × (target < places) × (entryIn (now image) target .kind ≡ 3) ⌝ }
+    requires { ⌜ (version ≡ versionIn (now image)) × (places ≡ entryCount (now image)) × (places ≤ 96) × (target < places) × (entryIn (now image) target .kind ≡ 3) ⌝ }
     ensures { λ r. ⌜ search.Answered (goodChains (now (image .entry)) (now (table .entry)) moment) target r ⌝ }
 {
-    let e = entry_in(image, target);
-    let item = part(image, e.offset, e.length);
-    let signer = open_item(item, e.kind, e.flags, e.offset, moment);
+    let signer = open_place(version, image, moment, target);
     if signer[0] == 0 {
         return no_chain();
     }
-    chain_home(image, table, places, moment, target, signer)
+    chain_home(version, image, table, places, moment, target, signer)
 }
 
 // Round 0 opens the anchors and CRLs of the target's country, and each round goes a link further back from the target. So a round
@@ -51,6 +49,7 @@ pub(crate) fn chain_among(
 // best. In round 0 these are the steps from an anchor to the target. Where no round could open more, all good chains are known too.
 // From round 1 on all links with verdict 1 for the target are open: where nothing leads to it there is no chain.
 fn chain_home(
+    version: usize,
     image: &[u8],
     table: &[u8],
     places: usize,
@@ -58,25 +57,22 @@ fn chain_home(
     target: usize,
     signer: [usize; 17],
 ) -> Found
-    requires { ⌜ (places ≡ entryCount (now image)) × (places ≤ 96) × (target < places) × (entryIn (now image) target .kind ≡ 3) × (rowFrom signer ≡ rowOf moment (itemAt (itemsIn (now image)) target) (startsIn (now image) target)) × (getD signer 0 0 ≡ 0 → ⊥) ⌝ }
+    requires { ⌜ (version ≡ versionIn (now image)) × (places ≡ entryCount (now image)) × (places ≤ 96) × (target < places) × (entryIn (now image) target .kind ≡ 3) × (rowFrom signer ≡ rowOf moment (itemAt (itemsIn (now image)) target) (startsIn (now image) target)) × (getD signer 0 0 ≡ 0 → ⊥) ⌝ }
     ensures { λ r. ⌜ search.Answered (goodChains (now (image .entry)) (now (table .entry)) moment) target r ⌝ }
 {
     let nothing = [0u8; 96];
     let first = signer[1];
     let second = signer[2];
     let mut rows = [[0usize; 17]; 96];
-    rows[target] = signer;
-    let mut opened = [0u8; 96];
-    opened[target] = 1;
-    let mut near = near_first(image, places, target);
-    open_items(
+    let mut near = near_first(version, image, places, target);
+    open_first(
+        version,
         image,
         table,
         places,
         moment,
-        first,
-        second,
-        opened,
+        target,
+        signer,
         near,
         &mut rows,
     );
@@ -98,6 +94,7 @@ fn chain_home(
             return chain_to(image, table, places, &rows, &roles, target);
         }
         open_items(
+            version,
             image,
             table,
             places,

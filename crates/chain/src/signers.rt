@@ -14,7 +14,7 @@ ghost use lib.ListN.{length};
 ghost use Rattle.chain.specs.Answer.{goodChains};
 ghost use Rattle.chain.specs.Signers.{AllSigned};
 ghost use Rattle.graph.specs.Records as search;
-ghost use Rattle.image.specs.Index.{entryCount};
+ghost use Rattle.image.specs.Index.{entryCount, versionIn};
 
 // The octets that were written.
 pub enum Signers {
@@ -28,38 +28,44 @@ pub enum Signers {
 pub fn all_signers(image: &[u8], table: &[u8], moment: u64, out: &mut [u8]) -> Signers
     ensures { λ r. ⌜ AllSigned (now (image .entry)) (now (table .entry)) moment (now (out .entry)) (now (out .exit)) r ⌝ }
 {
-    let entries = match open(image) {
-        Opened::Refused(refusal) => {
-            return Signers::Refused(refusal);
-        }
+    match open(image) {
+        Opened::Refused(refusal) => Signers::Refused(refusal),
         Opened::Image {
             entries,
             day: _,
-            version: _,
-        } => entries,
-    };
-    if !table_good(entries, table) {
-        return Signers::Refused(Refusal::Argument);
+            version,
+        } => {
+            if !table_good(entries, table) {
+                return Signers::Refused(Refusal::Argument);
+            }
+            if !real_moment(moment) {
+                return Signers::Refused(Refusal::Argument);
+            }
+            let size = 97 * entries;
+            if out.len() < size {
+                return Signers::Refused(Refusal::Short);
+            }
+            record_signers(version, image, table, entries, moment, out);
+            Signers::Length(size)
+        }
     }
-    if !real_moment(moment) {
-        return Signers::Refused(Refusal::Argument);
-    }
-    let size = 97 * entries;
-    if out.len() < size {
-        return Signers::Refused(Refusal::Short);
-    }
-    record_signers(image, table, entries, moment, out);
-    Signers::Length(size)
 }
 
 // Each item is opened once, and one search serves all places.
-fn record_signers(image: &[u8], table: &[u8], places: usize, moment: u64, out: &mut [u8])
-    requires { ⌜ (places ≡ entryCount (now image)) × (places ≤ 96) × (97 * places ≤ length (now out)) ⌝ }
+fn record_signers(
+    version: usize,
+    image: &[u8],
+    table: &[u8],
+    places: usize,
+    moment: u64,
+    out: &mut [u8],
+)
+    requires { ⌜ (version ≡ versionIn (now image)) × (places ≡ entryCount (now image)) × (places ≤ 96) × (97 * places ≤ length (now out)) ⌝ }
     ensures { λ _. ⌜ search.Records (goodChains (now (image .entry)) (now (table .entry)) moment) places (now (out .entry)) (now (out .exit)) ⌝ }
 {
     let nothing = [0u8; 96];
     let mut rows = [[0usize; 17]; 96];
-    open_all(image, places, moment, &mut rows);
+    open_all(version, image, places, moment, &mut rows);
     let counting = counting_lists(table, places, &rows);
     let roles = roles_of(image, places, nothing, &rows, counting, nothing);
     chains_to_all(image, table, places, &rows, &roles, out);

@@ -1,4 +1,4 @@
--- An image that is opened has at most 96 entries, since the third rule says so and no rule is broken.
+-- What is told of an image that is opened is its own, and it has at most 96 entries, since the third rule says so and no rule is broken.
 use Prim.Native.Nat.{ℕ, _≤_}
 use mathlib.Core.Path.{_≡_, refl}
 use mathlib.Core.Bool.{Bool, true, false, cond}
@@ -15,14 +15,16 @@ use Rattle.image.specs.Answer.{graded, openedWithin}
 
 -- no rule is broken
 unbroken :
-    (rule count day version n d v : ℕ) → graded rule (opened.Image count day version) ≡ opened.Image n d v → (rule ≡ 0) × (n ≡ count)
+    (rule count day version n d v : ℕ) → graded rule (opened.Image count day version) ≡ opened.Image n d v
+    → (rule ≡ 0) × (n ≡ count) × (v ≡ version)
 unfolding graded
 unbroken rule count day version n d v e = go (eqb rule 0) refl e
   where
     go :
         (b : Bool) → eqb rule 0 ≡ b
-        → cond b (opened.Image count day version) (opened.Refused (refusal.Image rule)) ≡ opened.Image n d v → (rule ≡ 0) × (n ≡ count)
-    go true h f = (eqb-true rule 0 h, cc)
+        → cond b (opened.Image count day version) (opened.Refused (refusal.Image rule)) ≡ opened.Image n d v
+        → (rule ≡ 0) × (n ≡ count) × (v ≡ version)
+    go true h f = (eqb-true rule 0 h, cc, cc)
     go false h f = absurd (let z : _≡_ {A = ℕ} 0 1 = cc in omega arith)
 
 third : (a b c : Bool) (rest : ℕ) → cond a (cond b (cond c rest 3) 2) 1 ≡ 0 → c ≡ true
@@ -33,9 +35,9 @@ third false b c rest e = absurd (omega arith)
 
 pub opened-image :
     (least most : ℕ) (s : List ℕ) (n day version : ℕ) → openedWithin least most s ≡ opened.Image n day version
-    → (n ≡ entryCount s) × (n ≤ 96)
+    → (n ≡ entryCount s) × (n ≤ 96) × (version ≡ versionIn s)
 unfolding openedWithin rules firstBroken rule3
 opened-image least most s n day version e =
     let u = unbroken (firstBroken 1 (rules least most s)) (entryCount s) (dayIn s) (versionIn s) n day version e in
     let few = leb-true (entryCount s) 96 (third (rule1 s) (rule2 least most s) (rule3 s) _ (u .0)) in
-    (u .1, omega (arith, u .1))
+    (u .1, omega (arith, u .1), u .2)

@@ -1,8 +1,8 @@
 -- A field octet by octet: each octet that is there adds itself to 256 times those before it, and beyond the end there is none.
-use Prim.Native.Nat.{ℕ, suc, _+_, _*_, _-_, _<_, _≤_}
+use Prim.Native.Nat.{ℕ, zero, suc, _+_, _*_, _-_, _<_, _≤_}
 use mathlib.Core.Path.{_≡_, refl, ap, sym, _∙_}
 use mathlib.Core.Bool.{Bool, true, false, cond}
-use mathlib.Core.List.{List}
+use mathlib.Core.List.{List, [], _∷_}
 use native.Mathlib.Nat.{add-assoc}
 use native.Mathlib.Omega.{arith}
 use lib.Dec.{eqb}
@@ -28,6 +28,22 @@ field-one s at h =
     let here : at + 0 ≡ at = omega arith in
     omega (arith, nothing s at, field-next s at 0 (omega arith), ap (λ (i : ℕ). getD s i 0) here)
 
+pub field-past : (s : List ℕ) (at k : ℕ) → length s ≤ at → field s at k ≡ 0
+unfolding field number
+field-past s at k h = rw (drop-of-length-le s, take-nil)
+
+-- one octet, there or not
+octet-field : (s : List ℕ) (at : ℕ) → getD s at 0 ≡ field s at 1
+unfolding field
+octet-field [] at = sym (field-past [] at 1 (omega arith))
+octet-field (x ∷ s) zero = sym (field-one (x ∷ s) 0 (omega arith))
+octet-field (x ∷ s) (suc at) = octet-field s at
+
+-- so the kind is the first octet of an entry
+pub entry-kind : (version : ℕ) (s : List ℕ) (at : ℕ) → getD s at 0 ≡ entryAt version s at .kind
+unfolding entryAt
+entry-kind version s at = octet-field s at
+
 pub field-two :
     (s : List ℕ) (at : ℕ) → at + 2 ≤ length s → field s at 2 ≡ getD s at 0 * 256 + getD s (at + 1) 0
 field-two s at h = omega (arith, field-next s at 1 (omega arith), field-one s at (omega arith))
@@ -42,10 +58,6 @@ field-four s at h =
       field-two s (at + 2) (omega arith),
       ap (λ (i : ℕ). getD s i 0) (add-assoc at 2 1),
     )
-
-pub field-past : (s : List ℕ) (at k : ℕ) → length s ≤ at → field s at k ≡ 0
-unfolding field number
-field-past s at k h = rw (drop-of-length-le s, take-nil)
 
 -- nothing, whether it was asked for or not
 none : (b : Bool) {n : ℕ} → n ≡ 0 → 0 ≡ cond b n 0

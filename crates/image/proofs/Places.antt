@@ -6,7 +6,7 @@ use native.Mathlib.Omega.{arith}
 use lib.ListN.{length, getD, drop}
 use lib.Seq.{drop-cons}
 use Rattle.image.specs.Items.{Item}
-use Rattle.image.specs.Index.{indexStart, entryCount, versionIn, width, entryAt, entryIn, itemAt, itemsFrom, itemsIn}
+use Rattle.image.specs.Index.{indexStart, entryCount, versionIn, width, entryAt, entryOf, entryIn, itemAt, itemsFrom, itemsIn}
 
 pub item-from :
     (version : ℕ) (s : List ℕ) (left at place : ℕ) (default : Item) → place < left
@@ -34,6 +34,11 @@ module _ (s : List ℕ) where
   pub item-in : (place : ℕ) (default : Item) → place < entryCount s → getD (itemsIn s) place default ≡ itemAt s (entryIn s place)
   unfolding itemsIn entryIn
   item-in place default h = item-from (versionIn s) s (entryCount s) (indexStart s) place default h
+
+  -- the entry of a place, where the version is the image's own
+  pub entry-own : {version : ℕ} → version ≡ versionIn s → (place : ℕ) → entryOf version s place ≡ entryIn s place
+  unfolding entryIn
+  entry-own is place = ap (λ (v : ℕ). entryOf v s place) is
 
   -- the item of a place and those behind it
   pub items-behind : (place : ℕ) → place < entryCount s → drop place (itemsIn s) ≡ itemAt s (entryIn s place) ∷ drop (suc place) (itemsIn s)

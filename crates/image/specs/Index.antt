@@ -45,9 +45,13 @@ entryAt version s at =
       second = letterAt version s (at + 9);
     }
 
+-- the entry of a place, where the entries are of a version
+abbrev pub entryOf : ℕ → List ℕ → ℕ → IndexEntry
+entryOf version s place = entryAt version s (indexStart s + width version * place)
+
 -- the entry of a place
 unfoldable pub entryIn : List ℕ → ℕ → IndexEntry
-entryIn s place = entryAt (versionIn s) s (indexStart s + width (versionIn s) * place)
+entryIn s place = entryOf (versionIn s) s place
 
 -- the item that an entry tells
 unfoldable pub itemAt : List ℕ → IndexEntry → Item

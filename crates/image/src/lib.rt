@@ -1,14 +1,15 @@
 // The trust image: its entries and day, one entry, the bytes of an item.
 use calendar::real_day;
+use octets::octet;
 use octets::part;
 use refusal::Refusal;
 ghost use mathlib.Core.Path.{_≡_};
 ghost use mathlib.Core.Bool.{cond};
-ghost use Prim.Native.Nat.{_+_, _*_, _^_, _≤_, _<_};
+ghost use Prim.Native.Nat.{ℕ, _+_, _*_, _^_, _≤_, _<_};
 ghost use lib.Dec.{leb, eqb};
-ghost use lib.ListN.{length, take, drop};
+ghost use lib.ListN.{length, getD, take, drop};
 ghost use Rattle.octets.specs.Octets.{number};
-ghost use Rattle.image.specs.Index.{field, indexStart, versionIn, width, letterAt, entryAt, entryIn};
+ghost use Rattle.image.specs.Index.{field, indexStart, width, letterAt, entryAt, entryOf};
 ghost use Rattle.image.specs.Rules.{fieldsGood, entryGood, padded, sumOf};
 ghost use Rattle.image.specs.Answer.{openedOf, openedAs, openedWithin, openedFor, placeOf, itemOf};
 
@@ -140,10 +141,10 @@ pub fn entry(image: &[u8], place: u64) -> Place
         Opened::Image {
             entries,
             day: _,
-            version: _,
+            version,
         } => {
             if place < entries as u64 {
-                Place::Is(entry_in(image, place as usize))
+                Place::Is(entry_of(version, image, place as usize))
             } else {
                 Place::Refused(Refusal::Argument)
             }
@@ -171,9 +172,10 @@ pub fn width(version: usize) -> usize
     LEAST
 }
 
-// The entry of a place as it stands in an image's index; octets beyond the end are not there, and zeros where there is none.
-pub fn entry_in(image: &[u8], place: usize) -> IndexEntry
-    ensures { λ r. ⌜ r ≡ entryIn (now (image .entry)) place ⌝ }
+// The entry of a place as it stands in an image's index of a version; octets beyond the end are not there, and zeros where there
+// is none.
+pub fn entry_of(version: usize, image: &[u8], place: usize) -> IndexEntry
+    ensures { λ r. ⌜ r ≡ entryOf version (now (image .entry)) place ⌝ }
 {
     let n = image.len();
     if n / LEAST < place {
@@ -186,35 +188,35 @@ pub fn entry_in(image: &[u8], place: usize) -> IndexEntry
             second: 0,
         };
     }
-    let version = version_in(image);
-    let at = entry_start(image, place);
+    let at = entry_start(version, image, place);
     if n < at + width(version) {
         return entry_cut(version, image, at);
     }
     entry_at(version, image, at)
 }
 
-// The kind in the entry of a place.
-pub fn kind_in(image: &[u8], place: usize) -> usize
-    ensures { λ r. ⌜ r ≡ entryIn (now (image .entry)) place .kind ⌝ }
+// The kinds in the entries of 96 places; 0 where the octet is not there.
+pub fn kinds_in(version: usize, image: &[u8]) -> [u8; 96]
+    ensures { λ r. ⌜ ((place : ℕ) → place < 96 → getD r place 0 ≡ entryOf version (now (image .entry)) place .kind) ⌝ }
 {
-    let n = image.len();
-    if place <= n / LEAST {
-        let kind_at = entry_start(image, place);
-        if kind_at < n {
-            return image[kind_at] as usize;
-        }
+    let wide = width(version);
+    let mut kinds = [0u8; 96];
+    let mut at = index_start(image);
+    let mut place = 0;
+    while place < 96 {
+        kinds[place] = octet(image, at);
+        at += wide;
+        place += 1;
     }
-    let e = entry_in(image, place);
-    e.kind
+    kinds
 }
 
 // Where the entry of a place starts, if so many of the least entries have room in the image: no sum wraps.
-fn entry_start(image: &[u8], place: usize) -> usize
+fn entry_start(version: usize, image: &[u8], place: usize) -> usize
     requires { ⌜ 8 * place ≤ length (now image) ⌝ }
-    ensures { λ r. ⌜ (r ≡ indexStart (now (image .entry)) + width (versionIn (now (image .entry))) * place) × (r + 12 < 2 ^ 64) ⌝ }
+    ensures { λ r. ⌜ (r ≡ indexStart (now (image .entry)) + width version * place) × (r + 12 < 2 ^ 64) ⌝ }
 {
-    index_start(image) + width(version_in(image)) * place
+    index_start(image) + width(version) * place
 }
 
 fn index_start(image: &[u8]) -> usize
@@ -227,28 +229,20 @@ fn index_start(image: &[u8]) -> usize
     four(image, n - 12)
 }
 
-fn version_in(image: &[u8]) -> usize
-    ensures { λ r. ⌜ r ≡ versionIn (now (image .entry)) ⌝ }
-{
-    let n = image.len();
-    if n < 6 {
-        return number(image, 0, 2);
-    }
-    two(image, n - 6)
-}
-
 // The index entry of a version at an offset, all of it there.
 fn entry_at(version: usize, image: &[u8], at: usize) -> IndexEntry
     requires { ⌜ at + width version ≤ length (now image) ⌝ }
     ensures { λ r. ⌜ (r ≡ entryAt version (now (image .entry)) at) × (r .length < 65536) ⌝ }
 {
+    let first = letter(version, image, at + 8);
+    let second = letter(version, image, at + 9);
     IndexEntry {
         kind: image[at] as usize,
         flags: image[at + 1] as usize,
         length: two(image, at + 2),
         offset: four(image, at + 4),
-        first: letter(version, image, at + 8),
-        second: letter(version, image, at + 9),
+        first,
+        second,
     }
 }
 
@@ -324,10 +318,10 @@ fn sum_entries(version: usize, image: &[u8], start: usize, entries: usize) -> To
     ensures { λ r. ⌜ r ≡ sumOf version (now (image .entry)) start entries 0 ⌝ }
 {
     let wide = width(version);
+    let end = start + wide * entries;
     let mut sum = 0;
-    let mut left = entries;
     let mut at = start;
-    while 0 < left {
+    while at < end {
         let e = entry_at(version, image, at);
         if !entry_good(e, sum) {
             return Total::Unfit;
@@ -337,7 +331,6 @@ fn sum_entries(version: usize, image: &[u8], start: usize, entries: usize) -> To
         }
         sum += e.length;
         at += wide;
-        left -= 1;
     }
     Total::Sum(sum)
 }
@@ -385,10 +378,13 @@ pub fn fields_good(kind: usize, flags: usize, length: usize) -> bool
 fn flags_good(kind: usize, flags: usize) -> bool
     ensures { λ r. ⌜ r ≡ cond (eqb kind 1) (leb flags 1) (eqb flags 0) ⌝ }
 {
-    if kind == 1 {
-        return flags <= 1;
+    if flags == 0 {
+        return true;
     }
-    flags == 0
+    if kind != 1 {
+        return false;
+    }
+    flags == 1
 }
 
 fn broken(rule: u64) -> Opened

@@ -2,12 +2,12 @@
 use crate::telling::spell;
 use crate::telling::true_letters;
 use image::Opened;
-use image::entry_in;
+use image::entry_of;
 use image::open_as;
 use octets::part;
 use refusal::Refusal;
 ghost use mathlib.Core.Path.{_≡_};
-ghost use Rattle.image.specs.Index.{entryCount, itemsIn};
+ghost use Rattle.image.specs.Index.{entryCount, versionIn, itemsIn};
 ghost use Rattle.letters.specs.TrueLetters.{allLettered};
 ghost use Rattle.letters.specs.Check.{checkedOf};
 
@@ -25,19 +25,19 @@ pub fn letters_true(image: &[u8]) -> Checked
         Opened::Image {
             entries,
             day: _,
-            version: _,
-        } => Checked::Told(all_lettered(image, entries)),
+            version,
+        } => Checked::Told(all_lettered(version, image, entries)),
     }
 }
 
 // Whether the letters of so many items are their true ones.
-fn all_lettered(image: &[u8], entries: usize) -> bool
-    requires { ⌜ entries ≡ entryCount (now image) ⌝ }
+fn all_lettered(version: usize, image: &[u8], entries: usize) -> bool
+    requires { ⌜ (entries ≡ entryCount (now image)) × (version ≡ versionIn (now image)) ⌝ }
     ensures { λ r. ⌜ r ≡ allLettered (itemsIn (now (image .entry))) ⌝ }
 {
     let mut place = 0;
     while place < entries {
-        let e = entry_in(image, place);
+        let e = entry_of(version, image, place);
         let item = part(image, e.offset, e.length);
         if !spell(e.first, e.second, true_letters(item, e.kind)) {
             return false;

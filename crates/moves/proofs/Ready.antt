@@ -82,6 +82,7 @@ pub record Ready (version : ℕ) (s : List ℕ) (n day from : ℕ) : Type 0 wher
   pub again : imageBytes from (itemsIn s) day ≡ s
   pub fits : Fits from (itemsIn s) day
   pub source : from ≡ other version
+  pub from-is : from ≡ versionIn s
 
 module _ (version : ℕ) (s : List ℕ) (n day from : ℕ) (o : Octets s) (e : openedAs (other version) s ≡ Image n day from) where
   pub ready : Ready version s n day from
@@ -112,6 +113,7 @@ module _ (version : ℕ) (s : List ℕ) (n day from : ℕ) (o : Octets s) (e : o
         again = again;
         fits = fits;
         source = source;
+        from-is = is;
       }
 
 module _ {version : ℕ} {s : List ℕ} {n day from : ℕ} (r : Ready version s n day from) where

@@ -1,11 +1,11 @@
 // The columns of an image's items: what a writer is given beside their octets.
-use image::entry_in;
+use image::entry_of;
 use letters::Country;
 use letters::true_letters;
 use octets::part;
 ghost use mathlib.Core.Path.{_≡_};
 ghost use Prim.Native.Nat.{ℕ, _≤_, _<_};
-ghost use Rattle.image.specs.Index.{entryCount, entryIn};
+ghost use Rattle.image.specs.Index.{entryCount, versionIn, entryIn};
 ghost use Rattle.moves.specs.Moving.{countryFor};
 ghost use Rattle.moves.specs.Rows.{Small, Tabled};
 
@@ -16,9 +16,9 @@ pub(crate) struct Columns {
     pub letters: [u8; 192],
 }
 
-// Kinds, flags and lengths as the index tells them, letters as they stand in a version.
-pub(crate) fn columns_for(image: &[u8], entries: usize, version: usize) -> Columns
-    requires { ⌜ (entries ≡ entryCount (now image)) × (entries ≤ 96) × ((place : ℕ) → place < entries → Small (now image) (entryIn (now image) place)) ⌝ }
+// Kinds, flags and lengths as the index tells them, which is of the version `from`; letters as they stand in a version.
+pub(crate) fn columns_for(from: usize, image: &[u8], entries: usize, version: usize) -> Columns
+    requires { ⌜ (from ≡ versionIn (now image)) × (entries ≡ entryCount (now image)) × (entries ≤ 96) × ((place : ℕ) → place < entries → Small (now image) (entryIn (now image) place)) ⌝ }
     ensures { λ r. ⌜ Tabled version (now (image .entry)) entries (r .kinds) (r .flags) (r .lengths) (r .letters) ⌝ }
 {
     let mut kinds = [0u8; 96];
@@ -27,7 +27,7 @@ pub(crate) fn columns_for(image: &[u8], entries: usize, version: usize) -> Colum
     let mut letters = [0u8; 192];
     let mut place = 0;
     while place < entries {
-        let e = entry_in(image, place);
+        let e = entry_of(from, image, place);
         let country = country_for(part(image, e.offset, e.length), e.kind, version);
         kinds[place] = e.kind as u8;
         flags[place] = e.flags as u8;

@@ -58,7 +58,7 @@ fn rewritten(
     ensures output { λ _. ⌜ now (out .exit) ≡ outputOf version (now (image .entry)) (now (out .entry)) ⌝ }
 {
     let start = image.len() - 12 - width(from) * entries;
-    let columns = columns_for(image, entries, version);
+    let columns = columns_for(from, image, entries, version);
     let kinds = columns.kinds;
     let flags = columns.flags;
     let lengths = columns.lengths;

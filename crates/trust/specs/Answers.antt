@@ -19,7 +19,8 @@ asks s table moment = record { items = itemsIn s; verdict = verdictIn (entryCoun
 -- a call that is a good question, and its answer
 pub record Call (s table : List ℕ) (moment target : ℕ) (r : Answer) : Type 0 where
   pub places : ℕ
-  pub good : askedOf s table moment target ≡ asked.Over places
+  pub version : ℕ
+  pub good : askedOf s table moment target ≡ asked.Over places version
   pub answer : Answered s table moment target r
 
 -- if the call before showed a chain, the call after shows one that is not longer

@@ -7,26 +7,25 @@ use Rattle.image.proofs.entry_start.Tie as tie
 
 mul-result : tie.Need-mul-result
 mul-result c =
-    let back4 = c .before .before .before .before in
-    omega (arith, back4 .good, back4 .pre, widths _ (back4 .args .place) (c .width .ensures))
+    let start = c .before .before .before in
+    omega (arith, start .good, start .pre, widths _ (start .args .place) (c .width .ensures))
 
 add-result : tie.Need-add-result
 add-result c =
-    let back4 = c .before .before .before .before in
-    omega (arith, back4 .good, back4 .pre, c .before .before .index-start .ensures .1, widths _ (back4 .args .place) (c .width .ensures))
+    let start = c .before .before .before in
+    omega (arith, start .good, start .pre, c .before .index-start .ensures .1, widths _ (start .args .place) (c .width .ensures))
 
 returns : tie.Need-returns
 returns c =
-    let back4 = c .before .before .before .before in (
-      rw (c .before .before .index-start .ensures .0, c .width .ensures, c .before .version-in .ensures),
-      omega (arith, back4 .good, back4 .pre, c .before .before .index-start .ensures .1, widths _ (back4 .args .place) (c .width .ensures)),
+    let start = c .before .before .before in (
+      rw (c .before .index-start .ensures .0, c .width .ensures),
+      omega (arith, start .good, start .pre, c .before .index-start .ensures .1, widths _ (start .args .place) (c .width .ensures)),
     )
 
 pub entry-start-spec : {M : Type 1} → statement M
 entry-start-spec =
     tie.close
     (tie.spec
-    (λ c κs. search needs)
     (λ c κs. search needs)
     (λ c κs. search needs)
     mul-result

@@ -3,6 +3,7 @@ use mathlib.Core.Path.{sym, _∙_}
 use borrow.Author.Tests.{lt-ltb, le-ltb, eq-eqb, ne-eqb, not-true, not-false}
 use Rattle.chain.specs.Answer.{onImage, askedOf}
 use Rattle.image.proofs.Few.{opened-image}
+use Rattle.image.proofs.Places.{entry-own}
 use borrow.Author.Needs.{needs}
 use Rattle.chain.proofs.asking.question.Statement.{statement}
 use Rattle.chain.proofs.asking.question.Tie as tie
@@ -20,12 +21,8 @@ listed c = c .before .before
 abbrev sound : tie.Else2 → tie.Else1
 sound c = c .before .before
 
-abbrev timed : tie.After-entry-in → tie.Else2
+abbrev timed : tie.After-entry-of → tie.Else2
 timed c = c .before .before
-
-returns : tie.Need-returns
-unfolding askedOf onImage
-returns c = rw (sym (c .before .before .before .«open» .ensures) ∙ c .before .refusal .given .1)
 
 table-good-requires : tie.Need-table-good-requires
 table-good-requires c κs =
@@ -33,15 +30,15 @@ table-good-requires c κs =
     let o = opened e in
     opened-image 1 2 (start o .args .image .now) _ _ _ (sym (o .«open» .ensures) ∙ e .entries .given .1) .1
 
-returns-2 : tie.Need-returns-2
+returns : tie.Need-returns
 unfolding askedOf onImage
-returns-2 c =
+returns c =
     let e = listed (c .before) in
     rw (sym (opened e .«open» .ensures) ∙ e .entries .given .1, sym (c .before .table-good .ensures) ∙ not-true _ (c .if1 .taken))
 
-returns-3 : tie.Need-returns-3
+returns-2 : tie.Need-returns-2
 unfolding askedOf onImage
-returns-3 c =
+returns-2 c =
     let s = c .before .before in
     let e = listed (s .before) in
     rw (
@@ -50,9 +47,9 @@ returns-3 c =
       sym (c .before .real-moment .ensures) ∙ not-true _ (c .if2 .taken),
     )
 
-returns-4 : tie.Need-returns-4
+returns-3 : tie.Need-returns-3
 unfolding askedOf onImage
-returns-4 c =
+returns-3 c =
     let t = c .before in
     let s = sound t in
     let e = listed (s .before) in
@@ -63,21 +60,26 @@ returns-4 c =
       le-ltb _ _ (c .if3 .taken),
     )
 
-returns-5 : tie.Need-returns-5
+returns-4 : tie.Need-returns-4
 unfolding askedOf onImage
-returns-5 c =
+returns-4 c =
     let n = c .before .before in
     let t = timed n in
     let s = sound t in
     let e = listed (s .before) in
+    let kind = n .entry-of .ensures ∙ entry-own _ (opened-image 1 2 _ _ _ _ (sym (opened e .«open» .ensures) ∙ e .entries .given .1) .2) _ in
     rw (
       sym (opened e .«open» .ensures) ∙ e .entries .given .1,
       sym (s .before .table-good .ensures) ∙ not-false _ (s .if1 .left),
       sym (t .before .real-moment .ensures) ∙ not-false _ (t .if2 .left),
       lt-ltb _ _ (n .before .if3 .left),
-      ← n .entry-in .ensures,
+      ← kind,
       ne-eqb _ _ (c .if4 .taken),
     )
+
+returns-5 : tie.Need-returns-5
+unfolding askedOf onImage
+returns-5 c = rw (sym (c .before .before .before .«open» .ensures) ∙ c .before .refusal .given .1)
 
 returns-6 : tie.Need-returns-6
 unfolding askedOf onImage
@@ -86,12 +88,13 @@ returns-6 c =
     let t = timed n in
     let s = sound t in
     let e = listed (s .before) in
+    let kind = n .entry-of .ensures ∙ entry-own _ (opened-image 1 2 _ _ _ _ (sym (opened e .«open» .ensures) ∙ e .entries .given .1) .2) _ in
     rw (
       sym (opened e .«open» .ensures) ∙ e .entries .given .1,
       sym (s .before .table-good .ensures) ∙ not-false _ (s .if1 .left),
       sym (t .before .real-moment .ensures) ∙ not-false _ (t .if2 .left),
       lt-ltb _ _ (n .before .if3 .left),
-      ← n .entry-in .ensures,
+      ← kind,
       eq-eqb _ _ (c .if4 .left),
     )
 
@@ -101,13 +104,13 @@ question-spec =
     (tie.spec
     (λ c κs. search needs)
     (λ c. search needs)
-    returns
     (λ c. search needs)
     table-good-requires
+    returns
+    (λ c κs. search needs)
     returns-2
-    (λ c κs. search needs)
     returns-3
-    returns-4
     (λ c κs. search needs)
+    returns-4
     returns-5
     returns-6)

@@ -14,7 +14,7 @@ chain-over-all-requires : tie.Need-chain-over-all-requires
 chain-over-all-requires c κs =
     let p = c .before in
     let o = asked-over _ _ _ _ (sym (asked p .question .ensures) ∙ p .places .given .1) in
-    (o .0, o .1)
+    (o .0, o .1, o .2)
 
 returns : tie.Need-returns
 returns c = refused _ (sym (c .before .before .before .before .question .ensures) ∙ c .before .before .refusal .given .1) (c .refused .ensures)

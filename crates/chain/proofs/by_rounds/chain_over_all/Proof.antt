@@ -25,8 +25,8 @@ returns c =
     let n = counted r in
     let o = opened n in
     let p = start o .pre in
-    whole-image _ _ _ _ _ (p .0) _ _ _ _ (p .1) (o .open-all .ensures .1)
-    (n .counting-lists .ensures .0 (p .1)) (r .roles-of .ensures .0 (p .1))
+    whole-image _ _ _ _ _ (p .1) _ _ _ _ (p .2) (o .open-all .ensures .1)
+    (n .counting-lists .ensures .0 (p .2)) (r .roles-of .ensures .0 (p .2))
     (cells-tell _ _ _ _ _ (m .matching-steps .result) (m .matching-steps .ensures)) (c .chain-by-rounds .ensures)
 
 pub chain-over-all-spec : {M : Type 1} → statement M

@@ -1,12 +1,11 @@
--- The links of the places so far are marked.
-use Prim.Native.Nat.{ℕ, _-_, _<_, _≤_}
-use mathlib.Core.Path.{_≡_, refl}
+-- The places so far are marked.
+use Prim.Native.Nat.{ℕ, _-_, _≤_}
+use mathlib.Core.Path.{_≡_}
 use mathlib.Core.List.{List}
-use mathlib.Core.Logic.{⊎-elim}
 use native.Mathlib.Omega.{arith}
 use lib.ListN.{length, length-set}
 use Rattle.chain.specs.Given.{InRange}
-use Rattle.chain.proofs.Proposals.{Marking, marking-start, marking-set, marking-left, marking-all}
+use Rattle.chain.proofs.Proposals.{Marking, marking-start, marking-set, marking-all}
 use Rattle.chain.proofs.proposal.near_named.Statement.{statement}
 use Rattle.chain.proofs.proposal.near_named.Tie as tie
 
@@ -18,10 +17,10 @@ record Turn (places near more : List ℕ) (i : ℕ) : Type 0 where
   marked : Marking places near more i
 
 abbrev Inv-loop : tie.InvT-loop
-Inv-loop places near more₀ i₀ more i = Turn places near more i
+Inv-loop places more₀ i₀ more i = Turn places more₀ more i
 
 abbrev μ-loop : tie.MeasureT-loop
-μ-loop places near more₀ i₀ more i = length places - i
+μ-loop places more₀ i₀ more i = length places - i
 
 -- the start of a turn, from a later point
 abbrev turn : tie.After-shared-slice-known Inv-loop μ-loop → tie.At-loop Inv-loop μ-loop
@@ -36,32 +35,25 @@ shared-slice-read-place c = omega (arith, c .before .loop-test .taken)
 cast-place : tie.Need-cast-place Inv-loop μ-loop
 cast-place c = omega (arith, c .shared-slice-known .given (turn c .loop .i))
 
-array-read-if1 : tie.Need-array-read-if1 Inv-loop μ-loop
-array-read-if1 c = omega (arith, turn c .loop .inv .range .inside (turn c .loop .i) (c .before .loop-test .taken))
-
 array-write-more : tie.Need-array-write-more Inv-loop μ-loop
-array-write-more c =
-    let t = turn (c .before) in
-    omega (arith, t .loop .inv .range .inside (t .loop .i) (c .before .before .loop-test .taken))
+array-write-more c = omega (arith, turn c .loop .inv .range .inside (turn c .loop .i) (c .before .loop-test .taken))
 
 add-i : tie.Need-add-i Inv-loop μ-loop
-add-i c = omega (arith, turn (c .before) .loop .inv .range .most, c .before .before .loop-test .taken)
+add-i c = omega (arith, turn c .loop .inv .range .most, c .before .loop-test .taken)
 
 loop-less : tie.Need-loop-less Inv-loop μ-loop
-loop-less c = omega (arith, c .before .before .loop-test .taken)
+loop-less c = omega (arith, c .before .loop-test .taken)
 
 loop-again : tie.Need-loop-again Inv-loop μ-loop
 loop-again c =
-    let t = turn (c .before) in
+    let t = turn c in
     let i = t .loop .inv in
-    let here = c .before .before .loop-test .taken in
+    let here = c .before .loop-test .taken in
     record {
       range = i .range;
       inside = omega (arith, here);
-      slots = ⊎-elim (λ w. rw (w .1, length-set) (i .slots)) (λ w. rw (w .1) (i .slots)) (c .if1 .came);
-      marked =
-          ⊎-elim (λ w. rw (w .1) (marking-set (t .loop .i) (i .marked) (omega (arith, i .slots, i .range .inside (t .loop .i) here))))
-          (λ w. rw (w .1) (marking-left (t .loop .i) (i .marked) (w .0 .left))) (c .if1 .came);
+      slots = rw length-set (i .slots);
+      marked = marking-set (t .loop .i) (i .marked) (omega (arith, i .slots, i .range .inside (t .loop .i) here));
     }
 
 returns : tie.Need-returns Inv-loop μ-loop
@@ -76,7 +68,6 @@ near-named-spec =
     loop-holds
     shared-slice-read-place
     cast-place
-    array-read-if1
     array-write-more
     add-i
     loop-less

@@ -2,19 +2,19 @@
 use Prim.Native.Nat.{ℕ, _-_, _<_, _≤_}
 use mathlib.Core.Path.{_≡_, refl, sym, _∙_}
 use mathlib.Core.List.{List}
-use mathlib.Core.Logic.{inr}
 use native.Mathlib.Omega.{arith}
 use borrow.Author.Needs.{needs}
 use borrow.Author.Tests.{not-true}
-use lib.ListN.{length, length-set}
-use Rattle.image.specs.Index.{entryCount}
+use lib.ListN.{length}
+use Rattle.image.specs.Index.{entryCount, versionIn}
 use Rattle.chain.proofs.ImageRounds.{Round, first-round, next-round, no-signer, direct-answer, round-answer, closed-answer, no-last-step}
 use Rattle.chain.proofs.RoundsHold.{settled, unsettled, unasked}
 use Rattle.chain.proofs.rounds.chain_home.Statement.{statement}
 use Rattle.chain.proofs.rounds.chain_home.Tie as tie
 
 -- what holds before each round
-record Turn (image table : List ℕ) (places moment target first second round : ℕ) (near : List ℕ) (rows : List (List ℕ)) (counting roles : List ℕ) : Type 0 where
+record Turn (version : ℕ) (image table : List ℕ) (places moment target first second round : ℕ) (near : List ℕ) (rows : List (List ℕ)) (counting roles : List ℕ) : Type 0 where
+  own : version ≡ versionIn image
   all : places ≡ entryCount image
   small : places ≤ 96
   there : target < places
@@ -23,11 +23,11 @@ record Turn (image table : List ℕ) (places moment target first second round : 
   holds : Round first second image table moment target round near rows counting roles
 
 abbrev Inv-loop : tie.InvT-loop
-Inv-loop image table places moment target first second rows₀ near₀ counting roles₀ two round₀ rows near roles round =
-    Turn image table places moment target first second round near rows counting roles
+Inv-loop version image table places moment target first second rows₀ near₀ counting roles₀ two round₀ rows near roles round =
+    Turn version image table places moment target first second round near rows counting roles
 
 abbrev μ-loop : tie.MeasureT-loop
-μ-loop image table places moment target first second rows₀ near₀ counting roles₀ two round₀ rows near roles round = 4 - round
+μ-loop version image table places moment target first second rows₀ near₀ counting roles₀ two round₀ rows near roles round = 4 - round
 
 -- the points before the rounds, each from a later one
 abbrev start : tie.After-near-first Inv-loop μ-loop → tie.Start Inv-loop μ-loop
@@ -46,10 +46,10 @@ known c = c .before .before .before
 abbrev turn : tie.After-unchanged Inv-loop μ-loop → tie.At-loop Inv-loop μ-loop
 turn c = c .before .before
 
-abbrev wider : tie.After-open-items2 Inv-loop μ-loop → tie.After-unchanged Inv-loop μ-loop
+abbrev wider : tie.After-open-items Inv-loop μ-loop → tie.After-unchanged Inv-loop μ-loop
 wider c = c .before .before .before
 
-abbrev told : tie.After-led-to Inv-loop μ-loop → tie.After-open-items2 Inv-loop μ-loop
+abbrev told : tie.After-led-to Inv-loop μ-loop → tie.After-open-items Inv-loop μ-loop
 told c = c .before .before .before .before
 
 abbrev led : tie.After-worthwhile Inv-loop μ-loop → tie.After-led-to Inv-loop μ-loop
@@ -67,23 +67,14 @@ array-read-first c = omega arith
 array-read-second : tie.Need-array-read-second Inv-loop μ-loop
 array-read-second c = omega arith
 
-mul-rows : tie.Need-mul-rows Inv-loop μ-loop
-mul-rows c = omega (arith, c .before .before .pre .1, c .before .before .pre .2)
-
-array-set-from-rows : tie.Need-array-set-from-rows Inv-loop μ-loop
-array-set-from-rows c = omega (arith, c .before .before .pre .1, c .before .before .pre .2)
-
-array-write-opened : tie.Need-array-write-opened Inv-loop μ-loop
-array-write-opened c = omega (arith, c .before .before .pre .1, c .before .before .pre .2)
-
 near-first-requires : tie.Need-near-first-requires Inv-loop μ-loop
-near-first-requires c κs = (c .before .before .pre .0, c .before .before .pre .1)
+near-first-requires c κs = (c .before .before .pre .0, c .before .before .pre .1, c .before .before .pre .2)
 
-open-items-requires : tie.Need-open-items-requires Inv-loop μ-loop
-open-items-requires c κs = let s = start (c .before) in (s .pre .0, s .pre .1, rw length-set refl)
+open-first-requires : tie.Need-open-first-requires Inv-loop μ-loop
+open-first-requires c κs = let s = start (c .before) in (s .pre .0, s .pre .1, s .pre .2, s .pre .3, refl)
 
 array-read-if1 : tie.Need-array-read-if1 Inv-loop μ-loop
-array-read-if1 c = let s = start (marked (opened c)) in omega (arith, s .pre .1, s .pre .2)
+array-read-if1 c = let s = start (marked (opened c)) in omega (arith, s .pre .2, s .pre .3)
 
 returns : tie.Need-returns Inv-loop μ-loop
 returns c =
@@ -91,13 +82,13 @@ returns c =
     let m = opened w in
     let n = marked m in
     let s = start n in
-    no-signer _ _ _ _ _ (s .pre .0) {roles = w .roles-of .result}
-    (first-round _ _ _ _ _ (s .pre .0) (λ p h. inr (n .near-first .ensures p h)) (s .args .t6) (s .pre .1) (s .pre .2) (s .pre .3) (s .pre .4) (s .pre .5)
-    (m .before .open-items .ensures .1) (w .before .before .counting-lists .ensures .0 (s .pre .1)) (w .roles-of .ensures .0 (s .pre .1)))
-    (s .pre .2) (c .before .if1 .taken) (c .no-chain .ensures)
+    no-signer _ _ _ _ _ (s .pre .1) {roles = w .roles-of .result}
+    (first-round _ _ _ _ _ (s .pre .1) (n .near-first .ensures) (s .args .t7) (s .pre .2) (s .pre .3) (s .pre .4) (s .pre .5) (s .pre .6)
+    (m .before .open-first .ensures .1) (w .before .before .counting-lists .ensures .0 (s .pre .2)) (w .roles-of .ensures .0 (s .pre .2)))
+    (s .pre .3) (c .before .if1 .taken) (c .no-chain .ensures)
 
 direct-chain-requires : tie.Need-direct-chain-requires Inv-loop μ-loop
-direct-chain-requires c κs = let s = start (marked (opened (c .before .before))) in (s .pre .1, s .pre .2)
+direct-chain-requires c κs = let s = start (marked (opened (c .before .before))) in (s .pre .2, s .pre .3)
 
 returns-2 : tie.Need-returns-2 Inv-loop μ-loop
 returns-2 c =
@@ -105,10 +96,10 @@ returns-2 c =
     let m = opened w in
     let n = marked m in
     let s = start n in
-    direct-answer _ _ _ _ _ (s .pre .0)
-    (first-round _ _ _ _ _ (s .pre .0) (λ p h. inr (n .near-first .ensures p h)) (s .args .t6) (s .pre .1) (s .pre .2) (s .pre .3) (s .pre .4) (s .pre .5)
-    (m .before .open-items .ensures .1) (w .before .before .counting-lists .ensures .0 (s .pre .1)) (w .roles-of .ensures .0 (s .pre .1)))
-    (s .pre .2) (c .before .before .before .if1 .left) (c .before .direct-chain .ensures (c .if2 .taken))
+    direct-answer _ _ _ _ _ (s .pre .1)
+    (first-round _ _ _ _ _ (s .pre .1) (n .near-first .ensures) (s .args .t7) (s .pre .2) (s .pre .3) (s .pre .4) (s .pre .5) (s .pre .6)
+    (m .before .open-first .ensures .1) (w .before .before .counting-lists .ensures .0 (s .pre .2)) (w .roles-of .ensures .0 (s .pre .2)))
+    (s .pre .3) (c .before .before .before .if1 .left) (c .before .direct-chain .ensures (c .if2 .taken))
 
 loop-holds : tie.Need-loop-holds Inv-loop μ-loop
 loop-holds c =
@@ -117,14 +108,15 @@ loop-holds c =
     let n = marked m in
     let s = start n in
     record {
-      all = s .pre .0;
-      small = s .pre .1;
-      there = s .pre .2;
+      own = s .pre .0;
+      all = s .pre .1;
+      small = s .pre .2;
+      there = s .pre .3;
       early = omega arith;
-      slots = m .before .open-items .ensures .0;
+      slots = m .before .open-first .ensures .0;
       holds =
-          first-round _ _ _ _ _ (s .pre .0) (λ p h. inr (n .near-first .ensures p h)) (s .args .t6) (s .pre .1) (s .pre .2) (s .pre .3) (s .pre .4) (s .pre .5)
-          (m .before .open-items .ensures .1) (w .before .before .counting-lists .ensures .0 (s .pre .1)) (w .roles-of .ensures .0 (s .pre .1));
+          first-round _ _ _ _ _ (s .pre .1) (n .near-first .ensures) (s .args .t7) (s .pre .2) (s .pre .3) (s .pre .4) (s .pre .5) (s .pre .6)
+          (m .before .open-first .ensures .1) (w .before .before .counting-lists .ensures .0 (s .pre .2)) (w .roles-of .ensures .0 (s .pre .2));
     }
 
 add-round : tie.Need-add-round Inv-loop μ-loop
@@ -143,8 +135,8 @@ returns-3 c =
     closed-answer _ _ _ _ _ (i .all) (i .holds) (u .before .near-next .ensures) (i .small) (c .chain-to .ensures)
     (u .unchanged .ensures (c .before .before .before .if3 .taken))
 
-open-items-requires-2 : tie.Need-open-items-requires-2 Inv-loop μ-loop
-open-items-requires-2 c κs = let i = turn (c .before .before) .loop .inv in (i .all, i .small, i .slots)
+open-items-requires : tie.Need-open-items-requires Inv-loop μ-loop
+open-items-requires c κs = let i = turn (c .before .before) .loop .inv in (i .own, i .all, i .small, i .slots)
 
 led-to-requires : tie.Need-led-to-requires Inv-loop μ-loop
 led-to-requires c κs = let i = turn (wider (c .before .before .before)) .loop .inv in (i .small, i .there)
@@ -156,7 +148,7 @@ returns-4 c =
     let u = wider o in
     let i = turn u .loop .inv in
     no-last-step _ _ _ _ _ (i .all)
-    (next-round _ _ _ _ _ (i .all) (i .holds) (u .before .near-next .ensures) (i .there) (o .open-items2 .ensures .1)
+    (next-round _ _ _ _ _ (i .all) (i .holds) (u .before .near-next .ensures) (i .there) (o .open-items .ensures .1)
     (l .before .before .roles-of2 .ensures .0 (i .small)))
     (l .led-to .ensures (not-true _ (c .before .if4 .taken))) (omega arith) (c .no-chain2 .ensures)
 
@@ -173,7 +165,7 @@ returns-5 c =
     let u = wider o in
     let i = turn u .loop .inv in
     round-answer _ _ _ _ _ (i .all)
-    (next-round _ _ _ _ _ (i .all) (i .holds) (u .before .near-next .ensures) (i .there) (o .open-items2 .ensures .1)
+    (next-round _ _ _ _ _ (i .all) (i .holds) (u .before .near-next .ensures) (i .there) (o .open-items .ensures .1)
     (l .before .before .roles-of2 .ensures .0 (i .small)))
     (i .small) (c .before .before .chain-to2 .ensures) (settled _ _ (sym (c .before .enough .ensures) ∙ c .if6 .taken))
 
@@ -188,13 +180,14 @@ loop-again c =
     let i = turn u .loop .inv in
     let z = unsettled _ _ (sym (c .before .enough .ensures) ∙ c .if6 .left) in
     record {
+      own = i .own;
       all = i .all;
       small = i .small;
       there = i .there;
       early = omega (arith, z, i .early);
-      slots = o .open-items2 .ensures .0;
+      slots = o .open-items .ensures .0;
       holds =
-          next-round _ _ _ _ _ (i .all) (i .holds) (u .before .near-next .ensures) (i .there) (o .open-items2 .ensures .1)
+          next-round _ _ _ _ _ (i .all) (i .holds) (u .before .near-next .ensures) (i .there) (o .open-items .ensures .1)
           (l .before .before .roles-of2 .ensures .0 (i .small));
     }
 
@@ -209,13 +202,14 @@ loop-again-2 c =
     let i = turn u .loop .inv in
     let z = unasked (c .before .worthwhile .ensures) (c .if5 .left) in
     record {
+      own = i .own;
       all = i .all;
       small = i .small;
       there = i .there;
       early = omega (arith, z, i .early);
-      slots = o .open-items2 .ensures .0;
+      slots = o .open-items .ensures .0;
       holds =
-          next-round _ _ _ _ _ (i .all) (i .holds) (u .before .near-next .ensures) (i .there) (o .open-items2 .ensures .1)
+          next-round _ _ _ _ _ (i .all) (i .holds) (u .before .near-next .ensures) (i .there) (o .open-items .ensures .1)
           (l .before .before .roles-of2 .ensures .0 (i .small));
     }
 
@@ -227,11 +221,8 @@ chain-home-spec =
     μ-loop
     array-read-first
     array-read-second
-    mul-rows
-    array-set-from-rows
-    array-write-opened
     near-first-requires
-    open-items-requires
+    open-first-requires
     (λ c κs. search needs)
     (λ c κs. search needs)
     array-read-if1
@@ -245,7 +236,7 @@ chain-home-spec =
     unchanged-requires
     (λ c κs. search needs)
     returns-3
-    open-items-requires-2
+    open-items-requires
     (λ c κs. search needs)
     led-to-requires
     (λ c κs. search needs)

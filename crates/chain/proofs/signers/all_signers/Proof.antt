@@ -26,27 +26,23 @@ sound c = c .before .before
 abbrev timed : tie.After-record-signers-arg → tie.Else2
 timed c = c .before .before
 
-returns : tie.Need-returns
-unfolding signersOf onSigners
-returns c = refused (c .before .refusal .given .0 .0) (rw (sym (c .before .before .before .«open» .ensures) ∙ c .before .refusal .given .1) refl) refl refl
-
 table-good-requires : tie.Need-table-good-requires
 table-good-requires c κs =
     let e = c .before in
     let o = opened e in
     opened-image 1 2 (start o .args .image .now) _ _ _ (sym (o .«open» .ensures) ∙ e .entries .given .1) .1
 
-returns-2 : tie.Need-returns-2
+returns : tie.Need-returns
 unfolding signersOf onSigners
-returns-2 c =
+returns c =
     let e = listed (c .before) in
     refused refusal.Argument
     (rw (sym (opened e .«open» .ensures) ∙ e .entries .given .1, sym (c .before .table-good .ensures) ∙ not-true _ (c .if1 .taken)) refl)
     refl refl
 
-returns-3 : tie.Need-returns-3
+returns-2 : tie.Need-returns-2
 unfolding signersOf onSigners
-returns-3 c =
+returns-2 c =
     let s = c .before .before in
     let e = listed (s .before) in
     refused refusal.Argument
@@ -63,9 +59,9 @@ mul-size c =
     let o = opened e in
     omega (arith, opened-image 1 2 (start o .args .image .now) _ _ _ (sym (o .«open» .ensures) ∙ e .entries .given .1) .1)
 
-returns-4 : tie.Need-returns-4
+returns-3 : tie.Need-returns-3
 unfolding signersOf onSigners
-returns-4 c =
+returns-3 c =
     let t = c .before in
     let s = sound t in
     let e = listed (s .before) in
@@ -83,7 +79,11 @@ record-signers-requires c κs =
     let e = listed (sound (timed c) .before) in
     let o = opened e in
     let n = opened-image 1 2 (start o .args .image .now) _ _ _ (sym (o .«open» .ensures) ∙ e .entries .given .1) in
-    (n .0, n .1, c .before .if3 .left)
+    (n .2, n .0, n .1, c .before .if3 .left)
+
+returns-4 : tie.Need-returns-4
+unfolding signersOf onSigners
+returns-4 c = refused (c .before .refusal .given .0 .0) (rw (sym (c .before .before .before .«open» .ensures) ∙ c .before .refusal .given .1) refl) refl refl
 
 returns-5 : tie.Need-returns-5
 unfolding signersOf onSigners
@@ -105,14 +105,14 @@ all-signers-spec =
     (tie.spec
     (λ c κs. search needs)
     (λ c. search needs)
-    returns
     (λ c. search needs)
     table-good-requires
-    returns-2
+    returns
     (λ c κs. search needs)
-    returns-3
+    returns-2
     mul-size
-    returns-4
+    returns-3
     record-signers-requires
+    returns-4
     (λ c. search needs)
     returns-5)

@@ -7,7 +7,9 @@ use Rattle.letters.proofs.checking.letters_true.Statement.{statement}
 use Rattle.letters.proofs.checking.letters_true.Tie as tie
 
 all-lettered-requires : tie.Need-all-lettered-requires
-all-lettered-requires c κs = opened-image 2 2 _ _ _ _ (sym (c .before .before .before .open-as .ensures) ∙ c .before .entries .given .1) .0
+all-lettered-requires c κs =
+    let o = opened-image 2 2 _ _ _ _ (sym (c .before .before .before .open-as .ensures) ∙ c .before .entries .given .1) in
+    (o .0, o .2)
 
 returns : tie.Need-returns
 unfolding checkedOf onChecked

@@ -4,42 +4,48 @@ use mathlib.Core.Path.{_≡_, sym, subst, _∙_}
 use borrow.Author.Needs.{needs}
 use native.Mathlib.Omega.{arith}
 use Rattle.image.specs.declared.IndexEntry.{IndexEntry}
-use Rattle.image.specs.Index.{entryCount, entryIn}
+use Rattle.image.specs.Index.{entryCount, versionIn, entryIn}
+use Rattle.image.proofs.Places.{entry-own}
 use Rattle.moves.specs.Rows.{Small}
 use Rattle.moves.proofs.Filled.{Filled, filled-none, filled-more, filled-all}
 use Rattle.moves.proofs.columns.columns_for.Statement.{statement}
 use Rattle.moves.proofs.columns.columns_for.Tie as tie
 
 abbrev Inv-loop : tie.InvT-loop
-Inv-loop image entries version kinds₀ flags₀ lengths₀ letters₀ place₀ kinds flags lengths letters place =
+Inv-loop from image entries version kinds₀ flags₀ lengths₀ letters₀ place₀ kinds flags lengths letters place =
     (place ≤ entries) × (entries ≤ 96) × (entries ≡ entryCount image)
     × ((p : ℕ) → p < entries → Small image (entryIn image p))
     × Filled version image place kinds flags lengths letters
+    × (from ≡ versionIn image)
 
 abbrev μ-loop : tie.MeasureT-loop
-μ-loop image entries version kinds₀ flags₀ lengths₀ letters₀ place₀ kinds flags lengths letters place = entries - place
+μ-loop from image entries version kinds₀ flags₀ lengths₀ letters₀ place₀ kinds flags lengths letters place = entries - place
 
 -- Points passed before: where the entry was read, and the start of the turn at hand.
 abbrev known : tie.After-struct-known3 Inv-loop μ-loop → tie.After-struct-known Inv-loop μ-loop
 known c = c .before .before
 
-abbrev reading : tie.After-struct-known Inv-loop μ-loop → tie.After-entry-in Inv-loop μ-loop
+abbrev reading : tie.After-struct-known Inv-loop μ-loop → tie.After-entry-of Inv-loop μ-loop
 reading c = c .before .before .before
 
-abbrev turn : tie.After-entry-in Inv-loop μ-loop → tie.At-loop Inv-loop μ-loop
+abbrev turn : tie.After-entry-of Inv-loop μ-loop → tie.At-loop Inv-loop μ-loop
 turn c = c .before .before
 
 loop-holds : tie.Need-loop-holds Inv-loop μ-loop
-loop-holds c = (omega arith, c .before .pre .1, c .before .pre .0, c .before .pre .2, filled-none _ _)
+loop-holds c = (omega arith, c .before .pre .2, c .before .pre .1, c .before .pre .3, filled-none _ _, c .before .pre .0)
 
--- the entry that was read is small
-small : (c : tie.After-entry-in Inv-loop μ-loop) → Small (turn c .before .before .args .image .now) (c .entry-in .result)
+-- the entry that was read is the place's
+read-at : (c : tie.After-entry-of Inv-loop μ-loop) → c .entry-of .result ≡ entryIn (turn c .before .before .args .image .now) (turn c .loop .place)
+read-at c = c .entry-of .ensures ∙ entry-own _ (turn c .loop .inv .5) (turn c .loop .place)
+
+-- and is small
+small : (c : tie.After-entry-of Inv-loop μ-loop) → Small (turn c .before .before .args .image .now) (c .entry-of .result)
 small c =
     let fits = turn c .loop .inv .3 (turn c .loop .place) (c .before .loop-test .taken) in
-    subst (λ (e : IndexEntry). Small (turn c .before .before .args .image .now) e) (sym (c .entry-in .ensures)) fits
+    subst (λ (e : IndexEntry). Small (turn c .before .before .args .image .now) e) (sym (read-at c)) fits
 
 -- its place is one of the columns'
-slot : (c : tie.After-entry-in Inv-loop μ-loop) → turn c .loop .place < 96
+slot : (c : tie.After-entry-of Inv-loop μ-loop) → turn c .loop .place < 96
 slot c = omega (arith, c .before .loop-test .taken, turn c .loop .inv .1)
 
 cast-kinds : tie.Need-cast-kinds Inv-loop μ-loop
@@ -93,8 +99,8 @@ loop-again c =
     let inside : now .place < entryCount s = omega (arith, read .before .loop-test .taken, now .inv .2) in
     let part = known c .before .before .part .ensures in
     let fits : Small s (entryIn s (now .place)) = now .inv .3 (now .place) (read .before .loop-test .taken) in
-    let more = filled-more version s (now .place) inside (slot read) (read .entry-in .ensures) fits part (known c .before .country-for .ensures) (now .inv .4) in
-    (omega (arith, read .before .loop-test .taken), now .inv .1, now .inv .2, now .inv .3, more)
+    let more = filled-more version s (now .place) inside (slot read) (read-at read) fits part (known c .before .country-for .ensures) (now .inv .4) in
+    (omega (arith, read .before .loop-test .taken), now .inv .1, now .inv .2, now .inv .3, more, now .inv .5)
 
 returns : tie.Need-returns Inv-loop μ-loop
 returns c =

@@ -52,7 +52,7 @@ sub-start-2 c =
     omega (arith, r .ends, ap (λ (w : ℕ). w * c .before .before .before .args .entries) (c .width .ensures))
 
 columns-for-requires : tie.Need-columns-for-requires
-columns-for-requires c κs = let r = is-ready (c .before .before) in (r .entries, r .few, r .small)
+columns-for-requires c κs = let r = is-ready (c .before .before) in (r .from-is, r .entries, r .few, r .small)
 
 mul-pairs : tie.Need-mul-pairs
 mul-pairs c = omega (arith, is-ready (begun (made c)) .few)
