@@ -11,7 +11,6 @@ use Rattle.image.specs.Index.{entryCount, entryIn, itemAt, itemsIn}
 use Rattle.image.specs.Items.{Item}
 use Rattle.image.proofs.Places.{length-items, items-behind}
 use Rattle.anchors.specs.declared.Outcome.the-variants.{Listed}
-use Rattle.anchors.specs.declared.Listing.{Listing}
 use Rattle.anchors.specs.Listing.{placesFrom, listedAs}
 
 pub record Turn (s : List ℕ) (entries : ℕ) (test : Item → Bool) (places : List ℕ) (count next : ℕ) : Type 0 where

@@ -15,7 +15,6 @@ use Rattle.image.specs.Items.{Item}
 use Rattle.letters.specs.declared.telling.Country.{Country}
 use Rattle.letters.specs.TrueLetters.{trueLetters, spells}
 use Rattle.anchors.specs.declared.Listing.{Listing}
-use Rattle.anchors.specs.declared.Outcome.{Outcome}
 use Rattle.anchors.specs.declared.Outcome.the-variants.{Listed, Refused}
 
 -- an anchor that is enabled

@@ -1,6 +1,5 @@
 -- Each turn adds the place to those found if it is asked for, and else nothing.
-use Prim.Native.Nat.{_-_, _<_}
-use mathlib.Core.Path.{refl}
+use Prim.Native.Nat.{_-_}
 use native.Mathlib.Omega.{arith}
 use borrow.Author.Needs.{needs}
 use Rattle.anchors.specs.Inner.{testFor}
@@ -21,26 +20,40 @@ loop-holds c = start _ _ _ (c .before .pre .0) (c .before .pre .1)
 add-next : tie.Need-add-next Inv-loop μ-loop
 add-next c = omega (arith, c .before .loop .inv .small, c .loop-test .taken)
 
+-- The turn of a place that was asked about.
+abbrev turn : tie.After-asked-for Inv-loop μ-loop → tie.In-loop Inv-loop μ-loop
+turn c = c .before
+
 cast-places : tie.Need-cast-places Inv-loop μ-loop
-cast-places c = omega (arith, c .before .before .before .loop .inv .small, c .before .before .loop-test .taken)
+cast-places c = let now = turn (c .before) in omega (arith, now .before .loop .inv .small, now .loop-test .taken)
 
 array-write-places : tie.Need-array-write-places Inv-loop μ-loop
-array-write-places c = omega (arith, c .before .before .before .loop .inv .small, c .before .before .before .loop .inv .fewer, c .before .before .loop-test .taken)
+array-write-places c =
+    let now = turn (c .before) in
+    let inv = now .before .loop .inv in
+    omega (arith, inv .small, inv .fewer, now .loop-test .taken)
 
 add-count : tie.Need-add-count Inv-loop μ-loop
-add-count c = omega (arith, c .before .before .before .loop .inv .small, c .before .before .before .loop .inv .fewer, c .before .before .loop-test .taken)
+add-count c =
+    let now = turn (c .before) in
+    let inv = now .before .loop .inv in
+    omega (arith, inv .small, inv .fewer, now .loop-test .taken)
 
 loop-less : tie.Need-loop-less Inv-loop μ-loop
-loop-less c = omega (arith, c .before .before .loop-test .taken)
+loop-less c = omega (arith, turn (c .before) .loop-test .taken)
 
 loop-again : tie.Need-loop-again Inv-loop μ-loop
-loop-again c = take (c .before .before .before .loop .inv) (c .before .before .loop-test .taken) (c .before .asked-for .ensures) (c .if1 .taken)
+loop-again c =
+    let now = turn (c .before) in
+    take (now .before .loop .inv) (now .loop-test .taken) (c .before .asked-for .ensures) (c .if1 .taken)
 
 loop-less-2 : tie.Need-loop-less-2 Inv-loop μ-loop
-loop-less-2 c = omega (arith, c .before .before .loop-test .taken)
+loop-less-2 c = omega (arith, turn (c .before) .loop-test .taken)
 
 loop-again-2 : tie.Need-loop-again-2 Inv-loop μ-loop
-loop-again-2 c = skip (c .before .before .before .loop .inv) (c .before .before .loop-test .taken) (c .before .asked-for .ensures) (c .if1 .left)
+loop-again-2 c =
+    let now = turn (c .before) in
+    skip (now .before .loop .inv) (now .loop-test .taken) (c .before .asked-for .ensures) (c .if1 .left)
 
 returns : tie.Need-returns Inv-loop μ-loop
 returns c = end-of (c .before .loop .inv) (c .loop-test .left)

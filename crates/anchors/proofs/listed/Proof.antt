@@ -1,5 +1,4 @@
 -- Opening decides, and then the places.
-use mathlib.Core.Path.{sym, _∙_}
 use borrow.Author.Needs.{needs}
 use Rattle.anchors.specs.Listing.{onOpened}
 use Rattle.anchors.proofs.listed.Statement.{statement}
