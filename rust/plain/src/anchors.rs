@@ -23,7 +23,9 @@ pub fn anchors(image: &[u8], first: u64, second: u64) -> Anchors {
 
 /// Those of which the index tells the letters, of an image of version 2. Refusals in order: 1, 5.
 pub fn anchors_by_index(image: &[u8], first: u64, second: u64) -> Anchors {
-    answer(country(first, second).and_then(|country| Ok(listed(&read_as(image, 2)?, |_, line| line.country == country))))
+    answer(
+        country(first, second).and_then(|country| Ok(listed(&read_as(image, 2)?, |_, line| line.country == country))),
+    )
 }
 
 /// Two letters from A to Z.

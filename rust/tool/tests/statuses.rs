@@ -273,7 +273,7 @@ fn status_65_letters_that_are_not_true() {
         assert!(run.out.contains("Ask without --by-index") && !run.out.contains("PASSED"), "{}", run.out);
         bench.status("anchors bad.image --country ut --by-index", 1);
         let run = bench.status("anchors bad.image --country UT", 0);
-        assert!(run.out.contains("PASSED   1 enabled anchor of UT\n"), "{}", run.out);
+        assert!(run.out.contains("PASSED   2 enabled anchors of UT\n"), "{}", run.out);
         let run = bench.status("image bad.image --letters", 65);
         assert!(run.out.contains("LETTERS  false at 1 of 13 places\n"), "{}", run.out);
         assert!(run.out.contains(&format!("    3  {shown:<5} stands in the index, UT is true\n")), "{}", run.out);
