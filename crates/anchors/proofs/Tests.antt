@@ -1,6 +1,6 @@
 -- What is read of a place's entry and item decides whether its anchor is asked for, since the entry tells the item.
 use Prim.Native.Nat.{ℕ, _≤_}
-use mathlib.Core.Path.{_≡_}
+use mathlib.Core.Path.{_≡_, sym, _∙_}
 use mathlib.Core.Bool.{Bool, true, false, _&&_, and-eq-true-iff}
 use mathlib.Core.List.{List}
 use borrow.Author.Tests.{eq-eqb, ne-eqb, leb-true}
@@ -29,12 +29,15 @@ module _ (first second : ℕ) (item : Item) (on : enabled item ≡ true) where
   unfolding testFor fullFor
   reported = rw on
 
-module _ (s : List ℕ) (place : ℕ) {e : IndexEntry} (is : e ≡ entryIn s place) (first second : ℕ) where
-  pub other-kind : (by : Bool) → (e .kind ≡ 1 → ⊥) → false ≡ testFor by first second (itemAt s (entryIn s place))
+module _ (s : List ℕ) (place : ℕ) {kind : ℕ} (of : kind ≡ entryIn s place .kind) (first second : ℕ) where
+  pub other-kind : (by : Bool) → (kind ≡ 1 → ⊥) → false ≡ testFor by first second (itemAt s (entryIn s place))
   unfolding enabled itemAt
-  other-kind by n = rw (← is) (unenabled by first second (itemAt s e) (rw (ne-eqb _ _ n)))
+  other-kind by n = unenabled by first second (itemAt s (entryIn s place)) (rw (ne-eqb _ _ (λ e. n (of ∙ e))))
 
-  module _ (anchor : e .kind ≡ 1) where
+  module _ (one : kind ≡ 1) {e : IndexEntry} (is : e ≡ entryIn s place) where
+    anchor : e .kind ≡ 1
+    anchor = rw is (sym of ∙ one)
+
     pub not-enabled : (by : Bool) → (e .flags ≡ 1 → ⊥) → false ≡ testFor by first second (itemAt s (entryIn s place))
     unfolding enabled itemAt
     not-enabled by n = rw (← is) (unenabled by first second (itemAt s e) (rw (eq-eqb _ _ anchor, ne-eqb _ _ n)))

@@ -94,9 +94,9 @@ listed-ascend first second test s o = go (isCapital first && isCapital second)
     go true = opened-ascend test s o
     go false = none-ascend refusal.Argument
 
-pub ascending : (s : List ℕ) (first second : ℕ) → Ascending (anchorsOf s first second) × Ascending (anchorsByIndex s first second)
+pub listed-ascending : (s : List ℕ) (first second : ℕ) → Ascending (anchorsOf s first second) × Ascending (anchorsByIndex s first second)
 unfolding anchorsOf anchorsByIndex
-ascending s first second =
+listed-ascending s first second =
     (listed-ascend first second (fullFor first second) s (openedOf s), listed-ascend first second (shortFor first second) s (openedAs 2 s))
 
 -- a place is listed exactly where its item passes the test

@@ -1,6 +1,7 @@
 // The enabled anchors of a country: by the letters that they report, or by those that the index tells.
 use image::Opened;
 use image::entry_in;
+use image::kind_in;
 use image::open;
 use image::open_as;
 use letters::Country;
@@ -94,10 +95,10 @@ fn among(image: &[u8], entries: usize, indexed: bool, first: u8, second: u8) -> 
 fn asked_for(image: &[u8], place: usize, indexed: bool, first: u8, second: u8) -> bool
     ensures { λ r. ⌜ r ≡ testFor indexed first second (itemAt (now (image .entry)) (entryIn (now (image .entry)) place)) ⌝ }
 {
-    let e = entry_in(image, place);
-    if e.kind != 1 {
+    if kind_in(image, place) != 1 {
         return false;
     }
+    let e = entry_in(image, place);
     if e.flags != 1 {
         return false;
     }
