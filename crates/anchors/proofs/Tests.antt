@@ -3,8 +3,7 @@ use Prim.Native.Nat.{ℕ, _≤_}
 use mathlib.Core.Path.{_≡_, sym, _∙_}
 use mathlib.Core.Bool.{Bool, true, false, _&&_, and-eq-true-iff}
 use mathlib.Core.List.{List}
-use borrow.Author.Tests.{eq-eqb, ne-eqb, leb-true}
-use lib.Dec.{leb}
+use borrow.Author.Tests.{eq-eqb, ne-eqb}
 use lib.ListN.{take, drop}
 use Rattle.names.specs.Names.{isCapital}
 use Rattle.image.specs.declared.IndexEntry.{IndexEntry}
@@ -12,6 +11,7 @@ use Rattle.image.specs.Index.{entryIn, itemAt}
 use Rattle.image.specs.Items.{Item}
 use Rattle.letters.specs.declared.telling.Country.{Country}
 use Rattle.letters.specs.TrueLetters.{trueOf, trueLetters, spells}
+use Rattle.letters.proofs.Capitals.{capital-low}
 use Rattle.anchors.specs.Listing.{enabled, fullFor, shortFor, indexLetters}
 use Rattle.anchors.specs.Inner.{testFor}
 
@@ -64,10 +64,6 @@ module _ (s : List ℕ) (place : ℕ) {kind : ℕ} (of : kind ≡ entryIn s plac
 
 -- letters from A to Z fit in an octet
 module _ (first second : ℕ) (both : (isCapital first && isCapital second) ≡ true) where
-  capital-low : (o : ℕ) → isCapital o ≡ true → o ≤ 90
-  unfolding isCapital
-  capital-low o e = leb-true o 90 (and-eq-true-iff (leb 65 o) (leb o 90) .0 e .1)
-
   pub first-fits : first ≤ 90
   first-fits = capital-low first (and-eq-true-iff (isCapital first) (isCapital second) .0 both .0)
 
