@@ -7,7 +7,7 @@
  *
  * Every answer is a struct returned by value. Its first fields are `number`, 0 where the call passed and else the number of
  * the refusal, and `detail`, which belongs to the refusal and is 0 in a pass. In a refusal every other field is 0, every
- * place of a chain is VRBOLIST_NO_PLACE, and lent buffers keep their bytes.
+ * place of a chain or a list of anchors is VRBOLIST_NO_PLACE, and lent buffers keep their bytes.
  *
  * A part of an item or image is told as an offset (`_at`) from its first byte and a length (`_len`). Days are numbers
  * YYYYMMDD, moments YYYYMMDDHHMMSS.
@@ -138,6 +138,13 @@ typedef struct {
 typedef struct {
     uint64_t number;
     uint64_t detail;
+    uint64_t count; /* how many places are used */
+    uint8_t places[VRBOLIST_PLACES];
+} vrbolist_anchors_answer;
+
+typedef struct {
+    uint64_t number;
+    uint64_t detail;
     uint64_t length; /* how many places are used */
     uint8_t places[VRBOLIST_PLACES];
 } vrbolist_chain_answer;
@@ -221,6 +228,17 @@ vrbolist_write_answer vrbolist_move_to_1(const uint8_t *image, size_t image_len,
 /* Tells whether the letters of every item of a trust image of version 2 are its true ones. No other call tests them.
  * Refusals: 5, with rule 2 for an image of version 1. */
 vrbolist_letters_answer vrbolist_letters(const uint8_t *image, size_t image_len);
+
+/* Lists the places of the enabled anchors of a trust image that pass their profile and report the two letters of a country,
+ * ascending. Each enabled anchor is opened once and no other item; its times play no part.
+ * Refusals: 1 for a letter outside A to Z (65 to 90), then 5. */
+vrbolist_anchors_answer vrbolist_anchors(const uint8_t *image, size_t image_len, uint64_t first, uint64_t second);
+
+/* The same from trailer and index alone: the enabled anchors whose letters in the index are these; no item is opened. It is for
+ * bytes of which vrbolist_letters has told 1: of these the answer is that of vrbolist_anchors for every two letters. Of others
+ * it tells what the index says, true or not.
+ * Refusals: those of vrbolist_anchors, 5 with rule 2 for an image of version 1. */
+vrbolist_anchors_answer vrbolist_anchors_by_index(const uint8_t *image, size_t image_len, uint64_t first, uint64_t second);
 
 /* Finds the best good chain from an enabled anchor to the document signer at the place `target`; `table` has a byte, 0 or 1,
  * for each pair of entries, row by row: whether the entry of the row signed that of the column.

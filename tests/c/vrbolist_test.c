@@ -163,6 +163,7 @@ static const struct field entry_fields[] = {
 };
 static const struct field write_fields[] = {HEAD_AT(write), AT(write, length, 16, 8)};
 static const struct field letters_fields[] = {HEAD_AT(letters), AT(letters, letters_true, 16, 8)};
+static const struct field anchors_fields[] = {HEAD_AT(anchors), AT(anchors, count, 16, 8), AT(anchors, places, 24, 96)};
 static const struct field chain_fields[] = {HEAD_AT(chain), AT(chain, length, 16, 8), AT(chain, places, 24, 96)};
 static const struct field signers_fields[] = {HEAD_AT(signers), AT(signers, length, 16, 8)};
 static const struct field replay_fields[] = {HEAD_AT(replay), AT(replay, faulty, 16, 8)};
@@ -184,6 +185,9 @@ void write_to(void *answer, const uint8_t *items, size_t items_len, const uint8_
 void move_to_2_to(void *answer, const uint8_t *image, size_t len, uint8_t *out, size_t out_len) __asm__("vrbolist_move_to_2");
 void move_to_1_to(void *answer, const uint8_t *image, size_t len, uint8_t *out, size_t out_len) __asm__("vrbolist_move_to_1");
 void letters_to(void *answer, const uint8_t *image, size_t len) __asm__("vrbolist_letters");
+void anchors_to(void *answer, const uint8_t *image, size_t len, uint64_t first, uint64_t second) __asm__("vrbolist_anchors");
+void anchors_by_index_to(void *answer, const uint8_t *image, size_t len, uint64_t first,
+                         uint64_t second) __asm__("vrbolist_anchors_by_index");
 void chain_to(void *answer, const uint8_t *image, size_t image_len, const uint8_t *table, size_t table_len, uint64_t moment,
               uint64_t target) __asm__("vrbolist_chain");
 void chain_by_rounds_to(void *answer, const uint8_t *image, size_t image_len, const uint8_t *table, size_t table_len,
@@ -222,6 +226,8 @@ static void layout(void) {
     LAID_OUT(write, 24, move_to_2_to(to, NULL, 0, NULL, 0));
     LAID_OUT(write, 24, move_to_1_to(to, NULL, 0, NULL, 0));
     LAID_OUT(letters, 24, letters_to(to, NULL, 0));
+    LAID_OUT(anchors, 120, anchors_to(to, NULL, 0, 'U', 'T'));
+    LAID_OUT(anchors, 120, anchors_by_index_to(to, NULL, 0, 'U', 'T'));
     LAID_OUT(chain, 120, chain_to(to, NULL, 0, NULL, 0, MOMENT, 0));
     LAID_OUT(chain, 120, chain_by_rounds_to(to, NULL, 0, NULL, 0, MOMENT, 0));
     LAID_OUT(signers, 24, all_signers_to(to, NULL, 0, NULL, 0, MOMENT, NULL, 0));
@@ -693,6 +699,87 @@ static void moves(struct item one, struct item two) {
     }
 }
 
+/* Anchors of a country. */
+
+static void anchors_are(int line, vrbolist_anchors_answer answer, uint64_t number, uint64_t detail, uint64_t count) {
+    size_t i;
+    HEAD(answer, number, detail);
+    FIELD(answer, count, count);
+    for (i = 0; i < VRBOLIST_PLACES; i++) {
+        FIELD(answer, places[i], i < count ? i : VRBOLIST_NO_PLACE);
+    }
+}
+
+/* Of an image of a version whose only anchor is at place 0 and of the country UT; in version 2 its letters are at `letters`. */
+static void anchors(struct item image, uint64_t version) {
+    static const uint64_t wrong[] = {0, 64, '[', 'a', 'u', 255, 256, 256 + 'U', 4294967296 + 'U', UINT64_MAX};
+    const size_t index = image.len - 12 - 3 * 12, letters = index + 8;
+    uint8_t *changed = guarded(image.len);
+    size_t i;
+#define FULL(image, image_n, first, second, number, detail, count) \
+    anchors_are(__LINE__, vrbolist_anchors(image, image_n, first, second), number, detail, count)
+#define SHORT(image, image_n, first, second, number, detail, count) \
+    anchors_are(__LINE__, vrbolist_anchors_by_index(image, image_n, first, second), number, detail, count)
+#define ANCHORS(image, image_n, first, second, number, detail, count) \
+    (FULL(image, image_n, first, second, number, detail, count), SHORT(image, image_n, first, second, number, detail, count))
+    for (i = 0; i < sizeof wrong / sizeof *wrong; i++) {
+        ANCHORS(image.at, image.len, wrong[i], 'T', VRBOLIST_ARGUMENT, 0, 0);
+        ANCHORS(image.at, image.len, 'U', wrong[i], VRBOLIST_ARGUMENT, 0, 0);
+        ANCHORS(NULL, 0, wrong[i], wrong[i], VRBOLIST_ARGUMENT, 0, 0);
+    }
+    ANCHORS(NULL, 0, 'U', 'T', VRBOLIST_IMAGE, 1, 0);
+    FULL(image.at, image.len, 'U', 'T', 0, 0, 1);
+    FULL(image.at, image.len, 'T', 'U', 0, 0, 0);
+    FULL(image.at, image.len, 'A', 'Z', 0, 0, 0);
+    FULL(image.at + 1, image.len - 1, 'U', 'T', VRBOLIST_IMAGE, 5, 0);
+    if (version == 1) {
+        SHORT(image.at, image.len, 'U', 'T', VRBOLIST_IMAGE, 2, 0);
+        SHORT(image.at + 1, image.len - 1, 'U', 'T', VRBOLIST_IMAGE, 2, 0);
+        return;
+    }
+    SHORT(image.at, image.len, 'U', 'T', 0, 0, 1);
+    SHORT(image.at, image.len, 'T', 'U', 0, 0, 0);
+    SHORT(image.at, image.len, 'A', 'Z', 0, 0, 0);
+    SHORT(image.at + 1, image.len - 1, 'U', 'T', VRBOLIST_IMAGE, 5, 0);
+    memcpy(changed, image.at, image.len);
+    changed[letters] = 'A';
+    changed[letters + 1] = 'Z';
+    FULL(changed, image.len, 'U', 'T', 0, 0, 1);
+    SHORT(changed, image.len, 'U', 'T', 0, 0, 0);
+    FULL(changed, image.len, 'A', 'Z', 0, 0, 0);
+    SHORT(changed, image.len, 'A', 'Z', 0, 0, 1);
+    memcpy(changed, image.at, image.len);
+    changed[index + 1] = 0;
+    ANCHORS(changed, image.len, 'U', 'T', 0, 0, 0);
+    memcpy(changed, image.at, image.len);
+    changed[0] ^= 1;
+    FULL(changed, image.len, 'U', 'T', 0, 0, 0);
+    SHORT(changed, image.len, 'U', 'T', 0, 0, 1);
+}
+
+/* 96 anchors, each listed. */
+static void every_anchor(struct item anchor) {
+    const size_t size = VRBOLIST_PLACES * (anchor.len + 12) + 12;
+    uint8_t *items = guarded(VRBOLIST_PLACES * anchor.len), *out = output(size);
+    uint8_t ones[VRBOLIST_PLACES], letters[2 * VRBOLIST_PLACES];
+    uint32_t lengths[VRBOLIST_PLACES];
+    size_t i;
+    for (i = 0; i < VRBOLIST_PLACES; i++) {
+        memcpy(items + i * anchor.len, anchor.at, anchor.len);
+        ones[i] = 1;
+        lengths[i] = (uint32_t)anchor.len;
+        letters[2 * i] = 'U';
+        letters[2 * i + 1] = 'T';
+    }
+    write_is(__LINE__,
+             vrbolist_write(items, VRBOLIST_PLACES * anchor.len, ones, VRBOLIST_PLACES, ones, VRBOLIST_PLACES, lengths,
+                            VRBOLIST_PLACES, letters, 2 * VRBOLIST_PLACES, 2, DAY, out, size),
+             0, 0, size);
+    letters_are(__LINE__, vrbolist_letters(out, size), 0, 0, 1);
+    ANCHORS(out, size, 'U', 'T', 0, 0, VRBOLIST_PLACES);
+    ANCHORS(out, size, 'X', 'O', 0, 0, 0);
+}
+
 /* Chains. */
 
 static void chain_is(int line, vrbolist_chain_answer answer, uint64_t number, uint64_t detail, uint64_t length,
@@ -894,6 +981,9 @@ int main(int argc, char **argv) {
     entries(one, anchor, signer, crl, 1);
     entries(two, anchor, signer, crl, 2);
     moves(one, two);
+    anchors(one, 1);
+    anchors(two, 2);
+    every_anchor(anchor);
     chains(one);
     chains(two);
     proposals(one);

@@ -9,6 +9,7 @@ import sys
 
 sys.dont_write_bytecode = True
 
+import cases_anchors
 import cases_certificate
 import cases_certificate_extensions
 import cases_certificate_parts
@@ -34,7 +35,7 @@ from record import CERTIFICATE, CRL, IMAGE, NO_KIND, ROOM, WALK, Case, head
 
 PARTS = (cases_der, cases_contents, cases_limits, cases_order, cases_integer, cases_member, cases_days, cases_certificate,
          cases_certificate_shape, cases_certificate_parts, cases_certificate_extensions, cases_crl, cases_listed,
-         cases_image, cases_write, cases_letters, cases_chain, cases_tray, cases_proposal, cases_signers)
+         cases_image, cases_write, cases_letters, cases_anchors, cases_chain, cases_tray, cases_proposal, cases_signers)
 FOLDER = pathlib.Path(__file__).resolve().parents[2] / 'crates' / 'cases'
 
 

@@ -1,6 +1,7 @@
 // Each kind of question by its number.
 use crate::certificates;
 use crate::chains;
+use crate::countries;
 use crate::days;
 use crate::images;
 use crate::items;
@@ -42,6 +43,7 @@ pub(crate) fn answer(question: Question, bytes: &[u8]) {
         21 => versions::to_2(bytes, first),
         22 => versions::to_1(bytes, first),
         23 => versions::check(bytes),
+        24 => countries::of_letters(bytes, first, second),
         _ => say::text(b"no such question"),
     }
 }

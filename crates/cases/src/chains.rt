@@ -22,7 +22,7 @@ fn tell(answer: Answer) {
     show(outcome, length, &slots);
 }
 
-// The chain or the refusal, and whether every slot beyond the length holds 255.
+// The chain or the refusal, and the slots beyond the length.
 fn show(outcome: Outcome, length: usize, slots: &[u8]) {
     let end = slots.len();
     if end < length {
@@ -42,15 +42,20 @@ fn show(outcome: Outcome, length: usize, slots: &[u8]) {
             say::number(length as u64);
         }
     }
+    others(&slots[length..end]);
+}
+
+// Whether every slot that is not used holds 255.
+pub(crate) fn others(slots: &[u8]) {
     say::text(b", other slots ");
-    if unused(&slots[length..end]) {
+    if unused(slots) {
         say::text(b"255");
     } else {
         say::text(b"not all 255");
     }
 }
 
-fn places(slots: &[u8]) {
+pub(crate) fn places(slots: &[u8]) {
     let mut i = 0;
     while i < slots.len() {
         say::text(b" ");

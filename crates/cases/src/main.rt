@@ -2,6 +2,7 @@
 mod ask;
 mod certificates;
 mod chains;
+mod countries;
 mod days;
 mod images;
 mod items;

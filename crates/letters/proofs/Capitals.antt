@@ -48,7 +48,7 @@ none-low = record { one = omega arith; other = omega arith }
 abbrev pair : Letters → Country
 pair letters = record { first = firstLetter letters; second = secondLetter letters }
 
-capital-low : (o : ℕ) → isCapital o ≡ true → o ≤ 90
+pub capital-low : (o : ℕ) → isCapital o ≡ true → o ≤ 90
 unfolding isCapital
 capital-low o e = leb-true o 90 (and-eq-true-iff (leb 65 o) (leb o 90) .0 e .1)
 

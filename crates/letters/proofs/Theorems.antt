@@ -25,13 +25,13 @@ pub record Are (first second : ℕ) (country : Country) : Type 0 where
   pub other : second ≡ country .second
 
 module _ (first second : ℕ) (country : Country) where
-  spelled-are : spells first second country ≡ true → Are first second country
+  pub spelled-are : spells first second country ≡ true → Are first second country
   unfolding spells
   spelled-are e =
       let both = and-eq-true-iff (eqb first (country .first)) (eqb second (country .second)) .0 e in
       record { one = eqb-true _ _ (both .0); other = eqb-true _ _ (both .1) }
 
-  are-spelled : Are first second country → spells first second country ≡ true
+  pub are-spelled : Are first second country → spells first second country ≡ true
   unfolding spells
   are-spelled a = and-eq-true-iff (eqb first (country .first)) (eqb second (country .second)) .1 (eq-eqb _ _ (a .one), eq-eqb _ _ (a .other))
 

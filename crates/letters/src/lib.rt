@@ -5,4 +5,5 @@ mod telling;
 pub use checking::Checked;
 pub use checking::letters_true;
 pub use telling::Country;
+pub use telling::spell;
 pub use telling::true_letters;

@@ -52,7 +52,7 @@ fn of_certificate(item: &[u8], kind: usize) -> Country
 }
 
 // Whether two letters are a country's.
-pub(crate) fn spell(first: u8, second: u8, country: Country) -> bool
+pub fn spell(first: u8, second: u8, country: Country) -> bool
     ensures { λ r. ⌜ r ≡ spells first second country ⌝ }
 {
     if first != country.first {

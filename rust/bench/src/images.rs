@@ -144,6 +144,21 @@ pub fn usual(found: &str, entries: usize) -> Option<Vec<Question>> {
     Some(made.asked(24 + 4 + of, false))
 }
 
+/// The anchors of one country of the usual image in version 2, in full and by the index, and that image read.
+pub fn anchors(how: &str) -> Option<Vec<Question>> {
+    let Some(Question::Chain { image, .. }) = usual("two", 40)?.pop() else { return None };
+    let mut lettered = vec![0; image.len() + 4 * 96];
+    let length = plain::move_to_2(&image, &mut lettered).length as usize;
+    lettered.truncate(length);
+    let [first, second] = b"UU".map(u64::from);
+    Some(vec![match how {
+        "read" => Question::Image(lettered),
+        "full" => Question::Anchors(lettered, first, second),
+        "index" => Question::AnchorsByIndex(lettered, first, second),
+        _ => return None,
+    }])
+}
+
 /// A chain of two places, beside 64 CRLs of other countries.
 pub fn strangers() -> Vec<Question> {
     let mut made = Signed::new();

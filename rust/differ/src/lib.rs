@@ -12,5 +12,5 @@ mod show;
 pub use answer::Answer;
 pub use compare::{compare, run, Difference, Limits};
 pub use one_by_one::OneByOne;
-pub use reader::{ByRounds, Lent, Library, Plain, Reader};
+pub use reader::{ByIndex, ByRounds, Lent, Library, Plain, Reader};
 pub use show::{hex, kind, show};

@@ -30,6 +30,18 @@ pub struct Library;
 /// The proved library by its second search for chains.
 pub struct ByRounds;
 
+/// The proved library, asked for anchors by the index. Where an image's letters are true its answers are the full ones.
+pub struct ByIndex;
+
+impl Reader for ByIndex {
+    fn answer(&self, question: &mut Question, output: &mut Lent) -> Answer {
+        match question {
+            Question::Anchors(image, first, second) => answers::anchors_by_index(image, *first, *second).into(),
+            _ => Library.answer(question, output),
+        }
+    }
+}
+
 /// The plain reader.
 pub struct Plain;
 
@@ -54,6 +66,10 @@ macro_rules! reader {
                     Question::MoveTo2(image, _) => $of::move_to_2(image, &mut output.octets).into(),
                     Question::MoveTo1(image, _) => $of::move_to_1(image, &mut output.octets).into(),
                     Question::Letters(image) => $of::letters(image).into(),
+                    Question::Anchors(image, first, second) => $of::anchors(image, *first, *second).into(),
+                    Question::AnchorsByIndex(image, first, second) => {
+                        $of::anchors_by_index(image, *first, *second).into()
+                    }
                     Question::Chain { image, table, moment, target } => {
                         $of::$chain(image, table, *moment, *target).into()
                     }
@@ -80,6 +96,7 @@ reader!(
         match question {
             Question::Chain { .. } => Some(&ByRounds),
             Question::Signers { .. } => Some(&OneByOne),
+            Question::Anchors(image, ..) if answers::letters(image).letters_true == 1 => Some(&ByIndex),
             _ => None,
         }
     }

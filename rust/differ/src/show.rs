@@ -20,6 +20,8 @@ pub fn kind(question: &Question) -> &'static str {
         Question::MoveTo2(..) => "move to 2",
         Question::MoveTo1(..) => "move to 1",
         Question::Letters(_) => "letters",
+        Question::Anchors(..) => "anchors",
+        Question::AnchorsByIndex(..) => "anchors by index",
         Question::Chain { .. } => "chain",
         Question::Proposal { .. } => "proposal",
         Question::Signers { .. } => "signers",
@@ -44,6 +46,9 @@ pub fn show(question: &Question) -> String {
         Question::Days(first, second) => format!("first {first}, second {second}"),
         Question::Age(item, day) => format!("day {day}, item {}", hex(item)),
         Question::Image(image) | Question::Letters(image) => format!("image {}", hex(image)),
+        Question::Anchors(image, first, second) | Question::AnchorsByIndex(image, first, second) => {
+            format!("first {first}, second {second}, image {}", hex(image))
+        }
         Question::MoveTo2(image, room) | Question::MoveTo1(image, room) => format!("room {room}, image {}", hex(image)),
         Question::ImageForDay(image, wanted) => format!("wanted {wanted}, image {}", hex(image)),
         Question::Entry(image, place) => format!("place {place}, image {}", hex(image)),

@@ -232,9 +232,25 @@ fn every_octet_of_an_index() {
                 ask(Question::Entry(image.clone(), 1));
                 ask(Question::MoveTo2(image.clone(), room));
                 ask(Question::MoveTo1(image.clone(), room));
+                ask(Question::Anchors(image.clone(), 85, 84));
+                ask(Question::AnchorsByIndex(image.clone(), 85, 84));
                 ask(Question::Letters(image));
             }
         }
+    }
+}
+
+#[test]
+fn letters_of_a_country() {
+    for image in images() {
+        for number in numbers(&[85, 84]) {
+            for (first, second) in [(number, 84), (85, number), (number, number)] {
+                ask(Question::Anchors(image.clone(), first, second));
+                ask(Question::AnchorsByIndex(image.clone(), first, second));
+            }
+        }
+        let Answer::Anchors(told) = ask(Question::Anchors(image, 85, 84)) else { panic!("another answer") };
+        assert_eq!((told.number, told.count, told.places[0]), (0, 1, 0));
     }
 }
 
@@ -264,6 +280,9 @@ fn empty_slices() {
     assert_eq!(ask(Question::Crl(none())).head(), (2, 0));
     assert_eq!(ask(Question::Image(none())).head(), (5, 1));
     assert_eq!(ask(Question::Letters(none())).head(), (5, 1));
+    assert_eq!(ask(Question::Anchors(none(), 85, 84)).head(), (5, 1));
+    assert_eq!(ask(Question::AnchorsByIndex(none(), 85, 84)).head(), (5, 1));
+    assert_eq!(ask(Question::AnchorsByIndex(none(), 0, 84)).head(), (1, 0));
     for room in [0, 1, 11, 12, 13] {
         assert_eq!(ask(Question::MoveTo2(none(), room)).head(), (5, 1));
         assert_eq!(ask(Question::MoveTo1(none(), room)).head(), (5, 1));

@@ -284,6 +284,12 @@ pub fn mislead(image: &mut [u8], random: &mut Random) {
     }
 }
 
+/// The letters of some entry of an image of version 2, else two zeros.
+pub fn letters_in(image: &[u8], random: &mut Random) -> [u8; 2] {
+    let back = some_entry(image, random).filter(|_| width(image) == 12);
+    back.map_or([0, 0], |back| [image[image.len() - back + 8], image[image.len() - back + 9]])
+}
+
 /// Another kind for one item.
 pub fn rename(image: &mut [u8], random: &mut Random) {
     if let Some(back) = some_entry(image, random) {

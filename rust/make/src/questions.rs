@@ -50,6 +50,9 @@ pub enum Question {
     MoveTo1(Vec<u8>, usize),
     /// An image whose letters are checked.
     Letters(Vec<u8>),
+    /// An image and the letters of a country; answered in full, or by the index.
+    Anchors(Vec<u8>, u64, u64),
+    AnchorsByIndex(Vec<u8>, u64, u64),
     Chain {
         image: Vec<u8>,
         table: Vec<u8>,
@@ -114,7 +117,7 @@ impl Source {
     /// The next question.
     #[allow(clippy::should_implement_trait)]
     pub fn next(&mut self) -> Question {
-        match self.random.below(106) {
+        match self.random.below(109) {
             0..=19 => Question::Walk(self.item()),
             20..=25 => Question::Integer(self.integer()),
             26..=49 => self.certificate(),
@@ -131,6 +134,8 @@ impl Source {
             89..=90 => self.move_to_1(),
             91..=92 => Question::Letters(self.image_of(2)),
             93..=96 => self.proposal(),
+            106..=107 => self.anchors(),
+            108 => self.anchors_by_index(),
             _ => self.chain(),
         }
     }
@@ -336,6 +341,19 @@ impl Source {
         Question::MoveTo1(image, room)
     }
 
+    fn anchors(&mut self) -> Question {
+        let version = if self.random.percent(30) { 1 } else { 2 };
+        let image = self.image_of(version);
+        let (first, second) = letters(&mut self.random, &image);
+        Question::Anchors(image, first, second)
+    }
+
+    fn anchors_by_index(&mut self) -> Question {
+        let image = self.image_of(2);
+        let (first, second) = letters(&mut self.random, &image);
+        Question::AnchorsByIndex(image, first, second)
+    }
+
     fn image_for_day(&mut self) -> Question {
         let image = self.image();
         let wanted = match image.len().checked_sub(4) {
@@ -432,6 +450,23 @@ impl Source {
         let target = target(random, world);
         (number, image, table, moment, target)
     }
+}
+
+/// Letters of a country, mostly one that worlds have, now and then those of an entry, or numbers that are no letters.
+fn letters(random: &mut Random, image: &[u8]) -> (u64, u64) {
+    let [mut first, mut second] = [b'U', b'T' + random.below(3) as u8].map(u64::from);
+    if random.percent(20) {
+        [first, second] = image::letters_in(image, random).map(u64::from);
+    }
+    let wrong = [0, 64, 91, 97, 117, 255, 256, 256 + 85, 1 << 32 | 85, u64::MAX];
+    match random.below(24) {
+        0 => first = *random.pick(&wrong),
+        1 => second = *random.pick(&wrong),
+        2 => (first, second) = (second, first),
+        3 => (first, second) = (65 + random.below(26) as u64, 65 + random.below(26) as u64),
+        _ => {}
+    }
+    (first, second)
 }
 
 /// Breaks a rule. The way that makes the image too long is rare, since it is large.

@@ -59,7 +59,7 @@ fn rewritten(open: &Open, of: impl Fn(usize) -> [u8; 2], version: u16, out: &mut
 }
 
 /// The letters that an item reports where it passes its profile, else zeros.
-fn true_letters(open: &Open, place: usize) -> [u8; 2] {
+pub(crate) fn true_letters(open: &Open, place: usize) -> [u8; 2] {
     let item = open.item(place);
     let of = |role| certificate::read(item, role).map(|fields| fields.country);
     let told = match open.line(place).kind {

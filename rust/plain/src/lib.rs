@@ -7,6 +7,7 @@
 
 #![forbid(unsafe_code)]
 
+mod anchors;
 mod calendar;
 mod certificate;
 mod chain;
@@ -24,6 +25,7 @@ mod time;
 mod tray;
 mod writer;
 
+pub use anchors::{anchors, anchors_by_index, Anchors};
 pub use calendar::{day_difference, Days};
 pub use certificate::{certificate, Certificate};
 pub use chain::{chain, proposal, Chain, Told};

@@ -41,6 +41,14 @@ fn ask(question: &Question) -> (&'static str, u64, u64) {
             let told = plain::letters(image);
             answer("letters", told.number, if told.number == 0 { told.letters_true } else { told.detail })
         }
+        Question::Anchors(image, first, second) => {
+            let told = plain::anchors(image, *first, *second);
+            answer("anchors", told.number, if told.number == 0 { told.count.min(2) } else { told.detail })
+        }
+        Question::AnchorsByIndex(image, first, second) => {
+            let told = plain::anchors_by_index(image, *first, *second);
+            answer("anchors by index", told.number, if told.number == 0 { told.count.min(2) } else { told.detail })
+        }
         Question::Chain { image, table, moment, target } => {
             let found = chain(image, table, *moment, *target);
             answer("chain", found.number, if found.number == 0 { found.length } else { found.detail })
@@ -82,6 +90,11 @@ fn every_answer_is_reached() {
     wanted.extend([0, 3, 9].map(|number| ("move to 2", number, 0)));
     wanted.extend([0, 9].map(|number| ("move to 1", number, 0)));
     wanted.extend([0, 1].map(|letters_true| ("letters", 0, letters_true)));
+    for name in ["anchors", "anchors by index"] {
+        wanted.push((name, 1, 0));
+        wanted.extend([0, 1, 2].map(|count| (name, 0, count)));
+        wanted.extend((1..=7).map(|rule| (name, 5, rule)));
+    }
     wanted.extend([0, 1, 5, 6].map(|number| ("day", number, 0)));
     wanted.extend([0, 1, 5].map(|number| ("entry", number, 0)));
     wanted.extend([("write", 0, 1), ("write", 0, 2)]);

@@ -92,6 +92,14 @@ fn versions() {
     bench.write("bad.image", &bad);
     held("image-letters-false.txt", &bench.line("image bad.image --letters"));
     held("image-letters-json.txt", &bench.line("image bad.image --letters --json"));
+    held("anchors.txt", &bench.line("anchors yesterday.image --country UT"));
+    held("anchors-none.txt", &bench.line("anchors yesterday.image --country AB"));
+    held("anchors-by-index.txt", &bench.line("anchors two.image --country XO --by-index"));
+    held("anchors-json.txt", &bench.line("anchors two.image --country XO --by-index --json"));
+    held("anchors-no-letters.txt", &bench.line("anchors two.image --country ut"));
+    held("anchors-version-1.txt", &bench.line("anchors yesterday.image --country UT --by-index"));
+    held("anchors-false.txt", &bench.line("anchors bad.image --country UT --by-index"));
+    held("anchors-false-json.txt", &bench.line("anchors bad.image --country UT --by-index --json"));
 }
 
 #[test]

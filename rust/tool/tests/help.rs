@@ -32,9 +32,10 @@ fn examples(help: &str) -> Vec<String> {
 fn examples_work() {
     let bench = bench("help");
     let mut tried = 0;
-    for command in
-        ["", "item", "walk", "image", "pack", "unpack", "convert", "chain", "propose", "days", "age", "tray", "demo"]
-    {
+    for command in [
+        "", "item", "walk", "image", "pack", "unpack", "convert", "anchors", "chain", "propose", "days", "age", "tray",
+        "demo",
+    ] {
         let run = bench.status(&format!("{command} --help"), 0);
         assert!(run.out.lines().all(|line| line.chars().count() <= 100), "{}", run.out);
         for line in examples(&run.out) {
@@ -43,7 +44,7 @@ fn examples_work() {
             tried += 1;
         }
     }
-    assert!(tried >= 16, "{tried} examples");
+    assert!(tried >= 19, "{tried} examples");
 }
 
 /// The page with every output as it is printed now: a block of commands, each behind `$ `, and what they print.

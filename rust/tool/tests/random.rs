@@ -40,6 +40,11 @@ fn questions_get_the_answer_of_the_library() {
                 let told = vrbolist::image(&image).err().or(vrbolist::letters(&image).err());
                 ("image x --letters".to_string(), image, told)
             }
+            Question::Anchors(image, first, second) => {
+                let Some(country) = word(first, second) else { continue };
+                let told = vrbolist::anchors(&image, country).err();
+                (format!("anchors x --country {}", String::from_utf8_lossy(&country)), image, told)
+            }
             _ => continue,
         };
         bench.write("x", &file);
@@ -50,14 +55,21 @@ fn questions_get_the_answer_of_the_library() {
     }
 }
 
+/// The letters as a word, where they are characters that stand in one.
+fn word(first: u64, second: u64) -> Option<[u8; 2]> {
+    let country = [u8::try_from(first).ok()?, u8::try_from(second).ok()?];
+    country.iter().all(u8::is_ascii_alphanumeric).then_some(country)
+}
+
 fn words(random: &mut Random) -> Vec<Vec<u8>> {
-    const WORDS: [&str; 42] = [
+    const WORDS: [&str; 46] = [
         "item",
         "walk",
         "image",
         "pack",
         "unpack",
         "convert",
+        "anchors",
         "chain",
         "propose",
         "days",
@@ -85,6 +97,9 @@ fn words(random: &mut Random) -> Vec<Vec<u8>> {
         "--version",
         "--to",
         "--letters",
+        "--country",
+        "UT",
+        "--by-index",
         "2",
         "3",
         "x",
@@ -99,7 +114,7 @@ fn words(random: &mut Random) -> Vec<Vec<u8>> {
     for place in 0..random.between(1, 9) {
         out.push(match random.below(12) {
             0 => random.octets(5).into_iter().filter(|b| *b != 0 && *b != b'/').collect(),
-            _ if place == 0 => WORDS[random.below(10)].into(),
+            _ if place == 0 => WORDS[random.below(11)].into(),
             _ => WORDS[random.below(WORDS.len())].into(),
         });
     }
@@ -137,6 +152,7 @@ fn random_files_and_words_never_crash() {
                 let command = *random.pick(&[
                     "walk x",
                     "image x --letters",
+                    "anchors x --country UT --by-index",
                     "item x --as crl",
                     "item x --as anchor",
                     "age x 20261115",

@@ -42,6 +42,11 @@ fn refusal_1_arguments() {
         "chain today.image --table today.table --at 20261115120000 --signer 4",
         "chain today.image --table today.table --at 20261115120000 --signer 13",
         "chain today.image --table tests/data/made/ut-anchor-1.der --at 20261115120000 --signer 5",
+        "anchors today.image --country ut",
+        "anchors today.image --country U[",
+        "anchors today.image --country @T",
+        "anchors today.image --country ut --by-index",
+        "anchors tests/data/made/ut-anchor-1.der --country 00",
         "propose today.image --table today.table --at 20261115240000 --signer 8 --chain 1,3,8",
         "propose today.image --table today.table --at 20261115120000 --signer 4 --chain 0,4",
         "propose today.image --table today.table --at 20261115120000 --signer 8 --chain 8",
@@ -193,6 +198,8 @@ fn refusal_5_tells_every_rule() {
             assert!(run.out.contains(&format!("rule {rule} of the trust image")), "{rule}: {}", run.out);
             bench.status("unpack bad.image items", 5);
             bench.status("image bad.image --letters", 5);
+            bench.status("anchors bad.image --country UT", 5);
+            bench.status("anchors bad.image --country UT --by-index", 5);
             bench.status("convert bad.image other.image --to 1", 5);
             bench.status("convert bad.image other.image --to 2", 5);
             bench.status("chain bad.image --table today.table --at 20261115120000 --signer all", 5);
@@ -227,6 +234,8 @@ fn versions() {
     assert!(run.out.contains("detail 2") && run.out.contains("of version 1 already"), "{}", run.out);
     let run = bench.status("image one.image --letters", 5);
     assert!(run.out.contains("detail 2") && run.out.contains("version has to be 2"), "{}", run.out);
+    let run = bench.status("anchors one.image --country UT --by-index", 5);
+    assert!(run.out.contains("detail 2") && run.out.contains("version has to be 2"), "{}", run.out);
     bench.status("convert one.image other.image --to 3", 64);
     bench.status("convert one.image two.image --to 2", 73);
     bench.status("convert one.image two.image --to 2 --force", 0);
@@ -260,6 +269,11 @@ fn status_65_letters_that_are_not_true() {
         bad[letters..letters + 2].copy_from_slice(&octets);
         bench.write("bad.image", &bad);
         bench.status("image bad.image", 0);
+        let run = bench.status("anchors bad.image --country UT --by-index", 65);
+        assert!(run.out.contains("Ask without --by-index") && !run.out.contains("PASSED"), "{}", run.out);
+        bench.status("anchors bad.image --country ut --by-index", 1);
+        let run = bench.status("anchors bad.image --country UT", 0);
+        assert!(run.out.contains("PASSED   2 enabled anchors of UT\n"), "{}", run.out);
         let run = bench.status("image bad.image --letters", 65);
         assert!(run.out.contains("LETTERS  false at 1 of 13 places\n"), "{}", run.out);
         assert!(run.out.contains(&format!("    3  {shown:<5} stands in the index, UT is true\n")), "{}", run.out);
@@ -308,6 +322,12 @@ fn usage_64() {
         "pack out.image --day 20261115 --version two",
         "pack out.image --day 20261115 --version 1 --version 2",
         "unpack x",
+        "anchors none.image",
+        "anchors none.image --country",
+        "anchors none.image --country U",
+        "anchors none.image --country UTO",
+        "anchors none.image --country UT --country XO",
+        "anchors --country UT",
         "convert none.image out.image",
         "convert none.image --to 2",
         "convert none.image out.image --to 0",

@@ -4,7 +4,9 @@
 #![allow(unsafe_code)]
 
 use crate::raw;
-pub use crate::raw::{Certificate, Chain, Crl, Days, Entry, Image, Integer, Letters, Replay, Signers, Told, Walk, Write};
+pub use crate::raw::{
+    Anchors, Certificate, Chain, Crl, Days, Entry, Image, Integer, Letters, Replay, Signers, Told, Walk, Write,
+};
 
 // Each call lends slices for its own time only, and a slice's pointer and length are what the archive asks for: not null,
 // and none of them overlaps the one that is written, which Rust's borrows see to.
@@ -86,6 +88,15 @@ pub fn move_to_1(image: &[u8], out: &mut [u8]) -> Write {
 
 pub fn letters(image: &[u8]) -> Letters {
     unsafe { raw::vrbolist_letters(image.as_ptr(), image.len()) }
+}
+
+pub fn anchors(image: &[u8], first: u64, second: u64) -> Anchors {
+    unsafe { raw::vrbolist_anchors(image.as_ptr(), image.len(), first, second) }
+}
+
+/// For bytes of which `letters` has told 1.
+pub fn anchors_by_index(image: &[u8], first: u64, second: u64) -> Anchors {
+    unsafe { raw::vrbolist_anchors_by_index(image.as_ptr(), image.len(), first, second) }
 }
 
 pub fn chain(image: &[u8], table: &[u8], moment: u64, target: u64) -> Chain {

@@ -56,6 +56,12 @@ pub struct Entry<'a> {
     pub item: &'a [u8],
 }
 
+/// An image of version 2 whose letters are true, as the check of them has told: its index tells the country of each anchor.
+#[derive(Clone, Copy, Debug, PartialEq, Eq)]
+pub struct Lettered<'a> {
+    image: &'a [u8],
+}
+
 /// The bytes of the record of one place.
 pub const RECORD: usize = 97;
 
@@ -166,6 +172,23 @@ pub fn letters(image: &[u8]) -> Result<bool, Refusal> {
     passed(told.number, told.detail, told.letters_true == 1)
 }
 
+/// The same check, which gives an image whose letters are true, and nothing where they are not.
+pub fn lettered(image: &[u8]) -> Result<Option<Lettered<'_>>, Refusal> {
+    letters(image).map(|letters_true| letters_true.then_some(Lettered { image }))
+}
+
+/// The places of the enabled anchors that pass their profile and report the letters of a country, ascending.
+pub fn anchors(image: &[u8], country: [u8; 2]) -> Result<Vec<u8>, Refusal> {
+    listed(answers::anchors(image, country[0] as u64, country[1] as u64))
+}
+
+impl Lettered<'_> {
+    /// The answer of `anchors`, from the index alone: no item is opened.
+    pub fn anchors(&self, country: [u8; 2]) -> Result<Vec<u8>, Refusal> {
+        listed(answers::anchors_by_index(self.image, country[0] as u64, country[1] as u64))
+    }
+}
+
 /// The places of the best chain to a document signer, from the anchor on.
 pub fn chain(image: &[u8], table: &[u8], moment: u64, target: u64) -> Result<Vec<u8>, Refusal> {
     places(answers::chain(image, table, moment, target))
@@ -194,6 +217,10 @@ pub fn all_signers<'a>(image: &[u8], table: &[u8], moment: u64, out: &'a mut [u8
 pub fn replay<'a>(log: &[u8], list: &'a mut [u64]) -> Result<&'a [u64], Refusal> {
     let told = answers::replay(log, list);
     passed(told.number, told.detail, ()).map(|()| list.get(..told.faulty as usize).unwrap_or_default())
+}
+
+fn listed(told: answers::Anchors) -> Result<Vec<u8>, Refusal> {
+    passed(told.number, told.detail, ()).map(|()| part(&told.places, 0, told.count).to_vec())
 }
 
 fn places(told: answers::Chain) -> Result<Vec<u8>, Refusal> {

@@ -1,6 +1,8 @@
 //! The wrapper on a few worked cases: passes, refusals, and parts as slices.
 
-use vrbolist::{day_difference, entry, image, integer, letters, move_to_1, move_to_2, replay, walk, Refusal};
+use vrbolist::{
+    anchors, day_difference, entry, image, integer, lettered, letters, move_to_1, move_to_2, replay, walk, Refusal,
+};
 
 #[test]
 fn walks() {
@@ -46,6 +48,29 @@ fn both_versions() {
     assert_eq!((letters(&back), move_to_1(&back, &mut one).err()), (Err(rule_2), Some(rule_2)));
     assert_eq!(move_to_2(&forth, &mut two), Err(rule_2));
     assert_eq!(move_to_2(&back, &mut [0; 24]), Err(Refusal { number: 9, detail: 0 }));
+}
+
+#[test]
+fn anchors_of_a_country() {
+    let anchor = include_bytes!("../../../tests/data/made/ut-anchor-1.der");
+    let (items, size) = ([&anchor[..], &[5]].concat(), anchor.len() as u32);
+    let mut out = vec![0; 3000];
+    let mut written = |told: &[u8; 4]| {
+        vrbolist::write(&items, &[1, 1], &[1, 1], &[size, 1], told, 2, 20240301, &mut out).unwrap().to_vec()
+    };
+    let (good, bad) = (written(b"UT\0\0"), written(b"UTUT"));
+    for image in [&good, &bad] {
+        assert_eq!(anchors(image, *b"UT"), Ok(vec![0]));
+        assert_eq!(anchors(image, *b"XO"), Ok(vec![]));
+        assert_eq!(anchors(image, *b"ut"), Err(Refusal { number: 1, detail: 0 }));
+    }
+    // The index answers only where the check of its letters says yes.
+    let checked = lettered(&good).unwrap().unwrap();
+    assert_eq!(checked.anchors(*b"UT"), Ok(vec![0]));
+    assert_eq!(checked.anchors(*b"XO"), Ok(vec![]));
+    assert_eq!(checked.anchors(*b"U["), Err(Refusal { number: 1, detail: 0 }));
+    assert_eq!(lettered(&bad), Ok(None));
+    assert_eq!(lettered(&good[1..]).err(), Some(Refusal { number: 5, detail: 5 }));
 }
 
 #[test]

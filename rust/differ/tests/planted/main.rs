@@ -3,6 +3,7 @@
 
 #![forbid(unsafe_code)]
 
+mod countries;
 mod signers;
 mod versions;
 

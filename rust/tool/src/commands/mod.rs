@@ -1,6 +1,7 @@
 //! The commands, and how one is chosen.
 
 pub mod age;
+pub mod anchors;
 pub mod chain;
 pub mod convert;
 pub mod days;
@@ -26,13 +27,14 @@ pub struct Command {
     pub run: fn(&Given) -> Result<Answer, Stop>,
 }
 
-const COMMANDS: [&Command; 12] = [
+const COMMANDS: [&Command; 13] = [
     &item::COMMAND,
     &walk::COMMAND,
     &image::COMMAND,
     &pack::COMMAND,
     &unpack::COMMAND,
     &convert::COMMAND,
+    &anchors::COMMAND,
     &chain::COMMAND,
     &propose::COMMAND,
     &days::COMMAND,
@@ -50,6 +52,7 @@ vrbolist: judges passport-signing certificates, CRLs, trust images and chains
   vrbolist pack OUT --day YYYYMMDD --anchor F ..   writes a trust image
   vrbolist unpack IMAGE DIR                        its items as files
   vrbolist convert IMAGE OUT --to 1|2              the same image in the other version
+  vrbolist anchors IMAGE --country UT              its enabled anchors of a country
   vrbolist chain IMAGE --table T --at MOMENT --signer PLACE|all
                                                    the chain to a signer, or why there is none
   vrbolist propose IMAGE --table T --at MOMENT --signer PLACE --chain PLACE,PLACE,..
