@@ -1,3 +1,4 @@
+pub mod Picked
 pub mod Stores
 pub mod Columns
 pub mod Answers
