@@ -1,0 +1,4 @@
+pub mod Choosing
+pub mod Cutting
+pub mod Going
+pub mod Carried
