@@ -139,12 +139,37 @@ module _ {g h : Graph} {stay : ℕ → Bool} {new old : ℕ → ℕ} (m : Matche
           inr (omega (arith, length-map c new, length-map d old), rw (← numbers x) at first)
 
   -- and the other way round
-  back-order : {t u : ℕ} {c d : List ℕ} → Onward h t u c → {w : ℕ} → Onward h t w d → NotLater c d → NotLater (map old c) (map old d)
-  back-order x y done = done
-  back-order {t} (ends k signer step) (ends l signing stepping) (less w) = less (old-order t t k l w)
-  back-order {t} (ends k signer step) (goes {v = v} l link stepping rest) (less w) = less (old-order t v k l w)
-  back-order {t} (goes {v = v} k link step rest) (ends l signing stepping) (less w) = less (old-order v t k l w)
-  back-order (goes {v = v} k link step rest) (goes {v = z} l linking stepping others) (less w) = less (old-order v z k l w)
-  back-order (ends k signer step) y (same done) = same done
-  back-order (goes k link step rest) (ends l signing stepping) (same done) = same done
-  back-order (goes k link step rest) (goes l linking stepping others) (same x) = same (back-order rest others x)
+  onward-order-back :
+      {t u w : ℕ} {c d : List ℕ} → Onward h t u c → Onward h t w d → NotLater c d → NotLater (map old c) (map old d)
+  onward-order-back {t} (ends k signer step) (ends l signing stepping) (less e) = less (old-order t t k l e)
+  onward-order-back {t} (ends k signer step) (goes {v = v} l link stepping rest) (less e) = less (old-order t v k l e)
+  onward-order-back {t} (goes {v = v} k link step rest) (ends l signing stepping) (less e) = less (old-order v t k l e)
+  onward-order-back (goes {v = v} k link step rest) (goes {v = w} l linking stepping others) (less e) = less (old-order v w k l e)
+  onward-order-back (ends k signer step) y (same done) = same done
+  onward-order-back (goes k link step rest) (ends l signing stepping) (same done) = same done
+  onward-order-back (goes k link step rest) (goes l linking stepping others) (same e) = same (onward-order-back rest others e)
+
+  chain-order-back : {t : ℕ} {c d : List ℕ} → Chain h t c → Chain h t d → NotLater c d → NotLater (map old c) (map old d)
+  chain-order-back (chain {u = u} l anchor rest) (chain {u = v} k other others) (less e) = less (old-order u v l k e)
+  chain-order-back (chain l anchor rest) (chain k other others) (same e) = same (onward-order-back rest others e)
+
+  onward-olds : {t u : ℕ} {c : List ℕ} → Onward g t u c → map old (map new c) ≡ c
+  onward-olds {t} (ends k signer step) = ap (λ (x : ℕ). x ∷ []) (forth t k (m .signer-stays t k signer))
+  onward-olds (goes {v = v} k link step rest) = ap₂ _∷_ (forth v k (m .link-stays v k link)) (onward-olds rest)
+
+  olds : {t : ℕ} {c : List ℕ} → Chain g t c → map old (map new c) ≡ c
+  olds (chain {u = u} l anchor rest) = ap₂ _∷_ (forth u l (m .anchor-stays u l anchor)) (onward-olds rest)
+
+  pub best-from-first :
+      {t : ℕ} {d : List ℕ} → t < g .places → stay t ≡ true → Best h (new t) d → (c : List ℕ) × (d ≡ map new c) × Best g t c
+  best-from-first {t} {d} here stays b =
+      (map old d, numbers (b .good),
+      record { good = chain-back here stays (b .good); least = λ e x. go e x (b .least (map new e) (renumbered x)) })
+    where
+      go :
+          (e : List ℕ) → Chain g t e → (length d < length (map new e)) ⊎ ((length d ≡ length (map new e)) × NotLater d (map new e))
+          → (length (map old d) < length e) ⊎ ((length (map old d) ≡ length e) × NotLater (map old d) e)
+      go e x (inl k) = inl (omega (arith, length-map d old, length-map e new))
+      go e x (inr (k, l)) =
+          let first : NotLater (map old d) (map old (map new e)) = chain-order-back (b .good) (renumbered x) l in
+          inr (omega (arith, length-map d old, length-map e new), rw (olds x) at first)

@@ -1,0 +1,94 @@
+-- The new number of a place that stays: its item, its place, its verdicts; and a test of some place, asked of those that stay alone.
+use Prim.Native.Nat.{ℕ, zero, suc, _+_, _<_, _≤_}
+use mathlib.Core.Path.{_≡_, refl, sym, ap, ap₂, _∙_}
+use mathlib.Core.Bool.{Bool, true, false, _||_}
+use mathlib.Core.List.{List, []}
+use mathlib.Core.Logic.{⊎-elim}
+use native.Mathlib.Omega.{arith}
+use lib.ListN.{length, getD}
+use Rattle.graph.proofs.Cases.{either, clash}
+use Rattle.image.specs.Items.{Item}
+use Rattle.usable.specs.Items.{itemAt, someBelow}
+use Rattle.usable.specs.Table.{verdictIn}
+use Rattle.usable.proofs.Booleans.{false-true}
+use Rattle.usable.proofs.RowLaws.{some-there}
+use Rattle.room.specs.Kept.{stays, kept, keptPlaces, newPlace, cut}
+use Rattle.renumbered.specs.Answers.{Stays}
+use Rattle.renumbered.proofs.Choosing as chosen
+use Rattle.renumbered.proofs.Cutting.{cut-verdict}
+
+-- no item
+abbrev none : Item
+none = record { kind = 0; flags = 0; bytes = []; first = 0; second = 0 }
+
+-- where a test of some place holds
+some-where : (n : ℕ) (test : ℕ → Bool) → someBelow n test ≡ true → (p : ℕ) × (p < n) × (test p ≡ true)
+unfolding someBelow
+some-where zero test e = false-true e
+some-where (suc n) test e =
+    either (test n) (λ t. (n, omega arith, t)) (λ t. let (p, l, u) = some-where n test (rw t at e) in (p, omega (arith, l), u))
+
+module _ (moment : ℕ) (items : List Item) where
+  -- the place that a new number stands for
+  abbrev pub oldPlace : ℕ → ℕ
+  oldPlace k = getD (keptPlaces moment items) k 0
+
+  pub number-inside : (p : ℕ) → Stays moment items p → newPlace moment items p < length (kept moment items)
+  unfolding newPlace itemAt
+  number-inside p s = chosen.stands (stays moment) none items 0 p (s .inside) (s .kept) .0
+
+  pub same-item : (p : ℕ) → Stays moment items p → itemAt (kept moment items) (newPlace moment items p) ≡ itemAt items p
+  unfolding newPlace itemAt
+  same-item p s = chosen.stands (stays moment) none items 0 p (s .inside) (s .kept) .1
+
+  pub old-of-new : (p : ℕ) → Stays moment items p → oldPlace (newPlace moment items p) ≡ p
+  unfolding newPlace itemAt
+  old-of-new p s =
+      let from : oldPlace (newPlace moment items p) ≡ 0 + p = chosen.stands (stays moment) none items 0 p (s .inside) (s .kept) .2 in
+      omega (arith, from)
+
+  pub number-order :
+      (p q : ℕ) → Stays moment items p → p < q → newPlace moment items p < newPlace moment items q
+  unfolding newPlace itemAt
+  number-order p q s l = chosen.rises (stays moment) none items p q (s .inside) (s .kept) l
+
+  pub new-of-old :
+      (k : ℕ) → k < length (kept moment items) → Stays moment items (oldPlace k) × (newPlace moment items (oldPlace k) ≡ k)
+  unfolding newPlace itemAt
+  new-of-old k h =
+      let w = chosen.stood (stays moment) none items 0 k h in
+      let is : oldPlace k ≡ w .place = omega (arith, w .from) in
+      rw is (record { inside = w .inside; kept = w .passes }, w .number)
+
+  -- what is told of two places that stay
+  pub same-verdict :
+      (n : ℕ) (table : List ℕ) (u v : ℕ) → Stays moment items u → Stays moment items v
+      → verdictIn (length (kept moment items)) (cut n table (keptPlaces moment items)) (newPlace moment items u) (newPlace moment items v)
+      ≡ verdictIn n table u v
+  same-verdict n table u v s t =
+      cut-verdict n (length (kept moment items)) table (keptPlaces moment items) _ _ (chosen.places-many (stays moment) items 0)
+      (number-inside u s) (number-inside v t)
+      ∙ ap₂ (verdictIn n table) (old-of-new u s) (old-of-new v t)
+
+  -- a test that holds of no place that goes
+  pub some-kept :
+      (old new : ℕ → Bool) → ((p : ℕ) → Stays moment items p → new (newPlace moment items p) ≡ old p)
+      → ((p : ℕ) → stays moment (itemAt items p) ≡ false → old p ≡ false)
+      → someBelow (length (kept moment items)) new ≡ someBelow (length items) old
+  some-kept old new same gone =
+      one-truth (someBelow (length (kept moment items)) new) (someBelow (length items) old)
+      (λ e.
+      let (k, l, t) = some-where (length (kept moment items)) new e in
+      let (s, number) = new-of-old k l in
+      some-there (length items) old (oldPlace k) (s .inside) (sym (same (oldPlace k) s) ∙ ap new number ∙ t))
+      (λ e.
+      let (p, l, t) = some-where (length items) old e in
+      either (stays moment (itemAt items p))
+      (λ k. let s : Stays moment items p = record { inside = l; kept = k } in
+      some-there (length (kept moment items)) new (newPlace moment items p) (number-inside p s) (same p s ∙ t))
+      (λ k. absurd (clash t (gone p k))))
+    where
+      one-truth : (a b : Bool) → (a ≡ true → b ≡ true) → (b ≡ true → a ≡ true) → a ≡ b
+      one-truth true b f g = sym (f refl)
+      one-truth false true f g = g refl
+      one-truth false false f g = refl
