@@ -1,12 +1,12 @@
 -- Two graphs, of which the second has those places of the first that stay, renumbered in their order; what stands in a chain stays. Their
 -- chains are the same under the new numbers, and so is the best of them.
-use Prim.Native.Nat.{ℕ, _<_, _≤_}
+use Prim.Native.Nat.{ℕ, zero, suc, _<_, _≤_}
 use mathlib.Core.Path.{_≡_, refl, sym, ap, ap₂, _∙_}
 use mathlib.Core.Bool.{Bool, true}
 use mathlib.Core.List.{List, [], _∷_, map}
 use mathlib.Core.Logic.{_⊎_, inl, inr, ⊎-elim}
 use native.Mathlib.Omega.{arith}
-use lib.ListN.{length, length-map}
+use lib.ListN.{length, getD, length-map}
 use Rattle.graph.specs.Chains.{Graph, Onward, ends, goes, Chain, chain, NotLater, done, less, same, Best}
 use Rattle.graph.proofs.Cases.{same?, less?}
 
@@ -49,6 +49,17 @@ module _ {g h : Graph} {stay : ℕ → Bool} {new old : ℕ → ℕ} (m : Matche
       (λ d. let over : old k < old j = omega (arith, d) in absurd (omega (arith, number, another, m .order (old k) (old j) under keeps over)))
       (same? (old k) (old j)))
       (less? (old j) (old k))
+
+  -- all places of a chain of the first stay
+  onward-stays : {t u : ℕ} {c : List ℕ} → Onward g t u c → (i : ℕ) → i < length c → (getD c i 0 < g .places) × (stay (getD c i 0) ≡ true)
+  onward-stays {t} (ends k signer step) zero l = (k, m .signer-stays t k signer)
+  onward-stays (ends k signer step) (suc i) l = absurd (omega arith)
+  onward-stays (goes {v = v} k link step rest) zero l = (k, m .link-stays v k link)
+  onward-stays (goes k link step rest) (suc i) l = onward-stays rest i (omega arith)
+
+  pub chain-stays : {t : ℕ} {c : List ℕ} → Chain g t c → (i : ℕ) → i < length c → (getD c i 0 < g .places) × (stay (getD c i 0) ≡ true)
+  chain-stays (chain {u = u} k anchor rest) zero l = (k, m .anchor-stays u k anchor)
+  chain-stays (chain k anchor rest) (suc i) l = onward-stays rest i (omega arith)
 
   -- chains of the first are, renumbered, chains of the second
   onward :

@@ -4,3 +4,7 @@ pub mod Going
 pub mod Carried
 pub mod Numbers
 pub mod Staying
+pub mod Images
+pub mod Answers
+pub mod Rooms
+pub mod Theorems
