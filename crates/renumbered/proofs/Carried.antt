@@ -4,16 +4,17 @@ use Prim.Native.Nat.{ℕ, zero, suc, _<_, _≤_}
 use mathlib.Core.Path.{_≡_, refl, sym, ap, ap₂, _∙_}
 use mathlib.Core.Bool.{Bool, true}
 use mathlib.Core.List.{List, [], _∷_, map}
-use mathlib.Core.Logic.{_⊎_, inl, inr, ⊎-elim}
+use mathlib.Core.Logic.{_⊎_, inl, inr}
 use native.Mathlib.Omega.{arith}
 use lib.ListN.{length, getD, length-map}
 use Rattle.graph.specs.Chains.{Graph, Onward, ends, goes, Chain, chain, NotLater, done, less, same, Best}
-use Rattle.graph.proofs.Cases.{same?, less?}
 
 pub record Matched (g h : Graph) (stay : ℕ → Bool) (new old : ℕ → ℕ) : Type 0 where
   pub inside : (u : ℕ) → u < g .places → stay u ≡ true → new u < h .places
   pub back : (k : ℕ) → k < h .places → (old k < g .places) × (stay (old k) ≡ true) × (new (old k) ≡ k)
+  pub forth : (u : ℕ) → u < g .places → stay u ≡ true → old (new u) ≡ u
   pub order : (u v : ℕ) → u < g .places → stay u ≡ true → u < v → new u < new v
+  pub old-order : (j k : ℕ) → k < h .places → j < k → old j < old k
   pub anchor : (u : ℕ) → u < g .places → stay u ≡ true → h .anchor (new u) ≡ g .anchor u
   pub link : (u : ℕ) → u < g .places → stay u ≡ true → h .link (new u) ≡ g .link u
   pub signer : (u : ℕ) → u < g .places → stay u ≡ true → h .signer (new u) ≡ g .signer u
@@ -24,32 +25,6 @@ pub record Matched (g h : Graph) (stay : ℕ → Bool) (new old : ℕ → ℕ) :
   pub signer-stays : (u : ℕ) → u < g .places → g .signer u ≡ true → stay u ≡ true
 
 module _ {g h : Graph} {stay : ℕ → Bool} {new old : ℕ → ℕ} (m : Matched g h stay new old) where
-  -- of two places that stay each other one has another number
-  one-number : (u v : ℕ) → u < g .places → v < g .places → stay u ≡ true → stay v ≡ true → new u ≡ new v → u ≡ v
-  one-number u v l k a b e =
-      ⊎-elim (λ s. s)
-      (λ d. ⊎-elim (λ (w : u < v). absurd (omega (arith, e, m .order u v l a w)))
-      (λ (w : v ≤ u). let less : v < u = omega (arith, d) in absurd (omega (arith, e, m .order v u k b less)))
-      (less? u v))
-      (same? u v)
-
-  pub forth : (u : ℕ) → u < g .places → stay u ≡ true → old (new u) ≡ u
-  forth u l a =
-      let (below, stays, number) = m .back (new u) (m .inside u l a) in
-      one-number (old (new u)) u below l stays a number
-
-  -- and the places come in their order
-  old-order : (j k : ℕ) → j < h .places → k < h .places → j < k → old j < old k
-  old-order j k l i w =
-      let (below, stays, number) = m .back j l in
-      let (under, keeps, another) = m .back k i in
-      ⊎-elim (λ (x : old j < old k). x)
-      (λ (x : old k ≤ old j).
-      ⊎-elim (λ (s : old k ≡ old j). absurd (let z : k ≡ j = sym another ∙ ap new s ∙ number in omega (arith, z)))
-      (λ d. let over : old k < old j = omega (arith, d) in absurd (omega (arith, number, another, m .order (old k) (old j) under keeps over)))
-      (same? (old k) (old j)))
-      (less? (old j) (old k))
-
   -- all places of a chain of the first stay
   onward-stays : {t u : ℕ} {c : List ℕ} → Onward g t u c → (i : ℕ) → i < length c → (getD c i 0 < g .places) × (stay (getD c i 0) ≡ true)
   onward-stays {t} (ends k signer step) zero l = (k, m .signer-stays t k signer)
@@ -117,7 +92,7 @@ module _ {g h : Graph} {stay : ℕ → Bool} {new old : ℕ → ℕ} (m : Matche
 
   module _ {t : ℕ} (here : t < g .places) (stays : stay t ≡ true) where
     chain-back : {d : List ℕ} → Chain h (new t) d → Chain g t (map old d)
-    chain-back {d} x = rw (forth t here stays) at (chain-old x)
+    chain-back {d} x = rw (m .forth t here stays) at (chain-old x)
 
     pub from-first : {d : List ℕ} → Chain h (new t) d → (c : List ℕ) × (d ≡ map new c) × Chain g t c
     from-first {d} x = (map old d, numbers x, chain-back x)
@@ -152,24 +127,24 @@ module _ {g h : Graph} {stay : ℕ → Bool} {new old : ℕ → ℕ} (m : Matche
   -- and the other way round
   onward-order-back :
       {t u w : ℕ} {c d : List ℕ} → Onward h t u c → Onward h t w d → NotLater c d → NotLater (map old c) (map old d)
-  onward-order-back {t} (ends k signer step) (ends l signing stepping) (less e) = less (old-order t t k l e)
-  onward-order-back {t} (ends k signer step) (goes {v = v} l link stepping rest) (less e) = less (old-order t v k l e)
-  onward-order-back {t} (goes {v = v} k link step rest) (ends l signing stepping) (less e) = less (old-order v t k l e)
-  onward-order-back (goes {v = v} k link step rest) (goes {v = w} l linking stepping others) (less e) = less (old-order v w k l e)
+  onward-order-back {t} (ends k signer step) (ends l signing stepping) (less e) = less (m .old-order t t l e)
+  onward-order-back {t} (ends k signer step) (goes {v = v} l link stepping rest) (less e) = less (m .old-order t v l e)
+  onward-order-back {t} (goes {v = v} k link step rest) (ends l signing stepping) (less e) = less (m .old-order v t l e)
+  onward-order-back (goes {v = v} k link step rest) (goes {v = w} l linking stepping others) (less e) = less (m .old-order v w l e)
   onward-order-back (ends k signer step) y (same done) = same done
   onward-order-back (goes k link step rest) (ends l signing stepping) (same done) = same done
   onward-order-back (goes k link step rest) (goes l linking stepping others) (same e) = same (onward-order-back rest others e)
 
   chain-order-back : {t : ℕ} {c d : List ℕ} → Chain h t c → Chain h t d → NotLater c d → NotLater (map old c) (map old d)
-  chain-order-back (chain {u = u} l anchor rest) (chain {u = v} k other others) (less e) = less (old-order u v l k e)
+  chain-order-back (chain {u = u} l anchor rest) (chain {u = v} k other others) (less e) = less (m .old-order u v k e)
   chain-order-back (chain l anchor rest) (chain k other others) (same e) = same (onward-order-back rest others e)
 
   onward-olds : {t u : ℕ} {c : List ℕ} → Onward g t u c → map old (map new c) ≡ c
-  onward-olds {t} (ends k signer step) = ap (λ (x : ℕ). x ∷ []) (forth t k (m .signer-stays t k signer))
-  onward-olds (goes {v = v} k link step rest) = ap₂ _∷_ (forth v k (m .link-stays v k link)) (onward-olds rest)
+  onward-olds {t} (ends k signer step) = ap (λ (x : ℕ). x ∷ []) (m .forth t k (m .signer-stays t k signer))
+  onward-olds (goes {v = v} k link step rest) = ap₂ _∷_ (m .forth v k (m .link-stays v k link)) (onward-olds rest)
 
   olds : {t : ℕ} {c : List ℕ} → Chain g t c → map old (map new c) ≡ c
-  olds (chain {u = u} l anchor rest) = ap₂ _∷_ (forth u l (m .anchor-stays u l anchor)) (onward-olds rest)
+  olds (chain {u = u} l anchor rest) = ap₂ _∷_ (m .forth u l (m .anchor-stays u l anchor)) (onward-olds rest)
 
   pub best-from-first :
       {t : ℕ} {d : List ℕ} → t < g .places → stay t ≡ true → Best h (new t) d → (c : List ℕ) × (d ≡ map new c) × Best g t c

@@ -4,9 +4,10 @@ use mathlib.Core.Path.{_≡_, refl, sym, ap, ap₂, _∙_}
 use mathlib.Core.Bool.{Bool, true, false, _||_}
 use mathlib.Core.List.{List, []}
 use mathlib.Core.Logic.{⊎-elim}
+use native.Mathlib.Nat.{eq-or-lt-of-le}
 use native.Mathlib.Omega.{arith}
 use lib.ListN.{length, getD}
-use Rattle.graph.proofs.Cases.{either, clash}
+use Rattle.graph.proofs.Cases.{either, less?, clash}
 use Rattle.image.specs.Items.{Item}
 use Rattle.usable.specs.Items.{itemAt, someBelow}
 use Rattle.usable.specs.Table.{verdictIn}
@@ -59,6 +60,18 @@ module _ (moment : ℕ) (items : List Item) where
       let w = chosen.stood (stays moment) none items 0 k h in
       let is : oldPlace k ≡ w .place = omega (arith, w .from) in
       rw is (record { inside = w .inside; kept = w .passes }, w .number)
+
+  -- the places come in their order
+  pub place-order : (j k : ℕ) → k < length (kept moment items) → j < k → oldPlace j < oldPlace k
+  place-order j k l w =
+      let (s, number) = new-of-old k l in
+      let (t, before) = new-of-old j (omega arith) in
+      ⊎-elim (λ (less : oldPlace j < oldPlace k). less)
+      (λ (over : oldPlace k ≤ oldPlace j).
+      ⊎-elim (λ (same : oldPlace k ≡ oldPlace j). absurd (omega (arith, number, before, ap (newPlace moment items) same)))
+      (λ (less : oldPlace k < oldPlace j). absurd (omega (arith, number, before, number-order _ _ s less)))
+      (eq-or-lt-of-le over))
+      (less? (oldPlace j) (oldPlace k))
 
   -- what is told of two places that stay
   pub same-verdict :

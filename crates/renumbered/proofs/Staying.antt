@@ -17,7 +17,7 @@ use Rattle.chain.specs.Good.{chains}
 use Rattle.room.specs.Kept.{stays, kept, newPlace}
 use Rattle.renumbered.specs.Answers.{Stays}
 use Rattle.renumbered.proofs.Going.{went-anchor, went-role, went-counts}
-use Rattle.renumbered.proofs.Numbers.{oldPlace, number-inside, same-item, number-order, new-of-old, some-kept}
+use Rattle.renumbered.proofs.Numbers.{oldPlace, number-inside, same-item, old-of-new, number-order, new-of-old, place-order, some-kept}
 use Rattle.renumbered.proofs.Carried.{Matched}
 
 -- one item at two places
@@ -113,7 +113,9 @@ module _ (moment later : ℕ) (since : moment ≤ later) (items : List Item) (ve
       record {
         inside = λ u l k. number-inside moment items u (record { inside = l; kept = k });
         back = λ k l. let (s, number) = new-of-old moment items k l in (s .inside, s .kept, number);
+        forth = λ u l k. old-of-new moment items u (record { inside = l; kept = k });
         order = λ u v l k. number-order moment items u v (record { inside = l; kept = k });
+        old-order = place-order moment items;
         anchor = λ u l k. anchor-same later (one {p = u} (record { inside = l; kept = k }));
         link = λ u l k. role 2 u (record { inside = l; kept = k });
         signer = λ u l k. role 3 u (record { inside = l; kept = k });

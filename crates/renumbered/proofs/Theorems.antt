@@ -51,14 +51,19 @@ went moment later since items p goes =
     (went-anchor moment later since items p goes, went-usable moment later since items p goes, went-counts moment later since items p goes)
 
 module _ (moment : ℕ) (items : List Item) where
-  -- The places that stay are told in their order, each once: the k-th of them is a place of the list that stays, and has the new number k.
+  -- There are as many places that stay as items, and they are told in their order:
+  pub places-many : length (keptPlaces moment items) ≡ length (kept moment items)
+  places-many = chosen.places-many (stays moment) items 0
+
+  pub places-ascend :
+      (j k : ℕ) → k < length (kept moment items) → j < k → getD (keptPlaces moment items) j 0 < getD (keptPlaces moment items) k 0
+  places-ascend = numbers.place-order moment items
+
+  -- the k-th of them is a place of the list that stays, and has the new number k.
   pub kept-places :
       (k : ℕ) → k < length (kept moment items)
       → Stays moment items (getD (keptPlaces moment items) k 0) × (newPlace moment items (getD (keptPlaces moment items) k 0) ≡ k)
   kept-places = numbers.new-of-old moment items
-
-  pub places-many : length (keptPlaces moment items) ≡ length (kept moment items)
-  places-many = chosen.places-many (stays moment) items 0
 
   -- Of each place that stays: its new number is one of the new list, which has the same item there; and the number tells the place.
   pub new-number :
@@ -68,7 +73,7 @@ module _ (moment : ℕ) (items : List Item) where
       × (getD (keptPlaces moment items) (newPlace moment items p) 0 ≡ p)
   new-number p s = (numbers.number-inside moment items p s, numbers.same-item moment items p s, numbers.old-of-new moment items p s)
 
-  -- The new numbers keep the order.
+  -- New numbers keep the order.
   pub order-kept : (p q : ℕ) → Stays moment items p → p < q → newPlace moment items p < newPlace moment items q
   order-kept = numbers.number-order moment items
 
