@@ -4,7 +4,6 @@ use mathlib.Core.Path.{_≡_, subst}
 use mathlib.Core.Bool.{Bool, true}
 use mathlib.Core.List.{List, map}
 use native.Mathlib.Omega.{arith}
-use Rattle.graph.specs.Chains.{Graph}
 use Rattle.graph.proofs.Theorems.{one-best}
 use Rattle.image.specs.Items.{Item}
 use Rattle.chain.specs.declared.asking.Asked.the-variants as asked

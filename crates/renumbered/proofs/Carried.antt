@@ -1,7 +1,7 @@
 -- Two graphs, of which the second has those places of the first that stay, renumbered in their order; what stands in a chain stays. Their
 -- chains are the same under the new numbers, and so is the best of them.
-use Prim.Native.Nat.{ℕ, zero, suc, _<_, _≤_}
-use mathlib.Core.Path.{_≡_, refl, sym, ap, ap₂, _∙_}
+use Prim.Native.Nat.{ℕ, zero, suc, _<_}
+use mathlib.Core.Path.{_≡_, sym, ap, ap₂, _∙_}
 use mathlib.Core.Bool.{Bool, true}
 use mathlib.Core.List.{List, [], _∷_, map}
 use mathlib.Core.Logic.{_⊎_, inl, inr}
@@ -148,9 +148,11 @@ module _ {g h : Graph} {stay : ℕ → Bool} {new old : ℕ → ℕ} (m : Matche
 
   pub best-from-first :
       {t : ℕ} {d : List ℕ} → t < g .places → stay t ≡ true → Best h (new t) d → (c : List ℕ) × (d ≡ map new c) × Best g t c
-  best-from-first {t} {d} here stays b =
-      (map old d, numbers (b .good),
-      record { good = chain-back here stays (b .good); least = λ e x. go e x (b .least (map new e) (renumbered x)) })
+  best-from-first {t} {d} here stays b = (
+    map old d,
+    numbers (b .good),
+    record { good = chain-back here stays (b .good); least = λ e x. go e x (b .least (map new e) (renumbered x)) },
+  )
     where
       go :
           (e : List ℕ) → Chain g t e → (length d < length (map new e)) ⊎ ((length d ≡ length (map new e)) × NotLater d (map new e))

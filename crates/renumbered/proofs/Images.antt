@@ -1,8 +1,8 @@
 -- The items of an image that stay fit into one, so what is written of them is read again; and a question that was good for a signer that
 -- stays is good for it under its new number.
 use Prim.Native.Nat.{ℕ, _+_, _*_, _<_, _≤_}
-use mathlib.Core.Path.{_≡_, refl, sym, ap, ap₂, _∙_}
-use mathlib.Core.Bool.{Bool, true, cond}
+use mathlib.Core.Path.{_≡_, sym, ap₂, _∙_}
+use mathlib.Core.Bool.{Bool, true}
 use mathlib.Core.List.{List, [], _∷_}
 use native.Mathlib.Omega.{arith}
 use native.Mathlib.Nat.{mul-le-mul-left}
@@ -16,7 +16,6 @@ use Rattle.image.specs.Items.{Item, packed, imageBytes}
 use Rattle.image.specs.Index.{entryCount, versionIn, dayIn, entryIn, itemsIn, width}
 use Rattle.image.specs.Answer.{openedOf}
 use Rattle.image.specs.Chosen.{chosen}
-use Rattle.image.proofs.Places.{length-items}
 use Rattle.roundtrip.specs.Good.{GoodItems, no-item, good-item, Fits}
 use Rattle.roundtrip.proofs.Sizes.{length-image}
 use Rattle.roundtrip.proofs.Opening.{opened-holds}

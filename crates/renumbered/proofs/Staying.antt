@@ -1,13 +1,11 @@
 -- What is asked of places that stay is asked of the same items, with the same verdicts, and of those that went nothing is so: the good
 -- chains before and after stand on the same places under new numbers.
-use Prim.Native.Nat.{ℕ, _<_, _≤_}
-use mathlib.Core.Path.{_≡_, refl, sym, ap, ap₂, _∙_}
-use mathlib.Core.Bool.{Bool, true, false, _&&_, _||_, not}
+use Prim.Native.Nat.{ℕ, _≤_}
+use mathlib.Core.Path.{_≡_, ap, ap₂}
+use mathlib.Core.Bool.{Bool, true, false, _&&_, not}
 use mathlib.Core.List.{List}
 use native.Mathlib.Omega.{arith}
 use lib.Dec.{eqb}
-use lib.ListN.{length}
-use Rattle.graph.specs.Chains.{Graph}
 use Rattle.graph.proofs.Cases.{either, clash}
 use Rattle.image.specs.Items.{Item}
 use Rattle.usable.specs.Items.{itemAt, certificateAt, listAt, somePlace, within, partOf}
@@ -51,8 +49,8 @@ module _ {items others : List Item} where
 
 module _ (moment later : ℕ) (since : moment ≤ later) (items : List Item) (verdict ruling : ℕ → ℕ → Bool)
     (same :
-        (u v : ℕ) → Stays moment items u → Stays moment items v
-        → ruling (newPlace moment items u) (newPlace moment items v) ≡ verdict u v) where
+    (u v : ℕ) → Stays moment items u → Stays moment items v
+    → ruling (newPlace moment items u) (newPlace moment items v) ≡ verdict u v) where
   abbrev others : List Item
   others = kept moment items
 

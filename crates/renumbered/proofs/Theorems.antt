@@ -1,29 +1,25 @@
 -- An image in which room was made for a moment has, at that moment and at every later one, the same good chains under new numbers.
-use Prim.Native.Nat.{ℕ, _+_, _*_, _<_, _≤_}
-use mathlib.Core.Path.{_≡_, refl, sym, ap, ap₂, subst, _∙_}
+use Prim.Native.Nat.{ℕ, _<_, _≤_}
+use mathlib.Core.Path.{_≡_}
 use mathlib.Core.Bool.{Bool, true, false}
 use mathlib.Core.List.{List, map}
 use native.Mathlib.Omega.{arith}
-use borrow.Author.Tests.{eqb-true}
-use lib.Dec.{eqb}
 use lib.ListN.{length, getD}
 use Rattle.refusal.specs.declared.Refusal.the-variants as refusal
 use Rattle.octets.specs.Octets.{Octets}
 use Rattle.calendar.specs.Days.{realMoment}
-use Rattle.graph.specs.Chains.{Graph, Chain, Best}
-use Rattle.graph.proofs.Cases.{same?, less?, clash}
+use Rattle.graph.specs.Chains.{Chain, Best}
+use Rattle.graph.proofs.Cases.{clash}
 use Rattle.graph.proofs.Targets.{chain-target}
 use Rattle.image.specs.declared.Opened.the-variants.{Image}
-use Rattle.image.specs.Items.{Item, imageBytes}
-use Rattle.image.specs.Index.{entryCount, versionIn, dayIn, itemsIn}
+use Rattle.image.specs.Items.{Item}
+use Rattle.image.specs.Index.{entryCount, itemsIn}
 use Rattle.image.specs.Answer.{openedOf}
 use Rattle.image.proofs.Places.{length-items}
 use Rattle.image.proofs.Few.{opened-image}
 use Rattle.usable.specs.Items.{itemAt}
 use Rattle.usable.specs.Usable.{usableAnchor, counts, usable}
-use Rattle.usable.specs.Steps.{goodStep}
-use Rattle.usable.specs.Table.{verdictIn, bits, tableGood}
-use Rattle.usable.proofs.Booleans.{first}
+use Rattle.usable.specs.Table.{verdictIn, tableGood}
 use Rattle.chain.specs.Good.{chains}
 use Rattle.chain.specs.declared.Answer.{Answer}
 use Rattle.chain.specs.Answer.{goodChains, Without, Answered, refused, none, found}
@@ -32,10 +28,9 @@ use Rattle.room.specs.Making.{roomBytes, roomTable}
 use Rattle.renumbered.specs.Answers.{Stays, Renumbered}
 use Rattle.renumbered.specs.Graphs.{chainsOf, chainsKept}
 use Rattle.renumbered.proofs.Choosing as chosen
-use Rattle.renumbered.proofs.Cutting.{cut-good, cut-all}
+use Rattle.renumbered.proofs.Cutting.{cut-good}
 use Rattle.renumbered.proofs.Going.{went-anchor, went-usable, went-counts, went-role}
 use Rattle.renumbered.proofs.Numbers as numbers
-use Rattle.renumbered.proofs.Staying.{matched}
 use Rattle.renumbered.proofs.Carried as carried
 use Rattle.renumbered.proofs.Images.{room-reads, good-question}
 use Rattle.renumbered.proofs.Rooms.{kept-matched, bytes-again, table-again, room-matched}
