@@ -3,6 +3,7 @@ pub mod Cutting
 pub mod Going
 pub mod Carried
 pub mod Numbers
+pub mod SomePlace
 pub mod Staying
 pub mod Images
 pub mod Answers

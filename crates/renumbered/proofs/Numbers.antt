@@ -1,18 +1,15 @@
--- The new number of a place that stays: its item, its place, its verdicts; and a test of some place, asked of those that stay alone.
-use Prim.Native.Nat.{ℕ, zero, suc, _+_, _<_, _≤_}
-use mathlib.Core.Path.{_≡_, refl, sym, ap, ap₂, _∙_}
-use mathlib.Core.Bool.{Bool, true, false}
+-- The new number of a place that stays: its item, its place, its order and its verdicts.
+use Prim.Native.Nat.{ℕ, _+_, _<_, _≤_}
+use mathlib.Core.Path.{_≡_, ap, ap₂, _∙_}
 use mathlib.Core.List.{List, []}
 use mathlib.Core.Logic.{⊎-elim}
 use native.Mathlib.Nat.{eq-or-lt-of-le}
 use native.Mathlib.Omega.{arith}
 use lib.ListN.{length, getD}
-use Rattle.graph.proofs.Cases.{either, less?, clash}
+use Rattle.graph.proofs.Cases.{less?}
 use Rattle.image.specs.Items.{Item}
-use Rattle.usable.specs.Items.{itemAt, someBelow}
+use Rattle.usable.specs.Items.{itemAt}
 use Rattle.usable.specs.Table.{verdictIn}
-use Rattle.usable.proofs.Booleans.{false-true}
-use Rattle.usable.proofs.RowLaws.{some-there}
 use Rattle.room.specs.Kept.{stays, kept, keptPlaces, newPlace, cut}
 use Rattle.renumbered.specs.Answers.{Stays}
 use Rattle.renumbered.proofs.Choosing as chosen
@@ -21,13 +18,6 @@ use Rattle.renumbered.proofs.Cutting.{cut-verdict}
 -- no item
 abbrev none : Item
 none = record { kind = 0; flags = 0; bytes = []; first = 0; second = 0 }
-
--- where a test of some place holds
-some-where : (n : ℕ) (test : ℕ → Bool) → someBelow n test ≡ true → (p : ℕ) × (p < n) × (test p ≡ true)
-unfolding someBelow
-some-where zero test e = false-true e
-some-where (suc n) test e =
-    either (test n) (λ t. (n, omega arith, t)) (λ t. let (p, l, u) = some-where n test (rw t at e) in (p, omega (arith, l), u))
 
 module _ (moment : ℕ) (items : List Item) where
   -- the place that a new number stands for
@@ -82,26 +72,3 @@ module _ (moment : ℕ) (items : List Item) where
       cut-verdict n (length (kept moment items)) table (keptPlaces moment items) _ _ (chosen.places-many (stays moment) items 0)
       (number-inside u s) (number-inside v t)
       ∙ ap₂ (verdictIn n table) (old-of-new u s) (old-of-new v t)
-
-  -- a test that holds of no place that goes
-  pub some-kept :
-      (old new : ℕ → Bool) → ((p : ℕ) → Stays moment items p → new (newPlace moment items p) ≡ old p)
-      → ((p : ℕ) → stays moment (itemAt items p) ≡ false → old p ≡ false)
-      → someBelow (length (kept moment items)) new ≡ someBelow (length items) old
-  some-kept old new same gone =
-      one-truth (someBelow (length (kept moment items)) new) (someBelow (length items) old)
-      (λ e.
-      let (k, l, t) = some-where (length (kept moment items)) new e in
-      let (s, number) = new-of-old k l in
-      some-there (length items) old (oldPlace k) (s .inside) (sym (same (oldPlace k) s) ∙ ap new number ∙ t))
-      (λ e.
-      let (p, l, t) = some-where (length items) old e in
-      either (stays moment (itemAt items p))
-      (λ k. let s : Stays moment items p = record { inside = l; kept = k } in
-      some-there (length (kept moment items)) new (newPlace moment items p) (number-inside p s) (same p s ∙ t))
-      (λ k. absurd (clash t (gone p k))))
-    where
-      one-truth : (a b : Bool) → (a ≡ true → b ≡ true) → (b ≡ true → a ≡ true) → a ≡ b
-      one-truth true b f g = sym (f refl)
-      one-truth false true f g = g refl
-      one-truth false false f g = refl

@@ -33,7 +33,7 @@ module _ {moment : ℕ} {s : List ℕ} {day version : ℕ} (r : Reads moment s d
   abbrev room : List ℕ
   room = roomBytes moment s
 
-  room-graph :
+  pub room-graph :
       (table : List ℕ) (later : ℕ)
       → chainsKept moment (itemsIn s) (entryCount s) table later ≡ goodChains room (roomTable moment s table) later
   unfolding roomTable

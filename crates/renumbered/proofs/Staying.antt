@@ -15,7 +15,8 @@ use Rattle.chain.specs.Good.{chains}
 use Rattle.room.specs.Kept.{stays, kept, newPlace}
 use Rattle.renumbered.specs.Answers.{Stays}
 use Rattle.renumbered.proofs.Going.{went-anchor, went-role, went-counts}
-use Rattle.renumbered.proofs.Numbers.{oldPlace, number-inside, same-item, old-of-new, number-order, new-of-old, place-order, some-kept}
+use Rattle.renumbered.proofs.Numbers.{oldPlace, number-inside, same-item, old-of-new, number-order, new-of-old, place-order}
+use Rattle.renumbered.proofs.SomePlace.{some-kept}
 use Rattle.renumbered.proofs.Carried.{Matched}
 
 -- one item at two places

@@ -1,6 +1,6 @@
 -- An image in which room was made for a moment has, at that moment and at every later one, the same good chains under new numbers.
 use Prim.Native.Nat.{ℕ, _<_, _≤_}
-use mathlib.Core.Path.{_≡_}
+use mathlib.Core.Path.{_≡_, sym}
 use mathlib.Core.Bool.{Bool, true, false}
 use mathlib.Core.List.{List, map}
 use native.Mathlib.Omega.{arith}
@@ -33,7 +33,7 @@ use Rattle.renumbered.proofs.Going.{went-anchor, went-usable, went-coun
 use Rattle.renumbered.proofs.Numbers as numbers
 use Rattle.renumbered.proofs.Carried as carried
 use Rattle.renumbered.proofs.Images.{room-reads, good-question}
-use Rattle.renumbered.proofs.Rooms.{kept-matched, bytes-again, table-again, room-matched}
+use Rattle.renumbered.proofs.Rooms.{kept-matched, room-graph, room-matched, bytes-again, table-again}
 use Rattle.renumbered.proofs.Answers.{answers-match}
 
 -- An item that goes is, from that moment on, no usable anchor, no usable link or signer, and no CRL that counts.
@@ -44,6 +44,14 @@ pub went :
     × ((verdict : ℕ → ℕ → Bool) → counts items verdict later p ≡ false)
 went moment later since items p goes =
     (went-anchor moment later since items p goes, went-usable moment later since items p goes, went-counts moment later since items p goes)
+
+-- A signer that went had no chain at that moment, and has none at a later one.
+pub signer-went :
+    (moment later : ℕ) → moment ≤ later → (s table : List ℕ) (p : ℕ) → stays moment (itemAt (itemsIn s) p) ≡ false
+    → (c : List ℕ) → Chain (goodChains s table later) p c → ⊥
+unfolding chains
+signer-went moment later since s table p goes c good =
+    clash (chain-target good .1) (went-role moment later since (itemsIn s) p goes (verdictIn (entryCount s) table) 3 (omega arith))
 
 module _ (moment : ℕ) (items : List Item) where
   -- There are as many places that stay as items, and they are told in their order:
@@ -84,14 +92,6 @@ module _ (moment : ℕ) (items : List Item) where
       (n : ℕ) (table : List ℕ) → tableGood n table ≡ true
       → tableGood (length (kept moment items)) (cut n table (keptPlaces moment items)) ≡ true
   table-kept n table good = cut-good n (length (kept moment items)) table (keptPlaces moment items) good places-many
-
--- A signer that went had no chain at that moment, and has none at a later one.
-pub signer-went :
-    (moment later : ℕ) → moment ≤ later → (s table : List ℕ) (p : ℕ) → stays moment (itemAt (itemsIn s) p) ≡ false
-    → (c : List ℕ) → Chain (goodChains s table later) p c → ⊥
-unfolding chains
-signer-went moment later since s table p goes c good =
-    clash (chain-target good .1) (went-role moment later since (itemsIn s) p goes (verdictIn (entryCount s) table) 3 (omega arith))
 
 module _ (moment later : ℕ) (since : moment ≤ later) (items : List Item) (n : ℕ) (table : List ℕ) where
   abbrev match : carried.Matched (chainsOf items n table later) (chainsKept moment items n table later) (λ p. stays moment (itemAt items p))
@@ -161,6 +161,19 @@ module _ (moment : ℕ) (s : List ℕ) (n day version : ℕ) (o : Octets s) (e :
   table-twice = table-again (room-reads moment o e)
 
   module _ (table : List ℕ) (good : tableGood n table ≡ true) where
+    -- The table that is written is a good one for it,
+    pub room-table : tableGood (length (kept moment (itemsIn s))) (roomTable moment s table) ≡ true
+    unfolding roomTable
+    room-table =
+        let is : n ≡ entryCount s = opened-image 1 2 s n day version e .0 in
+        table-kept moment (itemsIn s) (entryCount s) table (rw is at good)
+
+    -- and its good chains are those of the items that stay.
+    pub room-chains :
+        (later : ℕ)
+        → goodChains (roomBytes moment s) (roomTable moment s table) later ≡ chainsKept moment (itemsIn s) (entryCount s) table later
+    room-chains later = sym (room-graph (room-reads moment o e) table later)
+
     module _ (later : ℕ) (since : moment ≤ later) (real : realMoment 1950 2099 later ≡ true) (p : ℕ) (below : p < n)
         (three : itemAt (itemsIn s) p .kind ≡ 3) where
       -- At that moment and every later one, a signer that stays gets the same chain under new numbers, or 7 in both.
@@ -168,7 +181,7 @@ module _ (moment : ℕ) (s : List ℕ) (n day version : ℕ) (o : Octets s) (e :
           stays moment (itemAt (itemsIn s) p) ≡ true → (r q : Answer) → Answered s table later p r
           → Answered (roomBytes moment s) (roomTable moment s table) later (newPlace moment (itemsIn s) p) q
           → Renumbered moment (itemsIn s) r q
-      unfolding chains roomTable
+      unfolding chains
       same-answer keeps r q =
           let items : List Item = itemsIn s in
           let reads = room-reads moment o e in
@@ -176,13 +189,12 @@ module _ (moment : ℕ) (s : List ℕ) (n day version : ℕ) (o : Octets s) (e :
           let inside : p < length items = omega (arith, length-items s) in
           let stay : Stays moment items p = record { inside = inside; kept = keeps } in
           let (new-inside, same, old) = new-number moment items p stay in
-          let fine : tableGood (length (kept moment items)) (roomTable moment s table) ≡ true =
-          table-kept moment items (entryCount s) table (rw is at good) in
           let kind : itemAt (itemsIn (roomBytes moment s)) (newPlace moment items p) .kind ≡ 3 = rw (reads .items, same) three in
           answers-match (room-matched reads later since table) inside keeps (good-question s e table good later real p below three)
-          (good-question (roomBytes moment s) (reads .opened) (roomTable moment s table) fine later real (newPlace moment items p) new-inside kind)
+          (good-question (roomBytes moment s) (reads .opened) (roomTable moment s table) room-table later real (newPlace moment items p)
+          new-inside kind)
 
-      -- A signer that went has 7,
+      -- A signer that went gets 7.
       pub went-seven : stays moment (itemAt (itemsIn s) p) ≡ false → (r : Answer) → Answered s table later p r → Without refusal.Chain r
       went-seven goes r (refused why f w) =
           absurd (let asks = good-question s e table good later real p below three in let z : _≡_ {A = ℕ} 0 1 = cc in omega arith)
