@@ -14,6 +14,7 @@ pub enum Answer {
     Entry(plain::Entry),
     Write(plain::Written),
     Letters(plain::Letters),
+    Room(plain::Made),
     Chain(plain::Chain),
     Signers(plain::Signers),
     Replay(plain::Replayed),
@@ -33,6 +34,7 @@ impl Answer {
             Answer::Entry(told) => (told.number, told.detail),
             Answer::Write(told) => (told.number, told.detail),
             Answer::Letters(told) => (told.number, told.detail),
+            Answer::Room(told) => (told.number, told.detail),
             Answer::Chain(told) => (told.number, told.detail),
             Answer::Signers(told) => (told.number, told.detail),
             Answer::Replay(told) => (told.number, told.detail),
@@ -88,6 +90,7 @@ same_fields!(Image, Image, Image { entries, day, version });
 same_fields!(Entry, Entry, Entry { kind, flags, length, offset, country });
 same_fields!(Write, Write, Written { length });
 same_fields!(Letters, Letters, Letters { letters_true });
+same_fields!(Room, Room, Made { length, table_length, entries });
 same_fields!(Chain, Chain, Chain { length, places });
 same_fields!(Signers, Signers, Signers { length });
 same_fields!(Replay, Replay, Replayed { faulty });
