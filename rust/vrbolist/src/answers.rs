@@ -4,7 +4,9 @@
 #![allow(unsafe_code)]
 
 use crate::raw;
-pub use crate::raw::{Certificate, Chain, Crl, Days, Entry, Image, Integer, Letters, Replay, Room, Signers, Told, Walk, Write};
+pub use crate::raw::{
+    Certificate, Chain, Crl, Days, Entry, Image, Integer, Letters, Replay, Room, Signers, Told, Walk, Write,
+};
 
 // Each call lends slices for its own time only, and a slice's pointer and length are what the archive asks for: not null,
 // and none of them overlaps the one that is written, which Rust's borrows see to.
