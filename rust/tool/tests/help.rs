@@ -32,9 +32,10 @@ fn examples(help: &str) -> Vec<String> {
 fn examples_work() {
     let bench = bench("help");
     let mut tried = 0;
-    for command in
-        ["", "item", "walk", "image", "pack", "unpack", "convert", "chain", "propose", "days", "age", "tray", "demo"]
-    {
+    for command in [
+        "", "item", "walk", "image", "pack", "unpack", "convert", "trim", "chain", "propose", "days", "age", "tray",
+        "demo",
+    ] {
         let run = bench.status(&format!("{command} --help"), 0);
         assert!(run.out.lines().all(|line| line.chars().count() <= 100), "{}", run.out);
         for line in examples(&run.out) {

@@ -3,6 +3,7 @@
 
 #![forbid(unsafe_code)]
 
+mod room;
 mod versions;
 
 use differ::{compare, run, Answer, Lent, Library, Limits, Plain, Reader};
