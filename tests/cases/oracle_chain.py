@@ -118,14 +118,19 @@ def rank(places):
     return len(places), places
 
 
-def check(items, table, moment, target):
-    """Refuses what is no question."""
+def check_table(items, table, moment):
+    """Refuses a table or a moment that is none."""
     number = len(items)
     if len(table) != number * number or any(octet > 1 for octet in table):
         raise Refused(1)
     if not oracle_days.real_moment(moment):
         raise Refused(1)
-    if target not in range(number) or items[target][0] != SIGNER:
+
+
+def check(items, table, moment, target):
+    """Refuses what is no question."""
+    check_table(items, table, moment)
+    if target not in range(len(items)) or items[target][0] != SIGNER:
         raise Refused(1)
 
 

@@ -9,6 +9,7 @@ WALK, INTEGER, REAL_DAY, REAL_MOMENT, DIFFERENCE, MEMBER = range(1, 7)
 CERTIFICATE, CRL, LISTED, AGE = range(7, 11)
 IMAGE, IMAGE_FOR, ENTRY, ITEM, WRITE, WRITE_FILLED, CHAIN, REPLAY, PROPOSAL = range(11, 20)
 MOVE_TO_2, MOVE_TO_1, LETTERS = range(21, 24)
+MAKE_ROOM = 25
 NO_KIND = 255
 
 # the octets that the program has room for, label and bytes together

@@ -7,6 +7,7 @@ use crate::items;
 use crate::lists;
 use crate::proposals;
 use crate::record::Question;
+use crate::rooms;
 use crate::say;
 use crate::trays;
 use crate::versions;
@@ -40,6 +41,7 @@ pub(crate) fn answer(question: Question, bytes: &[u8]) {
         21 => versions::to_2(bytes, first),
         22 => versions::to_1(bytes, first),
         23 => versions::check(bytes),
+        25 => rooms::make(bytes, first, second, third),
         _ => say::text(b"no such question"),
     }
 }

@@ -8,6 +8,7 @@ mod items;
 mod lists;
 mod proposals;
 mod record;
+mod rooms;
 mod say;
 mod sums;
 mod trays;
