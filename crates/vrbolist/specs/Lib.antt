@@ -1,4 +1,5 @@
 pub mod Told
 pub mod Chains
 pub mod Proposals
+pub mod Rooms
 pub mod Signers

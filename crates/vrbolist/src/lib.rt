@@ -5,6 +5,7 @@ mod images;
 mod items;
 mod lists;
 mod proposals;
+mod rooms;
 mod signers;
 mod told;
 mod trays;
