@@ -738,7 +738,7 @@ static void room_left(int line, struct item image, const uint8_t *table, uint64_
 
 /* The anchor ends at the end of November 2026, the CRL's next update is 06:00 of the day after, the signer goes on to 2031. */
 static void rooms(struct item image, struct item anchor, struct item signer, struct item crl, uint64_t version) {
-    static const uint8_t verdicts[] = {1, 0, 1, 0, 0, 1, 0, 1, 1}, last[] = {0, 1, 1, 1}, wrong[] = {0, 0, 0, 0, 0, 0, 0, 0, 2},
+    static const uint8_t verdicts[] = {1, 0, 1, 0, 0, 1, 0, 0, 1}, last[] = {0, 1, 0, 1}, wrong[] = {0, 0, 0, 0, 0, 0, 0, 0, 2},
                          kinds[] = {3, 4};
     const uint8_t *table = lend(verdicts, 9);
     uint8_t *out = output(image.len), *table_out = output(9);
