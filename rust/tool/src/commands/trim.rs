@@ -34,7 +34,8 @@ Example:
   vrbolist pack xo.image --day 20261115 --anchor tests/data/made/xo-anchor-1.der \\
     --signer tests/data/made/ut-signer-5.der --crl tests/data/made/xo-crl.der --force
   printf '101\\n000\\n000\\n' > xo.table
-  vrbolist trim xo.image new.image --at 20261115120000 --table xo.table --table-out new.table --force
+  vrbolist trim xo.image new.image --at 20261115120000 \\
+    --table xo.table --table-out new.table --force
 ",
     takes: Takes {
         alone: &["IMAGE", "OUT"],
