@@ -1,6 +1,6 @@
 -- The tests come in the order of the refusals; then the items, the index and the trailer follow one another.
 use Prim.Native.Nat.{ℕ, _+_, _*_, _≤_}
-use mathlib.Core.Path.{_≡_, refl, ap, sym, _∙_}
+use mathlib.Core.Path.{_≡_, refl, ap, ap₂, sym, _∙_}
 use mathlib.Core.Bool.{true}
 use mathlib.Core.List.{_++_}
 use native.Mathlib.Nat.{mul-le-mul}
@@ -36,6 +36,9 @@ measured c = c .before .before .before .before
 
 abbrev filled : tie.After-put-entries → tie.After-put-items
 filled c = c .before .before .before .before
+
+abbrev indexed : tie.After-put-trailer → tie.After-put-entries
+indexed c = c .before .before .before .before
 
 returns : tie.Need-returns
 returns c =
@@ -75,7 +78,9 @@ size : (c : tie.After-width) →
     c .before .packed-size .result + c .width .result * length (a .places .now) + 12 ≡ length (pickedBytes (a .image .now) (a .places .now))
 size c =
     let start = called (asked (tested c)) in
-    rw (c .before .packed-size .ensures, c .width .ensures) (sym (picked-size (start .args .image .now) (start .args .places .now) (start .pre) (start .args .out .now)))
+    let l = start .args .places .now in
+    ap₂ (λ (a b : ℕ). a + b * length l + 12) (c .before .packed-size .ensures) (c .width .ensures)
+    ∙ sym (picked-size (start .args .image .now) l (start .pre) (start .args .out .now))
 
 returns-3 : tie.Need-returns-3
 returns-3 c =
@@ -102,14 +107,17 @@ put-items-requires c κs =
 put-entries-requires : tie.Need-put-entries-requires
 put-entries-requires c κs =
     let items = c .before .before .before in
-    let sized = measured items in (
+    let sized = measured items in
+    let a = called (asked (tested sized)) .args in
+    let index : sized .width .result * length (a .places .now) ≡ width (a .version) * length (a .places .now) =
+    ap (λ (n : ℕ). n * length (a .places .now)) (sized .width .ensures) in (
       omega (arith, sized .before .packed-size .ensures, size sized, items .before .before .before .if3 .left),
-      simp (length-take, length-drop) (omega (arith, size sized, sized .width .ensures, items .before .before .if4 .left, c .before .before .out .given)),
+      simp (length-take, length-drop) (omega (arith, size sized, index, items .before .before .if4 .left, c .before .before .out .given)),
     )
 
 returns-5 : tie.Need-returns-5
 returns-5 c =
-    let entries = filled (c .before .before) in
+    let entries = indexed (c .before .before) in
     let items = filled entries in
     let sized = measured items in
     let test = tested sized in
@@ -121,8 +129,8 @@ returns-5 c =
     let version = a .version in
     let octets = packed (picked s l) in
     let index = indexBytes version 0 (picked s l) in
-    let trailer = trailerBytes version (length octets) (length l) (a .day) in
     let begin = sized .before .packed-size .result in
+    let trailer = trailerBytes version begin (length l) (a .day) in
     let wide = sized .width .result in
     let from : begin ≡ length octets = sized .before .packed-size .ensures in
     let same : wide ≡ width version = sized .width .ensures in
@@ -130,15 +138,17 @@ returns-5 c =
     let second = put-next old octets index _ _ begin (width version * length l) (sym from)
     (items .put-items .ensures ∙ ap (λ (n : ℕ). octets ++ drop n old) (sym from)) (entries .put-entries .ensures) in
     let sum : length (octets ++ index) ≡ begin + wide * length l =
-    length-append octets index ∙ rw (length-index version 0 (picked s l), picked-many s l, from, same) refl in
+    length-append octets index
+    ∙ ap₂ _+_ (sym from) (length-index version 0 (picked s l) ∙ ap₂ _*_ (sym same) (picked-many s l)) in
     let third = put-next old (octets ++ index) trailer _ _ (begin + wide * length l) 12 sum
     (second ∙ ap (λ (n : ℕ). (octets ++ index) ++ drop (begin + n * length l) old) (sym same))
-    (c .before .before .put-trailer .ensures ∙ ap (λ (n : ℕ). trailerBytes version n (length l) (a .day) ++ drop 12 _) from) in
-    let small = omega (arith, counted, items .before .before .before .if3 .left) in
-    let room = omega (arith, counted, items .before .before .if4 .left) in
+    (c .before .before .put-trailer .ensures) in
+    let small : length (pickedBytes s l) ≤ 262144 = omega (arith, counted, items .before .before .before .if3 .left) in
+    let room : length (pickedBytes s l) ≤ length old = omega (arith, counted, items .before .before .if4 .left) in
     let answer = all-written s l (start .pre) old (asked test .if1 .left) (there test) small room in
     let told = output-written s l (start .pre) old (asked test .if1 .left) (there test) small room in
-    (ap Length counted ∙ sym answer, third ∙ ap (λ (n : ℕ). ((octets ++ index) ++ trailer) ++ drop n old) counted ∙ sym told)
+    (ap Length counted ∙ sym answer, third
+    ∙ ap₂ (λ (m n : ℕ). ((octets ++ index) ++ trailerBytes version m (length l) (a .day)) ++ drop n old) from counted ∙ sym told)
 
 pub write-picked-spec : {M : Type 1} → statement M
 write-picked-spec =
