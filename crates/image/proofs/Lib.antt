@@ -4,3 +4,4 @@ pub mod Opening
 pub mod Few
 pub mod Places
 pub mod Sizes
+pub mod Choosing

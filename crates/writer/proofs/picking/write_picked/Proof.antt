@@ -146,9 +146,11 @@ returns-5 c =
     let small : length (pickedBytes s l) ≤ 262144 = omega (arith, counted, items .before .before .before .if3 .left) in
     let room : length (pickedBytes s l) ≤ length old = omega (arith, counted, items .before .before .if4 .left) in
     let answer = all-written s l (start .pre) old (asked test .if1 .left) (there test) small room in
-    let told = output-written s l (start .pre) old (asked test .if1 .left) (there test) small room in
-    (ap Length counted ∙ sym answer, third
-    ∙ ap₂ (λ (m n : ℕ). ((octets ++ index) ++ trailerBytes version m (length l) (a .day)) ++ drop n old) from counted ∙ sym told)
+    let told = output-written s l (start .pre) old (asked test .if1 .left) (there test) small room in (
+      ap Length counted ∙ sym answer,
+      third
+          ∙ ap₂ (λ (m n : ℕ). ((octets ++ index) ++ trailerBytes version m (length l) (a .day)) ++ drop n old) from counted ∙ sym told,
+    )
 
 pub write-picked-spec : {M : Type 1} → statement M
 write-picked-spec =
