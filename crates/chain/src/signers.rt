@@ -1,5 +1,4 @@
 // Every signer of an image in one call.
-use crate::asking::table_good;
 use crate::matching::matching_steps;
 use crate::whole::open_all;
 use calendar::real_moment;
@@ -9,6 +8,7 @@ use image::open;
 use refusal::Refusal;
 use usable::counting_lists;
 use usable::roles_of;
+use usable::table_good;
 ghost use mathlib.Core.Path.{_≡_};
 ghost use Prim.Native.Nat.{_*_, _≤_};
 ghost use lib.ListN.{length};

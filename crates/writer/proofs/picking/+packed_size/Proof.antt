@@ -60,8 +60,12 @@ returns-2 t c =
     let start = c .before .before .before .before .before .before .before .before in
     let l = start .args .places .now in
     let rest = rw (part-to-end l 1) at (c .packed-size .ensures) in
-    omega (arith, rest, packed-long (start .args .image .now) l (c .before .before .before .before .before .if1 .left)
-    (c .before .before .before .entry-in .ensures) (c .before .before .part .ensures))
+    omega (
+      arith,
+      rest,
+      packed-long (start .args .image .now) l (c .before .before .before .before .before .if1 .left)
+          (c .before .before .before .entry-in .ensures) (c .before .before .part .ensures),
+    )
 
 pub +packed-size-spec : {M : Type 1} → statement M
 +packed-size-spec =
