@@ -27,7 +27,7 @@ def ending(kind, end, serial=b'\1', **changed):
 
 
 def verdicts(number):
-    """A table in which no two rows are alike, nor two columns, up to 5 places; it is not symmetric."""
+    """A table that is not symmetric; up to 5 places no two rows are alike, nor two columns."""
     return bytes((row * 7 + column * 3 + row * column) % 5 < 2 for row in range(number) for column in range(number))
 
 
@@ -74,7 +74,7 @@ def lettered(listed):
     return [item._replace(letters=bytes([place + 1, 255 - place])) for place, item in enumerate(listed)]
 
 
-# one of each kind that goes on, in two versions of their ends
+# one of each kind that goes on, and one of each that is past
 STAYING = lettered([ending(kind, LATER) for kind in MAKERS])
 PAST = lettered([ending(kind, BEFORE) for kind in MAKERS])
 
