@@ -93,6 +93,11 @@ part-cut-line-end-2 t c =
     let start = test .before .before .before .before in
     simp length-set (omega (arith, test .if1 .left, start .pre .1 .1))
 
+same-length : (t : ℕ) → lts.Need-same-length (octet-reads.Asked, octet-reads.Learnt, below t, cut-line.Post) (at t) cut-line.Post
+same-length t c =
+    let read = c .before .before .before .before .before in
+    c .before .out .given .1 ∙ length-set (read .before .before .before .before .before .before .args .out .now) 0 (read .octet .result)
+
 pub +cut-line-spec : {M : Type 1} → statement M
 +cut-line-spec =
     close μ-cut-line
@@ -112,5 +117,5 @@ pub +cut-line-spec : {M : Type 1} → statement M
     (part-cut-line-start-2 t)
     (part-cut-line-end-2 t)
     (cut-line-requires t)
-    (λ c. c .before .out .given .1 ∙ length-set _ _ _)
+    (same-length t)
     (returns-2 t)
