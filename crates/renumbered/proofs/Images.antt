@@ -1,23 +1,17 @@
 -- The items of an image that stay fit into one, so what is written of them is read again; and a question that was good for a signer that
 -- stays is good for it under its new number.
-use Prim.Native.Nat.{ℕ, _+_, _*_, _<_, _≤_}
+use Prim.Native.Nat.{ℕ, _<_}
 use mathlib.Core.Path.{_≡_, sym, ap₂, _∙_}
-use mathlib.Core.Bool.{Bool, true}
-use mathlib.Core.List.{List, [], _∷_}
-use native.Mathlib.Omega.{arith}
-use native.Mathlib.Nat.{mul-le-mul-left}
+use mathlib.Core.Bool.{true}
+use mathlib.Core.List.{List}
 use borrow.Author.Tests.{lt-ltb, eq-eqb}
-use lib.ListN.{length, length-append}
+use lib.ListN.{length}
 use Rattle.octets.specs.Octets.{Octets}
 use Rattle.calendar.specs.Days.{realMoment}
-use Rattle.graph.proofs.Cases.{either}
 use Rattle.image.specs.declared.Opened.the-variants.{Image}
-use Rattle.image.specs.Items.{Item, packed, imageBytes}
-use Rattle.image.specs.Index.{entryCount, versionIn, dayIn, entryIn, itemsIn, width}
+use Rattle.image.specs.Items.{Item, imageBytes}
+use Rattle.image.specs.Index.{entryCount, versionIn, dayIn, entryIn, itemsIn}
 use Rattle.image.specs.Answer.{openedOf}
-use Rattle.image.specs.Chosen.{chosen}
-use Rattle.roundtrip.specs.Good.{GoodItems, no-item, good-item, Fits}
-use Rattle.roundtrip.proofs.Sizes.{length-image}
 use Rattle.roundtrip.proofs.Opening.{opened-holds}
 use Rattle.roundtrip.proofs.Theorems.{read-back, write-again, place-item}
 use Rattle.usable.specs.Items.{itemAt}
@@ -26,38 +20,7 @@ use Rattle.chain.specs.declared.asking.Asked.the-variants as asked
 use Rattle.chain.specs.Answer.{onImage, askedOf}
 use Rattle.room.specs.Kept.{stays, kept}
 use Rattle.room.specs.Making.{roomBytes}
-
-module _ (test : Item → Bool) where
-  chosen-good : {version : ℕ} {items : List Item} → GoodItems version items → GoodItems version (chosen test items)
-  unfolding chosen
-  chosen-good no-item = no-item
-  chosen-good (good-item {item} fields o pair letters good) =
-      let others = chosen-good good in
-      either (test item) (λ t. rw t (good-item fields o pair letters others)) (λ t. rw t others)
-
-  chosen-fewer :
-      (items : List Item)
-      → (length (chosen test items) ≤ length items) × (length (packed (chosen test items)) ≤ length (packed items))
-  unfolding chosen packed
-  chosen-fewer [] = (omega arith, omega arith)
-  chosen-fewer (item ∷ rest) =
-      let (few, short) = chosen-fewer rest in
-      let whole : length (packed (item ∷ rest)) ≡ length (item .bytes) + length (packed rest) = length-append (item .bytes) (packed rest) in
-      either (test item)
-      (λ t. rw t (omega (arith, few), omega (arith, short, whole, length-append (item .bytes) (packed (chosen test rest)))))
-      (λ t. rw t (omega (arith, few), omega (arith, short, whole)))
-
-  chosen-fits : {version day : ℕ} {items : List Item} → Fits version items day → Fits version (chosen test items) day
-  chosen-fits {version} {day} {items} f =
-      let (few, short) = chosen-fewer items in
-      let wide : width version * length (chosen test items) ≤ width version * length items = mul-le-mul-left (width version) few in
-      record {
-        known = f .known;
-        good = chosen-good (f .good);
-        few = omega (arith, few, f .few);
-        real = f .real;
-        small = omega (arith, short, wide, f .small, length-image version items day, length-image version (chosen test items) day);
-      }
+use Rattle.room.proofs.Fitting.{chosen-fits}
 
 -- what is read of an image in which room was made
 pub record Reads (moment : ℕ) (s : List ℕ) (day version : ℕ) : Type 0 where

@@ -1,13 +1,15 @@
 -- One law for each answer of the writer of some items, and what the output is then.
 use Prim.Native.Nat.{ℕ, _+_, _*_, _≤_, _<_}
 use mathlib.Core.Path.{_≡_, refl, sym, ap, _∙_}
-use mathlib.Core.Bool.{true, false}
+use mathlib.Core.Bool.{Bool, true, false, cond}
 use mathlib.Core.List.{List, [], _∷_, _++_, append-assoc}
 use native.Mathlib.Omega.{arith}
 use borrow.Author.Tests.{le-leb, lt-leb}
+use lib.Dec.{leb}
 use lib.ListN.{length, drop}
 use Rattle.refusal.specs.declared.Refusal.{Refusal}
 use Rattle.refusal.specs.declared.Refusal.the-variants.{Argument, Limit, Short}
+use Rattle.image.specs.declared.Opened.{Opened}
 use Rattle.image.specs.declared.Opened.the-variants as opened
 use Rattle.image.specs.Answer.{openedOf}
 use Rattle.image.specs.Items.{Item, packed, indexBytes, trailerBytes, imageBytes}
@@ -65,3 +67,29 @@ module _ (s places : List ℕ) {n day version : ℕ} (is : openedOf s ≡ opened
           output-written =
               let t = opened-told 1 2 s n day version is in
               rw (all-written, t .2, t .1, sym (picked-many s places)) (sym (rw (append-assoc (packed (picked s places)) (indexBytes (versionIn s) 0 (picked s places)) _) refl))
+
+sized : (size room told : ℕ) → sizeTold size room ≡ Length told → told ≡ size
+unfolding sizeTold
+sized size room told e = go (leb size 262144) (leb size room) e
+  where
+    go : (a b : Bool) → cond a (cond b (Length size) (Refused Short)) (Refused (Limit 0)) ≡ Length told → told ≡ size
+    go true true e = cc
+    go true false e = absurd (let z : _≡_ {A = ℕ} 0 1 = cc in omega arith)
+    go false b e = absurd (let z : _≡_ {A = ℕ} 0 1 = cc in omega arith)
+
+-- a length that is told is that of the image
+pub told-length : (s places : List ℕ) (room size : ℕ) → pickedOf s places room ≡ Length size → size ≡ length (pickedBytes s places)
+unfolding pickedOf onPicked
+told-length s places room size e = go (openedOf s) e
+  where
+    picks :
+        (a b : Bool)
+        → cond a (cond b (sizeTold (length (pickedBytes s places)) room) (Refused Argument)) (Refused Argument) ≡ Length size
+        → size ≡ length (pickedBytes s places)
+    picks true true e = sized (length (pickedBytes s places)) room size e
+    picks true false e = absurd (let z : _≡_ {A = ℕ} 0 1 = cc in omega arith)
+    picks false b e = absurd (let z : _≡_ {A = ℕ} 0 1 = cc in omega arith)
+
+    go : (a : Opened) → onPicked s places room a ≡ Length size → size ≡ length (pickedBytes s places)
+    go (opened.Refused refusal) e = absurd (let z : _≡_ {A = ℕ} 0 1 = cc in omega arith)
+    go (opened.Image n day version) e = picks (leb (length places) 96) (inside n places) e
