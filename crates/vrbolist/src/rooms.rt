@@ -20,13 +20,13 @@ pub extern "C" fn vrbolist_make_room(
     table: &[u8],
     moment: u64,
     out: &mut [u8],
-    table_out: &mut [u8],
+    lines: &mut [u8],
 ) -> RoomAnswer
-    ensures answer { λ r. ⌜ r ≡ roomTold (madeOf (now (image .entry)) (now (table .entry)) moment (length (now (out .entry))) (length (now (table_out .entry)))) ⌝ }
-    ensures image { λ _. ⌜ now (out .exit) ≡ imageOut (now (image .entry)) (now (table .entry)) moment (now (out .entry)) (now (table_out .entry)) ⌝ }
-    ensures table { λ _. ⌜ now (table_out .exit) ≡ tableOut (now (image .entry)) (now (table .entry)) moment (now (out .entry)) (now (table_out .entry)) ⌝ }
+    ensures answer { λ r. ⌜ r ≡ roomTold (madeOf (now (image .entry)) (now (table .entry)) moment (length (now (out .entry))) (length (now (lines .entry)))) ⌝ }
+    ensures image { λ _. ⌜ now (out .exit) ≡ imageOut (now (image .entry)) (now (table .entry)) moment (now (out .entry)) (now (lines .entry)) ⌝ }
+    ensures table { λ _. ⌜ now (lines .exit) ≡ tableOut (now (image .entry)) (now (table .entry)) moment (now (out .entry)) (now (lines .entry)) ⌝ }
 {
-    room_told(room::make_room(image, table, moment, out, table_out))
+    room_told(room::make_room(image, table, moment, out, lines))
 }
 
 fn room_told(made: Made) -> RoomAnswer

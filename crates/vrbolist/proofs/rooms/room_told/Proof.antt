@@ -6,7 +6,7 @@ use Rattle.vrbolist.proofs.rooms.room_told.Tie as tie
 
 returns : tie.Need-returns
 unfolding roomTold
-returns c = rw (c .before .before .before .made .given .1)
+returns c = rw (c .before .made .given .1)
 
 returns-2 : tie.Need-returns-2
 unfolding roomTold
@@ -16,8 +16,6 @@ pub room-told-spec : {M : Type 1} → statement M
 room-told-spec =
     tie.close
     (tie.spec
-    (λ c. search needs)
-    (λ c. search needs)
     (λ c. search needs)
     (λ c. search needs)
     (λ c κs. search needs)

@@ -5,8 +5,8 @@ use Rattle.vrbolist.proofs.rooms.vrbolist_make_room.Tie as tie
 
 returns : tie.Need-returns
 returns c =
-    let done = c .before .before .before .make-room .ensures in
-    (rw (done .0) at (c .room-told .ensures), done .1, done .2)
+    let done = c .before .before .before .before .before .make-room .ensures in
+    (rw (done .0) at (c .room-told .ensures), done .1)
 
 pub vrbolist-make-room-spec : {M : Type 1} → statement M
 vrbolist-make-room-spec =
