@@ -1,19 +1,15 @@
 -- The lines of a cut table, one by one.
-use Prim.Native.Nat.{ℕ, suc, _+_, _-_, _*_, _≤_}
+use Prim.Native.Nat.{ℕ, zero, suc, _+_, _-_, _*_, _≤_, _<_}
 use mathlib.Core.Path.{_≡_, refl, ap}
 use mathlib.Core.List.{List, [], _∷_, _++_}
 use native.Mathlib.Nat.{mul-le-mul-right}
 use native.Mathlib.Omega.{arith}
-use lib.ListN.{length, getD, set, drop, length-append}
+use lib.ListN.{length, getD, drop, length-append}
 use Rattle.room.specs.Kept.{cutLine, cutLines}
 
 pub first-rest : (l : List ℕ) → (length l ≡ 0 → ⊥) → l ≡ getD l 0 0 ∷ drop 1 l
 first-rest [] some = absurd (some refl)
 first-rest (x ∷ l) some = refl
-
-pub set-first : (l : List ℕ) (x : ℕ) → 1 ≤ length l → set l 0 x ≡ x ∷ drop 1 l
-set-first [] x h = absurd (omega arith)
-set-first (y ∷ l) x h = refl
 
 -- the first of some numbers, and the others
 pub rest-fits : (n wide : ℕ) → (n ≡ 0 → ⊥) → n * wide ≡ wide + (n - 1) * wide
@@ -23,16 +19,11 @@ rest-fits n wide some =
     omega (arith, mul-le-mul-right wide most, mul-le-mul-right wide least)
 
 module _ (n : ℕ) (table : List ℕ) where
-  pub line-none : (row : ℕ) (columns : List ℕ) → length columns ≡ 0 → cutLine n table row columns ≡ []
+  pub line-at : (row : ℕ) (columns : List ℕ) (i : ℕ) → i < length columns → getD (cutLine n table row columns) i 0 ≡ getD table (row * n + getD columns i 0) 0
   unfolding cutLine
-  line-none row [] e = refl
-  line-none row (x ∷ l) e = absurd (omega arith)
-
-  pub line-on :
-      (row : ℕ) (columns : List ℕ) → (length columns ≡ 0 → ⊥)
-      → cutLine n table row columns ≡ getD table (row * n + getD columns 0 0) 0 ∷ cutLine n table row (drop 1 columns)
-  unfolding cutLine
-  line-on row columns some = ap (cutLine n table row) (first-rest columns some)
+  line-at row [] i h = absurd (omega arith)
+  line-at row (x ∷ l) zero h = refl
+  line-at row (x ∷ l) (suc i) h = line-at row l i (omega arith)
 
   pub line-long : (row : ℕ) (columns : List ℕ) → length (cutLine n table row columns) ≡ length columns
   unfolding cutLine

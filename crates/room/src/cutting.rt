@@ -24,9 +24,10 @@ fn cut_line(table: &[u8], n: usize, row: u8, columns: &[u8], out: &mut [u8])
     requires { ⌜ (n ≤ 96) × (length (now columns) ≤ length (now out)) ⌝ }
     ensures { λ _. ⌜ now (out .exit) ≡ cutLine n (now (table .entry)) row (now (columns .entry)) ++ drop (length (now (columns .entry))) (now (out .entry)) ⌝ }
 {
-    if columns.len() == 0 {
-        return;
+    let start = row as usize * n;
+    let mut i = 0;
+    while i < columns.len() {
+        out[i] = octet(table, start + columns[i] as usize);
+        i += 1;
     }
-    out[0] = octet(table, row as usize * n + columns[0] as usize);
-    cut_line(table, n, row, &columns[1..], &mut out[1..]);
 }
