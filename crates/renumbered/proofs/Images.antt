@@ -52,7 +52,7 @@ room-reads moment {s} {n} {day} {version} o e =
 pub good-question :
     (s : List ℕ) {n day version : ℕ} → openedOf s ≡ Image n day version → (table : List ℕ) → tableGood n table ≡ true → (moment : ℕ)
     → realMoment 1950 2099 moment ≡ true → (p : ℕ) → p < n → itemAt (itemsIn s) p .kind ≡ 3
-    → askedOf s table moment p ≡ asked.Over n
+    → askedOf s table moment p ≡ asked.Over n version
 unfolding askedOf onImage itemAt
 good-question s {n} {day} {version} e table good moment real p below three =
     let kind : entryIn s p .kind ≡ 3 = place-item s n day version p _ e below .1 .kind ∙ three in
