@@ -132,6 +132,14 @@ typedef struct {
 typedef struct {
     uint64_t number;
     uint64_t detail;
+    uint64_t length;       /* bytes of the new image */
+    uint64_t table_length; /* bytes of the new table */
+    uint64_t entries;      /* how many items stay */
+} vrbolist_room_answer;
+
+typedef struct {
+    uint64_t number;
+    uint64_t detail;
     uint64_t letters_true; /* 1 where the letters of every item are its true ones, else 0 */
 } vrbolist_letters_answer;
 
@@ -224,6 +232,18 @@ vrbolist_write_answer vrbolist_move_to_2(const uint8_t *image, size_t image_len,
 /* Writes a trust image of version 2 again in version 1, without the letters, to the first bytes of `out`; its other bytes stay.
  * Refusals: 5, with rule 2 for an image of version 1; then 9. */
 vrbolist_write_answer vrbolist_move_to_1(const uint8_t *image, size_t image_len, uint8_t *out, size_t out_len);
+
+/* Makes room in a trust image: writes it again to the first bytes of `out` without the certificates whose end, and the
+ * revocation lists whose next update, is before the moment, and without the items that fail their profile for their kind. The
+ * others keep their order, flags and letters, and the image its day and version; an item that ends at the moment itself stays.
+ * `table` has a byte, 0 or 1, for each pair of entries, as for vrbolist_chain; `table_out` gets the rows and columns of the items
+ * that stay. The other bytes of both outputs stay. From that moment on every document signer that stays has the same chain under
+ * the new places, or none in both. Outputs as long as image and table are always long enough.
+ * Refusals: 5 for the image, then 1 for the table and a moment that is not real or not of 1950 to 2099, then 9 where either
+ * output is too short; each leaves both outputs as they are. */
+vrbolist_room_answer vrbolist_make_room(const uint8_t *image, size_t image_len, const uint8_t *table, size_t table_len,
+                                        uint64_t moment, uint8_t *out, size_t out_len, uint8_t *table_out,
+                                        size_t table_out_len);
 
 /* Tells whether the letters of every item of a trust image of version 2 are its true ones. No other call tests them.
  * Refusals: 5, with rule 2 for an image of version 1. */

@@ -162,6 +162,9 @@ static const struct field entry_fields[] = {
     AT(entry, country, 48, 2),
 };
 static const struct field write_fields[] = {HEAD_AT(write), AT(write, length, 16, 8)};
+static const struct field room_fields[] = {
+    HEAD_AT(room), AT(room, length, 16, 8), AT(room, table_length, 24, 8), AT(room, entries, 32, 8),
+};
 static const struct field letters_fields[] = {HEAD_AT(letters), AT(letters, letters_true, 16, 8)};
 static const struct field anchors_fields[] = {HEAD_AT(anchors), AT(anchors, count, 16, 8), AT(anchors, places, 24, 96)};
 static const struct field chain_fields[] = {HEAD_AT(chain), AT(chain, length, 16, 8), AT(chain, places, 24, 96)};
@@ -184,6 +187,8 @@ void write_to(void *answer, const uint8_t *items, size_t items_len, const uint8_
               size_t letters_len, uint64_t version, uint64_t day, uint8_t *out, size_t out_len) __asm__("vrbolist_write");
 void move_to_2_to(void *answer, const uint8_t *image, size_t len, uint8_t *out, size_t out_len) __asm__("vrbolist_move_to_2");
 void move_to_1_to(void *answer, const uint8_t *image, size_t len, uint8_t *out, size_t out_len) __asm__("vrbolist_move_to_1");
+void make_room_to(void *answer, const uint8_t *image, size_t image_len, const uint8_t *table, size_t table_len, uint64_t moment,
+                  uint8_t *out, size_t out_len, uint8_t *table_out, size_t table_out_len) __asm__("vrbolist_make_room");
 void letters_to(void *answer, const uint8_t *image, size_t len) __asm__("vrbolist_letters");
 void anchors_to(void *answer, const uint8_t *image, size_t len, uint64_t first, uint64_t second) __asm__("vrbolist_anchors");
 void anchors_by_index_to(void *answer, const uint8_t *image, size_t len, uint64_t first,
@@ -225,6 +230,7 @@ static void layout(void) {
     LAID_OUT(write, 24, write_to(to, NULL, 0, NULL, 0, NULL, 0, NULL, 0, NULL, 0, 2, DAY, NULL, 0));
     LAID_OUT(write, 24, move_to_2_to(to, NULL, 0, NULL, 0));
     LAID_OUT(write, 24, move_to_1_to(to, NULL, 0, NULL, 0));
+    LAID_OUT(room, 40, make_room_to(to, NULL, 0, NULL, 0, MOMENT, NULL, 0, NULL, 0));
     LAID_OUT(letters, 24, letters_to(to, NULL, 0));
     LAID_OUT(anchors, 120, anchors_to(to, NULL, 0, 'U', 'T'));
     LAID_OUT(anchors, 120, anchors_by_index_to(to, NULL, 0, 'U', 'T'));
@@ -699,6 +705,77 @@ static void moves(struct item one, struct item two) {
     }
 }
 
+/* Room. */
+
+static void room_is(int line, vrbolist_room_answer answer, uint64_t number, uint64_t detail, uint64_t length,
+                    uint64_t table_length, uint64_t entries) {
+    HEAD(answer, number, detail);
+    FIELD(answer, length, length);
+    FIELD(answer, table_length, table_length);
+    FIELD(answer, entries, entries);
+}
+
+/* At a moment these items stay, packed in `items`, and these verdicts; one byte less in either output is 9. */
+static void room_left(int line, struct item image, const uint8_t *table, uint64_t moment, struct item items,
+                      const uint8_t *kinds, const uint32_t *lengths, size_t entries, uint64_t version, const uint8_t *verdicts) {
+    static const uint8_t flags[] = {0, 0};
+    const uint8_t *letters = version == 2 ? true_letters : no_letters;
+    size_t cells = entries * entries, len = items.len + (version == 2 ? 12 : 8) * entries + 12;
+    uint8_t *wanted = output(len), *out = output(len + 7), *table_out = output(cells + 5);
+    write_is(line, vrbolist_write(items.at, items.len, kinds, entries, flags, entries, lengths, entries, letters, 2 * entries,
+                                  version, DAY, wanted, len), 0, 0, len);
+    room_is(line, vrbolist_make_room(image.at, image.len, table, 9, moment, out, len - 1, table_out, cells + 5),
+            VRBOLIST_SHORT, 0, 0, 0, 0);
+    if (cells > 0) {
+        room_is(line, vrbolist_make_room(image.at, image.len, table, 9, moment, out, len + 7, table_out, cells - 1),
+                VRBOLIST_SHORT, 0, 0, 0, 0);
+    }
+    check(line, "kept", filled(out, len + 7) && filled(table_out, cells + 5), 1);
+    room_is(line, vrbolist_make_room(image.at, image.len, table, 9, moment, out, len + 7, table_out, cells + 5), 0, 0, len,
+            cells, entries);
+    check(line, "image", memcmp(out, wanted, len) == 0 && filled(out + len, 7), 1);
+    check(line, "table", memcmp(table_out, verdicts, cells) == 0 && filled(table_out + cells, 5), 1);
+    out = output(len);
+    table_out = output(cells);
+    room_is(line, vrbolist_make_room(image.at, image.len, table, 9, moment, out, len, table_out, cells), 0, 0, len, cells,
+            entries);
+    check(line, "exact", memcmp(out, wanted, len) == 0 && memcmp(table_out, verdicts, cells) == 0, 1);
+}
+
+/* The anchor ends at the end of November 2026, the CRL's next update is 06:00 of the day after, the signer goes on to 2031. */
+static void rooms(struct item image, struct item anchor, struct item signer, struct item crl, uint64_t version) {
+    static const uint8_t verdicts[] = {1, 0, 1, 0, 0, 1, 0, 0, 1}, last[] = {0, 1, 0, 1}, wrong[] = {0, 0, 0, 0, 0, 0, 0, 0, 2},
+                         kinds[] = {3, 4};
+    const uint8_t *table = lend(verdicts, 9);
+    uint8_t *out = output(image.len), *table_out = output(9);
+    struct item rest;
+    uint32_t lengths[2];
+#define ROOM(image, image_n, table, table_n, moment, number, detail) \
+    room_is(__LINE__, vrbolist_make_room(image, image_n, table, table_n, moment, out, 0, table_out, 0), number, detail, 0, 0, 0)
+    ROOM(image.at + 1, image.len - 1, NULL, 0, UINT64_MAX, VRBOLIST_IMAGE, 5);
+    ROOM(NULL, 0, NULL, 0, 0, VRBOLIST_IMAGE, 1);
+    ROOM(image.at, image.len, table, 8, MOMENT, VRBOLIST_ARGUMENT, 0);
+    ROOM(image.at, image.len, lend(wrong, 9), 9, MOMENT, VRBOLIST_ARGUMENT, 0);
+    ROOM(image.at, image.len, table, 9, 20261115126000, VRBOLIST_ARGUMENT, 0);
+    ROOM(image.at, image.len, table, 9, UINT64_MAX, VRBOLIST_ARGUMENT, 0);
+    ROOM(image.at, image.len, table, 9, MOMENT, VRBOLIST_SHORT, 0);
+    CHECK(filled(out, image.len) && filled(table_out, 9));
+    /* At the last second of the anchor all stay. */
+    room_is(__LINE__, vrbolist_make_room(image.at, image.len, table, 9, 20261130235959, out, image.len, table_out, 9), 0, 0,
+            image.len, 9, 3);
+    CHECK(memcmp(out, image.at, image.len) == 0 && memcmp(table_out, verdicts, 9) == 0);
+    rest.at = image.at + anchor.len;
+    rest.len = signer.len + crl.len;
+    lengths[0] = (uint32_t)signer.len;
+    lengths[1] = (uint32_t)crl.len;
+    room_left(__LINE__, image, table, 20261201000000, rest, kinds, lengths, 2, version, last);
+    room_left(__LINE__, image, table, 20261201060000, rest, kinds, lengths, 2, version, last);
+    rest.len = signer.len;
+    room_left(__LINE__, image, table, 20261201060001, rest, kinds, lengths, 1, version, last);
+    rest.len = 0;
+    room_left(__LINE__, image, table, 20991231235959, rest, kinds, lengths, 0, version, last);
+}
+
 /* Anchors of a country. */
 
 static void anchors_are(int line, vrbolist_anchors_answer answer, uint64_t number, uint64_t detail, uint64_t count) {
@@ -981,6 +1058,8 @@ int main(int argc, char **argv) {
     entries(one, anchor, signer, crl, 1);
     entries(two, anchor, signer, crl, 2);
     moves(one, two);
+    rooms(one, anchor, signer, crl, 1);
+    rooms(two, anchor, signer, crl, 2);
     anchors(one, 1);
     anchors(two, 2);
     every_anchor(anchor);

@@ -6,8 +6,8 @@ use mathlib.Core.List.{List, [], _∷_}
 use native.Mathlib.Omega.{arith}
 use lib.ListN.{length, getD}
 use Rattle.image.specs.Items.{Item}
-use Rattle.anchors.specs.Listing.{placesFrom}
-use Rattle.anchors.proofs.Turns.{places-skip, places-take}
+use Rattle.image.specs.Chosen.{placesFrom}
+use Rattle.image.proofs.Choosing.{places-skip, places-take}
 
 -- a number stands in a list
 pub record Found (l : List ℕ) (place : ℕ) : Type 0 where

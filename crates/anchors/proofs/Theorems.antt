@@ -28,7 +28,8 @@ use Rattle.letters.specs.TrueLetters.{ofCertificate, trueOf, trueLetters, spell
 use Rattle.letters.specs.Check.{onChecked, checkedOf}
 use Rattle.letters.proofs.Theorems.{spelled-are, are-spelled}
 use Rattle.anchors.specs.declared.Listing.{Listing}
-use Rattle.anchors.specs.Listing.{enabled, fullFor, shortFor, indexLetters, placesFrom, listedAs, unlisted, onOpened, listedOf, anchorsOf, anchorsByIndex}
+use Rattle.image.specs.Chosen.{placesFrom}
+use Rattle.anchors.specs.Listing.{enabled, fullFor, shortFor, indexLetters, listedAs, unlisted, onOpened, listedOf, anchorsOf, anchorsByIndex}
 use Rattle.anchors.proofs.Picked as picked
 
 -- a place is listed: it stands in a slot that is used
@@ -219,7 +220,7 @@ unfolding placesFrom allLettered
 same-places first second place [] e = refl
 same-places first second place (item ∷ rest) e =
     let both = and-eq-true-iff (lettered item) (allLettered rest) .0 e in
-    rw (true-test first second item (both .0), same-places first second (suc place) rest (both .1))
+    rw (true-test first second item (both .0), same-places first second (place + 1) rest (both .1))
 
 module _ (s : List ℕ) where
   checked-opened :

@@ -1,7 +1,7 @@
 -- Which anchors of an image are of a country: the places of the enabled ones whose letters are these, ascending, in 96 slots.
-use Prim.Native.Nat.{ℕ, suc, _-_}
+use Prim.Native.Nat.{ℕ, _-_}
 use mathlib.Core.Bool.{Bool, cond, _&&_}
-use mathlib.Core.List.{List, [], _∷_, _++_}
+use mathlib.Core.List.{List, _++_}
 use lib.Dec.{eqb}
 use lib.ListN.{length, replicate}
 use Rattle.refusal.specs.declared.Refusal.{Refusal}
@@ -12,6 +12,7 @@ use Rattle.image.specs.declared.Opened.the-variants as opened
 use Rattle.image.specs.Answer.{openedOf, openedAs}
 use Rattle.image.specs.Index.{itemsIn}
 use Rattle.image.specs.Items.{Item}
+use Rattle.image.specs.Chosen.{placesFrom}
 use Rattle.letters.specs.declared.telling.Country.{Country}
 use Rattle.letters.specs.TrueLetters.{trueLetters, spells}
 use Rattle.anchors.specs.declared.Listing.{Listing}
@@ -32,11 +33,6 @@ indexLetters item = record { first = item .first; second = item .second }
 -- one whose letters in the index are these
 unfoldable pub shortFor : ℕ → ℕ → Item → Bool
 shortFor first second item = enabled item && spells first second (indexLetters item)
-
--- from a place on, the places of the items that pass a test
-unfoldable pub placesFrom : (Item → Bool) → ℕ → List Item → List ℕ
-placesFrom test place [] = []
-placesFrom test place (item ∷ rest) = cond (test item) (place ∷ placesFrom test (suc place) rest) (placesFrom test (suc place) rest)
 
 -- places in slots, unused ones 255
 unfoldable pub listedAs : List ℕ → Listing

@@ -12,9 +12,10 @@ ghost use mathlib.Core.Path.{_≡_};
 ghost use mathlib.Core.Bool.{_&&_};
 ghost use Prim.Native.Nat.{ℕ, _≤_};
 ghost use Rattle.image.specs.declared.Opened.the-variants as opened;
+ghost use Rattle.image.specs.Chosen.{placesFrom};
 ghost use Rattle.image.specs.Index.{entryCount, versionIn, entryIn, itemAt, itemsIn};
 ghost use Rattle.names.specs.Names.{isCapital};
-ghost use Rattle.anchors.specs.Listing.{placesFrom, listedAs, unlisted, onOpened, anchorsOf, anchorsByIndex};
+ghost use Rattle.anchors.specs.Listing.{listedAs, unlisted, onOpened, anchorsOf, anchorsByIndex};
 ghost use Rattle.anchors.specs.Inner.{testFor};
 
 // Whether places are listed, else why not.

@@ -8,6 +8,7 @@ use crate::items;
 use crate::lists;
 use crate::proposals;
 use crate::record::Question;
+use crate::rooms;
 use crate::say;
 use crate::signers;
 use crate::trays;
@@ -44,6 +45,7 @@ pub(crate) fn answer(question: Question, bytes: &[u8]) {
         22 => versions::to_1(bytes, first),
         23 => versions::check(bytes),
         24 => countries::of_letters(bytes, first, second),
+        25 => rooms::make(bytes, first, second, third),
         _ => say::text(b"no such question"),
     }
 }

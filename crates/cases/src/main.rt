@@ -9,6 +9,7 @@ mod items;
 mod lists;
 mod proposals;
 mod record;
+mod rooms;
 mod say;
 mod signers;
 mod sums;

@@ -4,7 +4,6 @@ pub mod PlacesMean
 pub mod Transfer
 pub mod Layers
 pub mod Cells
-pub mod Bits
 pub mod NearRows
 pub mod Meaning
 pub mod RoundsHold

@@ -4,10 +4,9 @@ use image::Opened;
 use image::entry_of;
 use image::open;
 use refusal::Refusal;
+use usable::table_good;
 ghost use mathlib.Core.Path.{_≡_};
-ghost use Prim.Native.Nat.{_≤_};
 ghost use Rattle.chain.specs.Answer.{askedOf};
-ghost use Rattle.usable.specs.Table.{bits, tableGood};
 
 // The number of places that it is asked over, and the version of their entries.
 pub enum Asked {
@@ -45,31 +44,4 @@ pub(crate) fn question(image: &[u8], table: &[u8], moment: u64, target: u64) -> 
             }
         }
     }
-}
-
-// Octets for each pair of places, each 0 or 1.
-pub(crate) fn table_good(places: usize, table: &[u8]) -> bool
-    requires { ⌜ places ≤ 96 ⌝ }
-    ensures { λ r. ⌜ r ≡ tableGood places (now (table .entry)) ⌝ }
-{
-    if table.len() != places * places {
-        return false;
-    }
-    all_bits(table)
-}
-
-// By the largest, with no exit before the last octet.
-fn all_bits(table: &[u8]) -> bool
-    ensures { λ r. ⌜ r ≡ bits (now (table .entry)) ⌝ }
-{
-    let mut most = 0;
-    let mut i = 0;
-    while i < table.len() {
-        let octet = table[i];
-        if most < octet {
-            most = octet;
-        }
-        i += 1;
-    }
-    most <= 1
 }

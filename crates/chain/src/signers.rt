@@ -1,5 +1,4 @@
 // Every signer of an image in one call.
-use crate::asking::table_good;
 use crate::whole::open_all;
 use calendar::real_moment;
 use image::Opened;
@@ -8,6 +7,7 @@ use refusal::Refusal;
 use search::chains_to_all;
 use usable::counting_lists;
 use usable::roles_of;
+use usable::table_good;
 ghost use mathlib.Core.Path.{_≡_};
 ghost use Prim.Native.Nat.{_*_, _≤_};
 ghost use lib.ListN.{length};

@@ -3,3 +3,5 @@ pub mod Fields
 pub mod Opening
 pub mod Few
 pub mod Places
+pub mod Sizes
+pub mod Choosing

@@ -2,3 +2,4 @@ pub mod Items
 pub mod Index
 pub mod Rules
 pub mod Answer
+pub mod Chosen

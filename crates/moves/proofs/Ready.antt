@@ -21,7 +21,7 @@ use Rattle.writer.specs.Writing as writer
 use Rattle.writer.specs.Writing.{versionGood}
 use Rattle.roundtrip.specs.Good.{GoodItems, no-item, good-item, Fits}
 use Rattle.roundtrip.specs.Columns.{kindsOf, flagsOf, lengthsOf, lettersOf}
-use Rattle.roundtrip.proofs.Sizes.{length-image}
+use Rattle.image.proofs.Sizes.{length-image}
 use Rattle.roundtrip.proofs.Opening.{Holds, opened-holds, holds-wider, holds-opened}
 use Rattle.roundtrip.proofs.Back.{fields-small}
 use Rattle.roundtrip.proofs.Rewriting.{columns-back, columns-sized}

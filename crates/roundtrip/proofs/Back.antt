@@ -21,7 +21,7 @@ use Rattle.writer.specs.Writing.{versionGood}
 use Rattle.roundtrip.specs.Good.{GoodItems, no-item, good-item, Fits}
 use Rattle.roundtrip.proofs.Fields.{drop-next}
 use Rattle.roundtrip.proofs.Entries.{entry-at, padded-at, entry-back}
-use Rattle.roundtrip.proofs.Sizes.{length-image, length-index}
+use Rattle.image.proofs.Sizes.{length-image, length-index}
 use Rattle.roundtrip.proofs.Trailer.{Trailer, trailerOf, trailer-back}
 use Rattle.roundtrip.proofs.Opening.{Holds, holds-opened}
 

@@ -18,7 +18,7 @@ use Rattle.writer.specs.declared.Written.the-variants.{Length, Refused}
 use Rattle.writer.specs.Writing.{rowsGood, sumAll, zeros, lettersGood, argumentsGood, sizeOf, writtenOf, itemsOf}
 use Rattle.writer.proofs.Columns.{arguments-tell}
 use Rattle.roundtrip.specs.Good.{GoodItems, no-item, good-item, Fits}
-use Rattle.roundtrip.proofs.Sizes.{length-image}
+use Rattle.image.proofs.Sizes.{length-image}
 
 pub record Cut (version : ℕ) (items : List Item) (octets : List ℕ) (n : ℕ) : Type 0 where
   pub good : GoodItems version items

@@ -1,6 +1,5 @@
 pub mod Fields
 pub mod Entries
-pub mod Sizes
 pub mod Trailer
 pub mod Opening
 pub mod Back

@@ -17,7 +17,7 @@ use Rattle.writer.specs.declared.Written.the-variants.{Length, Refused}
 use Rattle.writer.specs.Writing.{rowsGood, sumAll, versionGood, countsGood, zeros, lettersGood, argumentsGood, sizeOf, writtenOf, itemsOf}
 use Rattle.roundtrip.specs.Good.{GoodItems, no-item, good-item, Fits}
 use Rattle.roundtrip.specs.Columns.{kindsOf, flagsOf, lengthsOf, lettersOf}
-use Rattle.roundtrip.proofs.Sizes.{length-image}
+use Rattle.image.proofs.Sizes.{length-image}
 
 pub columns-back :
     (items : List Item) → itemsOf (kindsOf items) (flagsOf items) (lengthsOf items) (lettersOf items) (packed items) ≡ items

@@ -8,3 +8,4 @@ pub mod Slots
 pub mod SpeakingMeans
 pub mod StandingMeans
 pub mod StepsMean
+pub mod Bits

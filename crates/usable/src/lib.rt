@@ -8,6 +8,7 @@ mod matching;
 mod opened;
 mod opening;
 mod roles;
+mod table;
 
 pub use counting::counting_lists;
 pub use countries::of_country;
@@ -16,3 +17,4 @@ pub use matching::led;
 pub use matching::matched;
 pub use opening::open_item;
 pub use roles::roles_of;
+pub use table::table_good;

@@ -6,6 +6,7 @@ mod images;
 mod items;
 mod lists;
 mod proposals;
+mod rooms;
 mod signers;
 mod told;
 mod trays;

@@ -1,10 +1,12 @@
 // Writing a trust image.
 mod copying;
+mod picking;
 
 use calendar::real_day;
 use copying::copy;
 use image::fields_good;
 use image::width;
+pub use picking::write_places;
 use refusal::Refusal;
 ghost use mathlib.Core.Path.{_≡_};
 ghost use mathlib.Core.List.{_++_};

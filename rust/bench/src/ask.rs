@@ -17,12 +17,16 @@ impl Asker {
             Question::Write { room, .. }
             | Question::MoveTo2(_, room)
             | Question::MoveTo1(_, room)
+            | Question::Room { room, .. }
             | Question::Signers { room, .. } => *room,
             _ => 0,
         };
+        let table =
+            |question: &Question| if let Question::Room { table_room, .. } = question { *table_room } else { 0 };
         let numbers = |question: &Question| if let Question::Replay { room, .. } = question { *room } else { 0 };
         let output = Lent {
             octets: vec![0; questions.iter().map(octets).max().unwrap_or(0)],
+            table: vec![0; questions.iter().map(table).max().unwrap_or(0)],
             list: vec![0; questions.iter().map(numbers).max().unwrap_or(0)],
         };
         Asker { questions, output }

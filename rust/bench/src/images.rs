@@ -71,11 +71,17 @@ pub fn in_one_call(questions: Vec<Question>) -> Option<Vec<Question>> {
 struct Signed {
     image: Image,
     keys: Vec<(Vec<u8>, Vec<u8>)>,
+    /// When certificates added now end.
+    end: u64,
 }
+
+/// The usual end of certificates, and one that is past.
+const END: u64 = 20301231235959;
+const PAST: u64 = 20231231235959;
 
 impl Signed {
     fn new() -> Signed {
-        Signed { image: Image::new(DAY as u32), keys: Vec::new() }
+        Signed { image: Image::new(DAY as u32), keys: Vec::new(), end: END }
     }
 
     /// Adds a certificate with one name as issuer and subject.
@@ -85,6 +91,7 @@ impl Signed {
             issuer: issuer.to_vec(),
             subject: issuer.to_vec(),
             serial: vec![0x11, self.keys.len() as u8],
+            end: self.end,
             subject_key_id: Some(own.to_vec()),
             authority_key_id: Some(by.to_vec()),
             ..Parameters::typical(kind as u64)
@@ -99,12 +106,17 @@ impl Signed {
         self.keys.push((by.to_vec(), Vec::new()));
     }
 
-    /// The question for a place, with the verdicts of true signatures or, `dense`, with 1 for all pairs.
-    fn asked(self, target: usize, dense: bool) -> Vec<Question> {
+    /// The verdicts of true signatures or, `dense`, 1 for all pairs.
+    fn table(&self, dense: bool) -> Vec<u8> {
         let signs = |own: &[u8], by: &[u8]| (dense || !own.is_empty() && own == by) as u8;
         let pairs = |(_, own): &(Vec<u8>, Vec<u8>)| self.keys.iter().map(|(by, _)| signs(own, by)).collect::<Vec<u8>>();
-        let table = self.keys.iter().flat_map(pairs).collect();
-        vec![Question::Chain { image: self.image.encode(), table, moment: MOMENT, target: target as u64 }]
+        self.keys.iter().flat_map(pairs).collect()
+    }
+
+    /// The question for a place.
+    fn asked(self, target: usize, dense: bool) -> Vec<Question> {
+        let (image, table) = (self.image.encode(), self.table(dense));
+        vec![Question::Chain { image, table, moment: MOMENT, target: target as u64 }]
     }
 }
 
@@ -126,6 +138,18 @@ pub fn usual(found: &str, entries: usize) -> Option<Vec<Question>> {
         "none" => 2,
         _ => return None,
     };
+    Some(usual_items(entries, false).asked(24 + 4 + of, false))
+}
+
+/// The question that makes room in the usual image, in which, `some`, every third signer has ended.
+pub fn room(some: bool) -> Question {
+    let made = usual_items(40, some);
+    let (image, table) = (made.image.encode(), made.table(false));
+    let (room, table_room) = (image.len(), table.len());
+    Question::Room { image, table, moment: MOMENT, room, table_room }
+}
+
+fn usual_items(entries: usize, ended: bool) -> Signed {
     let mut made = Signed::new();
     for country in 0..4 {
         let issuer = name::name([b'U', b'T' + country], "CSCA");
@@ -135,13 +159,15 @@ pub fn usual(found: &str, entries: usize) -> Option<Vec<Question>> {
             made.certificate(LINK, &issuer, &key(link), &key(link + 1));
         }
         for signer in 0..18 {
+            made.end = if ended && signer % 3 == 2 { PAST } else { END };
             made.certificate(SIGNER as u8, &issuer, &key([0, 3, 9][signer % 3]), &key(20));
         }
+        made.end = END;
         for _ in 0..2 {
             made.crl(&key(0), listing(&issuer, entries));
         }
     }
-    Some(made.asked(24 + 4 + of, false))
+    made
 }
 
 /// The anchors of one country of the usual image in version 2, in full and by the index, and that image read.

@@ -14,6 +14,7 @@ pub enum Answer {
     Entry(plain::Entry),
     Write(plain::Written),
     Letters(plain::Letters),
+    Room(plain::Made),
     Anchors(plain::Anchors),
     Chain(plain::Chain),
     Signers(plain::Signers),
@@ -34,6 +35,7 @@ impl Answer {
             Answer::Entry(told) => (told.number, told.detail),
             Answer::Write(told) => (told.number, told.detail),
             Answer::Letters(told) => (told.number, told.detail),
+            Answer::Room(told) => (told.number, told.detail),
             Answer::Anchors(told) => (told.number, told.detail),
             Answer::Chain(told) => (told.number, told.detail),
             Answer::Signers(told) => (told.number, told.detail),
@@ -90,6 +92,7 @@ same_fields!(Image, Image, Image { entries, day, version });
 same_fields!(Entry, Entry, Entry { kind, flags, length, offset, country });
 same_fields!(Write, Write, Written { length });
 same_fields!(Letters, Letters, Letters { letters_true });
+same_fields!(Room, Room, Made { length, table_length, entries });
 same_fields!(Anchors, Anchors, Anchors { count, places });
 same_fields!(Chain, Chain, Chain { length, places });
 same_fields!(Signers, Signers, Signers { length });

@@ -40,7 +40,8 @@ impl fmt::Display for Difference {
                 writeln!(to, "{which} changed the lent bytes")?;
             }
             if !same_output {
-                writeln!(to, "{which} output {}, list {:?}", hex(&told.output.octets), told.output.list)?;
+                let Lent { octets, table, list } = &told.output;
+                writeln!(to, "{which} output {}, table {}, list {list:?}", hex(octets), hex(table))?;
             }
         }
         write!(to, "{}", show(&self.question))
@@ -80,14 +81,19 @@ fn lend(question: &Question) -> Lent {
         Question::Write { room, .. }
         | Question::MoveTo2(_, room)
         | Question::MoveTo1(_, room)
-        | Question::Signers { room, .. } => {
-            Lent { octets: (0..*room).map(|at| (at * 7 + 0xA5) as u8).collect(), ..Lent::default() }
+        | Question::Signers { room, .. } => Lent { octets: octets(*room, 0xA5), ..Lent::default() },
+        Question::Room { room, table_room, .. } => {
+            Lent { octets: octets(*room, 0xA5), table: octets(*table_room, 0x5A), ..Lent::default() }
         }
         Question::Replay { room, .. } => {
             Lent { list: (0..*room).map(|at| u64::MAX - at as u64).collect(), ..Lent::default() }
         }
         _ => Lent::default(),
     }
+}
+
+fn octets(room: usize, first: usize) -> Vec<u8> {
+    (0..room).map(|at| (at * 7 + first) as u8).collect()
 }
 
 /// When to stop: after this many questions or this much time.

@@ -6,10 +6,11 @@ use vrbolist::answers;
 use crate::answer::Answer;
 use crate::one_by_one::OneByOne;
 
-/// What is lent to be written: octets for an image, numbers for faulty records.
+/// What is lent to be written: octets for an image, octets for its table, numbers for faulty records.
 #[derive(Clone, Debug, Default, PartialEq, Eq)]
 pub struct Lent {
     pub octets: Vec<u8>,
+    pub table: Vec<u8>,
     pub list: Vec<u64>,
 }
 
@@ -66,6 +67,9 @@ macro_rules! reader {
                     Question::MoveTo2(image, _) => $of::move_to_2(image, &mut output.octets).into(),
                     Question::MoveTo1(image, _) => $of::move_to_1(image, &mut output.octets).into(),
                     Question::Letters(image) => $of::letters(image).into(),
+                    Question::Room { image, table, moment, .. } => {
+                        $of::make_room(image, table, *moment, &mut output.octets, &mut output.table).into()
+                    }
                     Question::Anchors(image, first, second) => $of::anchors(image, *first, *second).into(),
                     Question::AnchorsByIndex(image, first, second) => {
                         $of::anchors_by_index(image, *first, *second).into()

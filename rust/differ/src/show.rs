@@ -19,6 +19,7 @@ pub fn kind(question: &Question) -> &'static str {
         Question::Write { .. } => "write",
         Question::MoveTo2(..) => "move to 2",
         Question::MoveTo1(..) => "move to 1",
+        Question::Room { .. } => "room",
         Question::Letters(_) => "letters",
         Question::Anchors(..) => "anchors",
         Question::AnchorsByIndex(..) => "anchors by index",
@@ -50,6 +51,9 @@ pub fn show(question: &Question) -> String {
             format!("first {first}, second {second}, image {}", hex(image))
         }
         Question::MoveTo2(image, room) | Question::MoveTo1(image, room) => format!("room {room}, image {}", hex(image)),
+        Question::Room { image, table, moment, room, table_room } => {
+            format!("moment {moment}, room {room} and {table_room}, table {}, image {}", hex(table), hex(image))
+        }
         Question::ImageForDay(image, wanted) => format!("wanted {wanted}, image {}", hex(image)),
         Question::Entry(image, place) => format!("place {place}, image {}", hex(image)),
         Question::Write { items, kinds, flags, lengths, letters, version, day, room } => format!(

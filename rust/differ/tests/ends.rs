@@ -232,6 +232,7 @@ fn every_octet_of_an_index() {
                 ask(Question::Entry(image.clone(), 1));
                 ask(Question::MoveTo2(image.clone(), room));
                 ask(Question::MoveTo1(image.clone(), room));
+                ask(Question::Room { image: image.clone(), table: vec![0; 4], moment: MOMENT, room, table_room: 4 });
                 ask(Question::Anchors(image.clone(), 85, 84));
                 ask(Question::AnchorsByIndex(image.clone(), 85, 84));
                 ask(Question::Letters(image));
@@ -272,6 +273,49 @@ fn rooms_of_moves() {
 }
 
 #[test]
+fn rooms_of_images_in_which_room_is_made() {
+    let table = vec![1, 0, 1, 0, 1, 0, 0, 1, 1];
+    for image in images() {
+        let full = (image.len(), 9);
+        // The CRL ends first, then the certificates.
+        for (moment, length, cells) in [(MOMENT, full.0, full.1), (20250101000000, 0, 4), (20310101000000, 12, 0)] {
+            let room = |room, table_room| {
+                ask(Question::Room { image: image.clone(), table: table.clone(), moment, room, table_room })
+            };
+            let Answer::Room(told) = room(full.0, full.1) else { panic!("another answer") };
+            assert_eq!((told.number, told.table_length), (0, cells as u64));
+            assert!(length == 0 || told.length == length as u64);
+            let length = told.length as usize;
+            for (at, table_at) in [(length, cells), (length + 1, cells + 1), (length + 7, cells), (length, cells + 7)] {
+                assert_eq!(room(at, table_at).head(), (0, 0));
+            }
+            for at in (0..13).chain(length - 3..length) {
+                assert_eq!(room(at.min(length - 1), cells).head(), (9, 0));
+            }
+            for table_at in 0..cells {
+                assert_eq!(room(length, table_at).head(), (9, 0));
+                assert_eq!(room(0, table_at).head(), (9, 0));
+            }
+        }
+    }
+}
+
+#[test]
+fn moments_at_which_room_is_made() {
+    let room = |moment| {
+        let (image, table) = (image(), vec![0; 9]);
+        let room = image.len();
+        ask(Question::Room { image, table, moment, room, table_room: 9 }).head()
+    };
+    for number in numbers(&[MOMENT, 19500101000000, 20991231235959]) {
+        room(number);
+    }
+    for number in [0, u64::MAX, i64::MAX as u64, 1 << 63] {
+        assert_eq!(room(number), (1, 0));
+    }
+}
+
+#[test]
 fn empty_slices() {
     let none = Vec::new;
     let ends = [0, 1, 2, 3, 4, DAY, MOMENT, 1 << 63, u64::MAX];
@@ -286,6 +330,10 @@ fn empty_slices() {
     for room in [0, 1, 11, 12, 13] {
         assert_eq!(ask(Question::MoveTo2(none(), room)).head(), (5, 1));
         assert_eq!(ask(Question::MoveTo1(none(), room)).head(), (5, 1));
+        let made = |image| Question::Room { image, table: none(), moment: MOMENT, room, table_room: 0 };
+        assert_eq!(ask(made(none())).head(), (5, 1));
+        let wanted = if room < 12 { (9, 0) } else { (0, 0) };
+        assert_eq!(ask(made(Image::new(DAY as u32).encode())).head(), wanted);
     }
     let no_entries = Image::new(DAY as u32).encode();
     for number in ends {

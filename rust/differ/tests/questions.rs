@@ -25,7 +25,7 @@ fn main() {
         }
     }
     // What was compared is worth something only where passes and refusals are there.
-    let wanted: [(&str, &[u64]); 19] = [
+    let wanted: [(&str, &[u64]); 20] = [
         ("walk", &[0, 2, 3]),
         ("integer", &[0, 1, 2, 8]),
         ("certificate", &[0, 1, 2, 4]),
@@ -38,6 +38,7 @@ fn main() {
         ("write", &[0, 1, 3, 9]),
         ("move to 2", &[0, 3, 5, 9]),
         ("move to 1", &[0, 5, 9]),
+        ("room", &[0, 1, 5, 9]),
         ("letters", &[0, 5]),
         ("anchors", &[0, 1, 5]),
         ("anchors by index", &[0, 1, 5]),

@@ -48,6 +48,14 @@ pub enum Question {
     /// An image to be moved to a version, with the length of the lent output.
     MoveTo2(Vec<u8>, usize),
     MoveTo1(Vec<u8>, usize),
+    /// An image in which room is made, with the lengths of both lent outputs.
+    Room {
+        image: Vec<u8>,
+        table: Vec<u8>,
+        moment: u64,
+        room: usize,
+        table_room: usize,
+    },
     /// An image whose letters are checked.
     Letters(Vec<u8>),
     /// An image and the letters of a country; answered in full, or by the index.
@@ -117,7 +125,7 @@ impl Source {
     /// The next question.
     #[allow(clippy::should_implement_trait)]
     pub fn next(&mut self) -> Question {
-        match self.random.below(109) {
+        match self.random.below(111) {
             0..=19 => Question::Walk(self.item()),
             20..=25 => Question::Integer(self.integer()),
             26..=49 => self.certificate(),
@@ -132,10 +140,11 @@ impl Source {
             87 => self.signers(),
             88 => self.move_to_2(),
             89..=90 => self.move_to_1(),
-            91..=92 => Question::Letters(self.image_of(2)),
-            93..=96 => self.proposal(),
-            106..=107 => self.anchors(),
-            108 => self.anchors_by_index(),
+            91..=92 => self.room(),
+            93..=94 => Question::Letters(self.image_of(2)),
+            95..=98 => self.proposal(),
+            108..=109 => self.anchors(),
+            110 => self.anchors_by_index(),
             _ => self.chain(),
         }
     }
@@ -339,6 +348,26 @@ impl Source {
         let image = self.image_of(2);
         let room = room(&mut self.random, &image, -4);
         Question::MoveTo1(image, room)
+    }
+
+    /// Room in an image, mostly at a moment at which some item ends; now and then with an item of another kind, which then fails
+    /// its profile, and with too little room in one output or both.
+    fn room(&mut self) -> Question {
+        let (world, mut image, table, moment, _) = self.asked();
+        let random = &mut self.random;
+        let end = *random.pick(&self.worlds[world].moments);
+        let moment = match random.below(8) {
+            0 | 1 => end,
+            2 => second_after(end),
+            3 => second_before(end),
+            4 => 20991231235959,
+            _ => moment,
+        };
+        if random.percent(20) {
+            image::rename(&mut image, random);
+        }
+        let (room, table_room) = (around(random, image.len().max(12)), around(random, table.len().max(1)));
+        Question::Room { image, table, moment, room, table_room }
     }
 
     fn anchors(&mut self) -> Question {

@@ -136,8 +136,14 @@ impl<'a> Open<'a> {
     /// The index entry at a place.
     #[inline(always)]
     pub fn line(&self, place: usize) -> Line {
+        Line::of(self.octets(place))
+    }
+
+    /// The octets of the index entry at a place.
+    #[inline(always)]
+    pub fn octets(&self, place: usize) -> &'a [u8] {
         let width = width(self.version);
-        Line::of(&self.index[width * place..width * (place + 1)])
+        &self.index[width * place..width * (place + 1)]
     }
 
     /// The item at a place.

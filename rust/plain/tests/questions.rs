@@ -37,6 +37,11 @@ fn ask(question: &Question) -> (&'static str, u64, u64) {
             let told = plain::move_to_1(image, &mut vec![0xA5; *room]);
             answer("move to 1", told.number, told.detail)
         }
+        Question::Room { image, table, moment, room, table_room } => {
+            let told = plain::make_room(image, table, *moment, &mut vec![7; *room], &mut vec![7; *table_room]);
+            let all = told.number == 0 && told.entries == plain::image(image).entries;
+            answer("room", told.number, if all { 1 } else { told.detail })
+        }
         Question::Letters(image) => {
             let told = plain::letters(image);
             answer("letters", told.number, if told.number == 0 { told.letters_true } else { told.detail })
@@ -90,6 +95,7 @@ fn every_answer_is_reached() {
     wanted.extend([0, 3, 9].map(|number| ("move to 2", number, 0)));
     wanted.extend([0, 9].map(|number| ("move to 1", number, 0)));
     wanted.extend([0, 1].map(|letters_true| ("letters", 0, letters_true)));
+    wanted.extend([("room", 0, 0), ("room", 0, 1), ("room", 1, 0), ("room", 9, 0)]);
     for name in ["anchors", "anchors by index"] {
         wanted.push((name, 1, 0));
         wanted.extend([0, 1, 2].map(|count| (name, 0, count)));

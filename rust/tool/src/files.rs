@@ -68,19 +68,71 @@ pub fn read_item(path: &OsStr) -> Result<Item, Stop> {
 
 /// Writes a file whole or not at all: a temporary file beside it, then a rename.
 pub fn write(path: &Path, bytes: &[u8], force: bool) -> Result<(), Stop> {
+    staged(path, bytes, force, &temporary())?.settle(force)
+}
+
+/// Writes two files: none is put in its place before both are written beside it.
+pub fn write_both(files: [(&Path, &[u8]); 2], force: bool) -> Result<(), Stop> {
+    let [(first, bytes), (second, more)] = files;
+    let one = staged(first, bytes, force, &temporary())?;
+    let two = staged(second, more, force, &format!("{}2", temporary()));
+    match two {
+        Err(stop) => {
+            one.remove();
+            Err(stop)
+        }
+        Ok(two) if two.place == one.place => {
+            one.remove();
+            two.remove();
+            Err(Stop::usage(format!("{} is named twice: give two names", shown(first.as_os_str()))))
+        }
+        Ok(two) => match one.settle(force) {
+            Err(stop) => {
+                two.remove();
+                Err(stop)
+            }
+            Ok(()) => two.settle(force),
+        },
+    }
+}
+
+/// A file that is written beside its place, and not yet put there.
+struct Staged<'a> {
+    path: &'a Path,
+    beside: PathBuf,
+    place: PathBuf,
+}
+
+fn staged<'a>(path: &'a Path, bytes: &[u8], force: bool, name: &str) -> Result<Staged<'a>, Stop> {
     let place = target(path, force)?;
     let folder = place.parent().filter(|p| !p.as_os_str().is_empty()).unwrap_or(Path::new("."));
-    let beside = folder.join(temporary());
+    let beside = folder.join(name);
     let file = OpenOptions::new()
         .write(true)
         .create_new(true)
         .open(&beside)
         .map_err(|error| blocked(path, &beside, &error))?;
-    let done = filled(file, bytes).and_then(|()| moved(&beside, &place, force));
-    if done.is_err() {
-        let _ = fs::remove_file(&beside);
+    let done = Staged { path, beside, place };
+    match filled(file, bytes) {
+        Ok(()) => Ok(done),
+        Err(error) => {
+            done.remove();
+            Err(refused(path, &error))
+        }
     }
-    done.map_err(|error| refused(path, &error))
+}
+
+impl Staged<'_> {
+    fn settle(self, force: bool) -> Result<(), Stop> {
+        moved(&self.beside, &self.place, force).map_err(|error| {
+            self.remove();
+            refused(self.path, &error)
+        })
+    }
+
+    fn remove(&self) {
+        let _ = fs::remove_file(&self.beside);
+    }
 }
 
 fn temporary() -> String {

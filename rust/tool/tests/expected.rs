@@ -103,6 +103,20 @@ fn versions() {
 }
 
 #[test]
+fn trimming() {
+    let bench = Bench::new("expected-trimming");
+    bench.pack("today");
+    let trim = |at: &str, more: &str| {
+        bench.line(&format!("trim today.image new.image --at {at} --table today.table --table-out new.table {more}"))
+    };
+    held("trim-dry.txt", &trim("20261201060001", "--dry-run"));
+    held("trim.txt", &trim("20261115120000", ""));
+    held("trim-json.txt", &trim("20261115120000", "--json --force"));
+    held("trim-refused.txt", &trim("20261115240000", "--force"));
+    held("trim-refused-json.txt", &trim("20261115240000", "--json"));
+}
+
+#[test]
 fn chains() {
     let bench = Bench::new("expected-chains");
     bench.pack("today");

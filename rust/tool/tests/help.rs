@@ -33,7 +33,8 @@ fn examples_work() {
     let bench = bench("help");
     let mut tried = 0;
     for command in [
-        "", "item", "walk", "image", "pack", "unpack", "convert", "anchors", "chain", "propose", "days", "age", "tray",
+        "", "item", "walk", "image", "pack", "unpack", "convert", "trim", "anchors", "chain", "propose", "days", "age",
+        "tray",
         "demo",
     ] {
         let run = bench.status(&format!("{command} --help"), 0);

@@ -36,6 +36,11 @@ fn questions_get_the_answer_of_the_library() {
                 let told = vrbolist::move_to_1(&image, &mut [0; 262_144]).err();
                 ("convert x y --to 1 --force".to_string(), image, told)
             }
+            Question::Room { image, table, moment, .. } => {
+                let told = vrbolist::make_room(&image, &table, moment, &mut [0; 262_144], &mut [0; 9_216]).err();
+                bench.write("t", &table);
+                (format!("trim x y --at {moment} --table t --table-out u --force"), image, told)
+            }
             Question::Letters(image) if !matches!(vrbolist::letters(&image), Ok(false)) => {
                 let told = vrbolist::image(&image).err().or(vrbolist::letters(&image).err());
                 ("image x --letters".to_string(), image, told)
@@ -62,13 +67,14 @@ fn word(first: u64, second: u64) -> Option<[u8; 2]> {
 }
 
 fn words(random: &mut Random) -> Vec<Vec<u8>> {
-    const WORDS: [&str; 46] = [
+    const WORDS: [&str; 49] = [
         "item",
         "walk",
         "image",
         "pack",
         "unpack",
         "convert",
+        "trim",
         "anchors",
         "chain",
         "propose",
@@ -96,6 +102,8 @@ fn words(random: &mut Random) -> Vec<Vec<u8>> {
         "all",
         "--version",
         "--to",
+        "--table-out",
+        "--dry-run",
         "--letters",
         "--country",
         "UT",
@@ -114,7 +122,7 @@ fn words(random: &mut Random) -> Vec<Vec<u8>> {
     for place in 0..random.between(1, 9) {
         out.push(match random.below(12) {
             0 => random.octets(5).into_iter().filter(|b| *b != 0 && *b != b'/').collect(),
-            _ if place == 0 => WORDS[random.below(11)].into(),
+            _ if place == 0 => WORDS[random.below(13)].into(),
             _ => WORDS[random.below(WORDS.len())].into(),
         });
     }

@@ -5,7 +5,7 @@
 
 use crate::raw;
 pub use crate::raw::{
-    Anchors, Certificate, Chain, Crl, Days, Entry, Image, Integer, Letters, Replay, Signers, Told, Walk, Write,
+    Anchors, Certificate, Chain, Crl, Days, Entry, Image, Integer, Letters, Replay, Room, Signers, Told, Walk, Write,
 };
 
 // Each call lends slices for its own time only, and a slice's pointer and length are what the archive asks for: not null,
@@ -84,6 +84,22 @@ pub fn move_to_2(image: &[u8], out: &mut [u8]) -> Write {
 
 pub fn move_to_1(image: &[u8], out: &mut [u8]) -> Write {
     unsafe { raw::vrbolist_move_to_1(image.as_ptr(), image.len(), out.as_mut_ptr(), out.len()) }
+}
+
+pub fn make_room(image: &[u8], table: &[u8], moment: u64, out: &mut [u8], table_out: &mut [u8]) -> Room {
+    unsafe {
+        raw::vrbolist_make_room(
+            image.as_ptr(),
+            image.len(),
+            table.as_ptr(),
+            table.len(),
+            moment,
+            out.as_mut_ptr(),
+            out.len(),
+            table_out.as_mut_ptr(),
+            table_out.len(),
+        )
+    }
 }
 
 pub fn letters(image: &[u8]) -> Letters {

@@ -56,6 +56,15 @@ pub struct Entry<'a> {
     pub item: &'a [u8],
 }
 
+/// An image in which room was made, and its verdict table: the parts of the lent outputs that they take.
+#[derive(Clone, Copy, Debug, PartialEq, Eq)]
+pub struct Room<'a> {
+    pub image: &'a [u8],
+    pub table: &'a [u8],
+    /// How many items stay.
+    pub entries: u64,
+}
+
 /// An image of version 2 whose letters are true, as the check of them has told: its index tells the country of each anchor.
 #[derive(Clone, Copy, Debug, PartialEq, Eq)]
 pub struct Lettered<'a> {
@@ -164,6 +173,23 @@ pub fn move_to_2<'a>(image: &[u8], out: &'a mut [u8]) -> Result<&'a [u8], Refusa
 pub fn move_to_1<'a>(image: &[u8], out: &'a mut [u8]) -> Result<&'a [u8], Refusal> {
     let told = answers::move_to_1(image, out);
     passed(told.number, told.detail, ()).map(|()| part(out, 0, told.length))
+}
+
+/// Writes an image again without the items that fail their profile and those whose end, or next update, is before the moment, and
+/// its verdict table without their rows and columns. The rest of both outputs stays.
+pub fn make_room<'a>(
+    image: &[u8],
+    table: &[u8],
+    moment: u64,
+    out: &'a mut [u8],
+    table_out: &'a mut [u8],
+) -> Result<Room<'a>, Refusal> {
+    let told = answers::make_room(image, table, moment, out, table_out);
+    passed(told.number, told.detail, ()).map(|()| Room {
+        image: part(out, 0, told.length),
+        table: part(table_out, 0, told.table_length),
+        entries: told.entries,
+    })
 }
 
 /// Whether the letters of every item of an image of version 2 are the true ones.

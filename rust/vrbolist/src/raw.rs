@@ -50,6 +50,7 @@ answer!(Crl, 64 {
 answer!(Image, 40 { 16 entries: u64, 24 day: u64, 32 version: u64 });
 answer!(Entry, 56 { 16 kind: u64, 24 flags: u64, 32 length: u64, 40 offset: u64, 48 country: [u8; 2] });
 answer!(Write, 24 { 16 length: u64 });
+answer!(Room, 40 { 16 length: u64, 24 table_length: u64, 32 entries: u64 });
 answer!(Letters, 24 { 16 letters_true: u64 });
 answer!(Anchors, 120 { 16 count: u64, 24 places: [u8; 96] });
 answer!(Chain, 120 { 16 length: u64, 24 places: [u8; 96] });
@@ -85,6 +86,17 @@ extern "C" {
     ) -> Write;
     pub fn vrbolist_move_to_2(image: *const u8, image_len: usize, out: *mut u8, out_len: usize) -> Write;
     pub fn vrbolist_move_to_1(image: *const u8, image_len: usize, out: *mut u8, out_len: usize) -> Write;
+    pub fn vrbolist_make_room(
+        image: *const u8,
+        image_len: usize,
+        table: *const u8,
+        table_len: usize,
+        moment: u64,
+        out: *mut u8,
+        out_len: usize,
+        table_out: *mut u8,
+        table_out_len: usize,
+    ) -> Room;
     pub fn vrbolist_letters(image: *const u8, image_len: usize) -> Letters;
     pub fn vrbolist_anchors(image: *const u8, image_len: usize, first: u64, second: u64) -> Anchors;
     pub fn vrbolist_anchors_by_index(image: *const u8, image_len: usize, first: u64, second: u64) -> Anchors;

@@ -1,7 +1,8 @@
 //! The wrapper on a few worked cases: passes, refusals, and parts as slices.
 
 use vrbolist::{
-    anchors, day_difference, entry, image, integer, lettered, letters, move_to_1, move_to_2, replay, walk, Refusal,
+    anchors, day_difference, entry, image, integer, lettered, letters, make_room, move_to_1, move_to_2, replay, walk,
+    Refusal,
 };
 
 #[test]
@@ -48,6 +49,19 @@ fn both_versions() {
     assert_eq!((letters(&back), move_to_1(&back, &mut one).err()), (Err(rule_2), Some(rule_2)));
     assert_eq!(move_to_2(&forth, &mut two), Err(rule_2));
     assert_eq!(move_to_2(&back, &mut [0; 24]), Err(Refusal { number: 9, detail: 0 }));
+}
+
+/// What is no certificate goes, whatever the moment.
+#[test]
+fn room() {
+    let full = [5, 1, 0, 0, 1, 0, 0, 0, 0, 0, 0, 0, 1, 0, 1, 0, 1, 1, 0x34, 0xD7, 0xAD];
+    let empty = [0, 0, 0, 0, 0, 0, 0, 1, 1, 0x34, 0xD7, 0xAD];
+    let (mut out, mut table) = ([7; 14], [7; 1]);
+    let made = make_room(&full, &[1], 20240301000000, &mut out, &mut table).unwrap();
+    assert_eq!((made.image, made.table, made.entries), (&empty[..], &[][..], 0));
+    assert_eq!((out[12..].to_vec(), table), (vec![7, 7], [7]));
+    assert_eq!(make_room(&full, &[], 20240301000000, &mut out, &mut table), Err(Refusal { number: 1, detail: 0 }));
+    assert_eq!(make_room(&full, &[1], 20240301000000, &mut [0; 11], &mut table), Err(Refusal { number: 9, detail: 0 }));
 }
 
 #[test]

@@ -5,7 +5,8 @@ use native.Mathlib.Omega.{arith}
 use borrow.Author.Needs.{needs}
 use Rattle.image.specs.Index.{versionIn}
 use Rattle.anchors.specs.Inner.{testFor}
-use Rattle.anchors.proofs.Turns.{Turn, start, skip, take, end-of}
+use Rattle.image.proofs.Choosing.{Turn, start, skip, take}
+use Rattle.anchors.proofs.Turns.{end-of}
 use Rattle.anchors.proofs.among.Statement.{statement}
 use Rattle.anchors.proofs.among.Tie as tie
 

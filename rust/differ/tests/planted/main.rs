@@ -4,6 +4,7 @@
 #![forbid(unsafe_code)]
 
 mod countries;
+mod room;
 mod signers;
 mod versions;
 

@@ -153,28 +153,34 @@ fn head(target: u64, told: &Told) -> String {
 /// Which arguments are out of their range.
 pub fn arguments(question: &Question<'_>, world: &World<'_>, target: u64, asked: Option<u64>) -> Vec<String> {
     let count = world.places.len();
-    let mut out = Vec::new();
-    if question.table.len() != count.saturating_mul(count) {
-        let wanted = count.saturating_mul(count);
-        out.push(format!(
-            "The table has {} verdicts; the image has {count} places, so {wanted} are wanted.",
-            question.table.len()
-        ));
-    }
-    if question.table.iter().any(|verdict| *verdict > 1) {
-        out.push("The table has a verdict that is neither 0 nor 1.".to_string());
-    }
-    let clock = question.at % 1_000_000;
-    out.extend(unreal(&[question.at / 1_000_000]));
-    if clock / 10_000 > 23 || clock / 100 % 100 > 59 || clock % 100 > 59 {
-        out.push(format!("{clock:06} is no time HHMMSS of a day."));
-    }
+    let mut out = table_and_moment(question.table, question.at, count as u64);
     let kind = world.places.iter().find(|place| place.number == target).map(|place| place.entry.kind);
     match (kind, asked) {
         (None, None) => out.push("The image has no document signer.".to_string()),
         (None, _) => out.push(format!("There is no place {target}: the image has {count} places.")),
         (Some(3), _) => (),
         (Some(kind), _) => out.push(format!("Place {target} is no document signer: its kind is {}.", kind_name(kind))),
+    }
+    out
+}
+
+/// What is wrong with a table for so many places, and with a moment.
+pub fn table_and_moment(table: &[u8], at: u64, count: u64) -> Vec<String> {
+    let mut out = Vec::new();
+    let wanted = count.saturating_mul(count);
+    if table.len() as u64 != wanted {
+        out.push(format!(
+            "The table has {} verdicts; the image has {count} places, so {wanted} are wanted.",
+            table.len()
+        ));
+    }
+    if table.iter().any(|verdict| *verdict > 1) {
+        out.push("The table has a verdict that is neither 0 nor 1.".to_string());
+    }
+    let clock = at % 1_000_000;
+    out.extend(unreal(&[at / 1_000_000]));
+    if clock / 10_000 > 23 || clock / 100 % 100 > 59 || clock % 100 > 59 {
+        out.push(format!("{clock:06} is no time HHMMSS of a day."));
     }
     out
 }

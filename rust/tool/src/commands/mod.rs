@@ -11,6 +11,7 @@ pub mod item;
 pub mod pack;
 pub mod propose;
 pub mod tray;
+pub mod trim;
 pub mod unpack;
 pub mod walk;
 
@@ -27,13 +28,14 @@ pub struct Command {
     pub run: fn(&Given) -> Result<Answer, Stop>,
 }
 
-const COMMANDS: [&Command; 13] = [
+const COMMANDS: [&Command; 14] = [
     &item::COMMAND,
     &walk::COMMAND,
     &image::COMMAND,
     &pack::COMMAND,
     &unpack::COMMAND,
     &convert::COMMAND,
+    &trim::COMMAND,
     &anchors::COMMAND,
     &chain::COMMAND,
     &propose::COMMAND,
@@ -52,6 +54,8 @@ vrbolist: judges passport-signing certificates, CRLs, trust images and chains
   vrbolist pack OUT --day YYYYMMDD --anchor F ..   writes a trust image
   vrbolist unpack IMAGE DIR                        its items as files
   vrbolist convert IMAGE OUT --to 1|2              the same image in the other version
+  vrbolist trim IMAGE OUT --at MOMENT --table T --table-out U
+                                                   the image without what is past
   vrbolist anchors IMAGE --country UT              its enabled anchors of a country
   vrbolist chain IMAGE --table T --at MOMENT --signer PLACE|all
                                                    the chain to a signer, or why there is none

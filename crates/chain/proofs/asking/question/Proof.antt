@@ -1,4 +1,5 @@
 -- The image first, then the table, the moment and the target.
+use Prim.Native.Nat.{_≤_}
 use mathlib.Core.Path.{sym, _∙_}
 use borrow.Author.Tests.{lt-ltb, le-ltb, eq-eqb, ne-eqb, not-true, not-false}
 use Rattle.chain.specs.Answer.{onImage, askedOf}
@@ -24,17 +25,15 @@ sound c = c .before .before
 abbrev timed : tie.After-entry-of → tie.Else2
 timed c = c .before .before
 
-table-good-requires : tie.Need-table-good-requires
-table-good-requires c κs =
-    let e = c .before in
-    let o = opened e in
-    opened-image 1 2 (start o .args .image .now) _ _ _ (sym (o .«open» .ensures) ∙ e .entries .given .1) .1
+-- an image has at most 96 places, so that what is told of the table is whether it is good
+few : (e : tie.After-entries) → e .entries .given .0 .0 ≤ 96
+few e = let o = opened e in opened-image 1 2 (start o .args .image .now) _ _ _ (sym (o .«open» .ensures) ∙ e .entries .given .1) .1
 
 returns : tie.Need-returns
 unfolding askedOf onImage
 returns c =
     let e = listed (c .before) in
-    rw (sym (opened e .«open» .ensures) ∙ e .entries .given .1, sym (c .before .table-good .ensures) ∙ not-true _ (c .if1 .taken))
+    rw (sym (opened e .«open» .ensures) ∙ e .entries .given .1, sym (c .before .table-good .ensures .0 (few e)) ∙ not-true _ (c .if1 .taken))
 
 returns-2 : tie.Need-returns-2
 unfolding askedOf onImage
@@ -43,7 +42,7 @@ returns-2 c =
     let e = listed (s .before) in
     rw (
       sym (opened e .«open» .ensures) ∙ e .entries .given .1,
-      sym (s .before .table-good .ensures) ∙ not-false _ (s .if1 .left),
+      sym (s .before .table-good .ensures .0 (few e)) ∙ not-false _ (s .if1 .left),
       sym (c .before .real-moment .ensures) ∙ not-true _ (c .if2 .taken),
     )
 
@@ -55,7 +54,7 @@ returns-3 c =
     let e = listed (s .before) in
     rw (
       sym (opened e .«open» .ensures) ∙ e .entries .given .1,
-      sym (s .before .table-good .ensures) ∙ not-false _ (s .if1 .left),
+      sym (s .before .table-good .ensures .0 (few e)) ∙ not-false _ (s .if1 .left),
       sym (t .before .real-moment .ensures) ∙ not-false _ (t .if2 .left),
       le-ltb _ _ (c .if3 .taken),
     )
@@ -70,7 +69,7 @@ returns-4 c =
     let kind = n .entry-of .ensures ∙ entry-own _ (opened-image 1 2 _ _ _ _ (sym (opened e .«open» .ensures) ∙ e .entries .given .1) .2) _ in
     rw (
       sym (opened e .«open» .ensures) ∙ e .entries .given .1,
-      sym (s .before .table-good .ensures) ∙ not-false _ (s .if1 .left),
+      sym (s .before .table-good .ensures .0 (few e)) ∙ not-false _ (s .if1 .left),
       sym (t .before .real-moment .ensures) ∙ not-false _ (t .if2 .left),
       lt-ltb _ _ (n .before .if3 .left),
       ← kind,
@@ -91,7 +90,7 @@ returns-6 c =
     let kind = n .entry-of .ensures ∙ entry-own _ (opened-image 1 2 _ _ _ _ (sym (opened e .«open» .ensures) ∙ e .entries .given .1) .2) _ in
     rw (
       sym (opened e .«open» .ensures) ∙ e .entries .given .1,
-      sym (s .before .table-good .ensures) ∙ not-false _ (s .if1 .left),
+      sym (s .before .table-good .ensures .0 (few e)) ∙ not-false _ (s .if1 .left),
       sym (t .before .real-moment .ensures) ∙ not-false _ (t .if2 .left),
       lt-ltb _ _ (n .before .if3 .left),
       ← kind,
@@ -105,7 +104,7 @@ question-spec =
     (λ c κs. search needs)
     (λ c. search needs)
     (λ c. search needs)
-    table-good-requires
+    (λ c κs. search needs)
     returns
     (λ c κs. search needs)
     returns-2

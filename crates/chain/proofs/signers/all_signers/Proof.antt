@@ -1,4 +1,5 @@
 -- The image first, then the table, the moment and the room; then each record is that of its single question.
+use Prim.Native.Nat.{_≤_}
 use mathlib.Core.Path.{refl, sym, _∙_}
 use native.Mathlib.Omega.{arith}
 use borrow.Author.Needs.{needs}
@@ -26,18 +27,16 @@ sound c = c .before .before
 abbrev timed : tie.After-record-signers-arg → tie.Else2
 timed c = c .before .before
 
-table-good-requires : tie.Need-table-good-requires
-table-good-requires c κs =
-    let e = c .before in
-    let o = opened e in
-    opened-image 1 2 (start o .args .image .now) _ _ _ (sym (o .«open» .ensures) ∙ e .entries .given .1) .1
+-- an image has at most 96 places, so that what is told of the table is whether it is good
+few : (e : tie.After-entries) → e .entries .given .0 .0 ≤ 96
+few e = let o = opened e in opened-image 1 2 (start o .args .image .now) _ _ _ (sym (o .«open» .ensures) ∙ e .entries .given .1) .1
 
 returns : tie.Need-returns
 unfolding signersOf onSigners
 returns c =
     let e = listed (c .before) in
     refused refusal.Argument
-    (rw (sym (opened e .«open» .ensures) ∙ e .entries .given .1, sym (c .before .table-good .ensures) ∙ not-true _ (c .if1 .taken)) refl)
+    (rw (sym (opened e .«open» .ensures) ∙ e .entries .given .1, sym (c .before .table-good .ensures .0 (few e)) ∙ not-true _ (c .if1 .taken)) refl)
     refl refl
 
 returns-2 : tie.Need-returns-2
@@ -48,16 +47,13 @@ returns-2 c =
     refused refusal.Argument
     (rw (
       sym (opened e .«open» .ensures) ∙ e .entries .given .1,
-      sym (s .before .table-good .ensures) ∙ not-false _ (s .if1 .left),
+      sym (s .before .table-good .ensures .0 (few e)) ∙ not-false _ (s .if1 .left),
       sym (c .before .real-moment .ensures) ∙ not-true _ (c .if2 .taken),
     ) refl)
     refl refl
 
 mul-size : tie.Need-mul-size
-mul-size c =
-    let e = listed (sound c .before) in
-    let o = opened e in
-    omega (arith, opened-image 1 2 (start o .args .image .now) _ _ _ (sym (o .«open» .ensures) ∙ e .entries .given .1) .1)
+mul-size c = let e = listed (sound c .before) in omega (arith, few e)
 
 returns-3 : tie.Need-returns-3
 unfolding signersOf onSigners
@@ -68,7 +64,7 @@ returns-3 c =
     refused refusal.Short
     (rw (
       sym (opened e .«open» .ensures) ∙ e .entries .given .1,
-      sym (s .before .table-good .ensures) ∙ not-false _ (s .if1 .left),
+      sym (s .before .table-good .ensures .0 (few e)) ∙ not-false _ (s .if1 .left),
       sym (t .before .real-moment .ensures) ∙ not-false _ (t .if2 .left),
       lt-leb _ _ (c .if3 .taken),
     ) refl)
@@ -94,7 +90,7 @@ returns-5 c =
     let e = listed (s .before) in
     let o = opened e in
     let image = sym (o .«open» .ensures) ∙ e .entries .given .1 in
-    let table = sym (s .before .table-good .ensures) ∙ not-false _ (s .if1 .left) in
+    let table = sym (s .before .table-good .ensures .0 (few e)) ∙ not-false _ (s .if1 .left) in
     let moment = sym (t .before .real-moment .ensures) ∙ not-false _ (t .if2 .left) in
     told {n = e .entries .given .0 .0} (rw (image, table, moment, le-leb _ _ (r .before .before .if3 .left)) refl) refl
     (all-records _ _ _ _ (opened-image 1 2 (start o .args .image .now) _ _ _ image .0) image table moment (r .record-signers .ensures))
@@ -106,7 +102,7 @@ all-signers-spec =
     (λ c κs. search needs)
     (λ c. search needs)
     (λ c. search needs)
-    table-good-requires
+    (λ c κs. search needs)
     returns
     (λ c κs. search needs)
     returns-2

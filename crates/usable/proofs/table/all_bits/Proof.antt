@@ -6,10 +6,10 @@ use mathlib.Core.Logic.{⊎-elim}
 use native.Mathlib.Omega.{arith}
 use lib.Dec.{leb}
 use lib.ListN.{length, drop, drop-of-length-le}
 use Rattle.usable.specs.Table.{bits}
-use Rattle.chain.proofs.Bits.{bits-more, larger-is, larger-was}
-use Rattle.chain.proofs.asking.all_bits.Statement.{statement}
-use Rattle.chain.proofs.asking.all_bits.Tie as tie
+use Rattle.usable.proofs.Bits.{bits-more, larger-is, larger-was}
+use Rattle.usable.proofs.table.all_bits.Statement.{statement}
+use Rattle.usable.proofs.table.all_bits.Tie as tie
 
 abbrev Inv-loop : tie.InvT-loop
 Inv-loop table most₀ i₀ most i = (i ≤ length table) × ((leb most 1 && bits (drop i table)) ≡ bits table)

@@ -1,0 +1,11 @@
+pub mod Choosing
+pub mod Cutting
+pub mod Going
+pub mod Carried
+pub mod Numbers
+pub mod SomePlace
+pub mod Staying
+pub mod Images
+pub mod Answers
+pub mod Rooms
+pub mod Theorems

@@ -1,0 +1,2 @@
+pub mod Graphs
+pub mod Answers

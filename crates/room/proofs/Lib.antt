@@ -1,0 +1,4 @@
+pub mod Cut
+pub mod Stays
+pub mod Fitting
+pub mod Making
