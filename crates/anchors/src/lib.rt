@@ -1,6 +1,7 @@
 // The enabled anchors of a country: by the letters that they report, or by those that the index tells.
 use image::Opened;
 use image::entry_of;
+use image::kinds_in;
 use image::open;
 use image::open_as;
 use letters::Country;
@@ -68,7 +69,7 @@ fn listed(image: &[u8], reading: Opened, indexed: bool, first: u8, second: u8) -
     }
 }
 
-// The places of the anchors that are asked for among so many.
+// The places of the anchors that are asked for among so many. Of other kinds nothing more is read.
 fn among(
     version: usize,
     image: &[u8],
@@ -80,15 +81,18 @@ fn among(
     requires { ⌜ (entries ≡ entryCount (now image)) × (entries ≤ 96) × (version ≡ versionIn (now image)) ⌝ }
     ensures { λ r. ⌜ r ≡ listedAs (placesFrom (testFor indexed first second) 0 (itemsIn (now (image .entry)))) ⌝ }
 {
+    let kinds = kinds_in(version, image);
     let mut places = [255u8; 96];
     let mut count = 0;
     let mut next = 0;
     while next < entries {
         let place = next;
         next += 1;
-        if asked_for(version, image, place, indexed, first, second) {
-            places[count] = place as u8;
-            count += 1;
+        if kinds[place] == 1 {
+            if asked_for(version, image, place, indexed, first, second) {
+                places[count] = place as u8;
+                count += 1;
+            }
         }
     }
     Listing {
@@ -98,7 +102,7 @@ fn among(
     }
 }
 
-// Whether the item of a place is an enabled anchor with two letters: those in its entry, or else those that it reports.
+// Whether the anchor of a place is enabled and has two letters: those in its entry, or else those that it reports.
 fn asked_for(
     version: usize,
     image: &[u8],
@@ -107,13 +111,10 @@ fn asked_for(
     first: u8,
     second: u8,
 ) -> bool
-    requires { ⌜ version ≡ versionIn (now image) ⌝ }
+    requires { ⌜ (version ≡ versionIn (now image)) × (entryIn (now image) place .kind ≡ 1) ⌝ }
     ensures { λ r. ⌜ r ≡ testFor indexed first second (itemAt (now (image .entry)) (entryIn (now (image .entry)) place)) ⌝ }
 {
     let e = entry_of(version, image, place);
-    if e.kind != 1 {
-        return false;
-    }
     if e.flags != 1 {
         return false;
     }
