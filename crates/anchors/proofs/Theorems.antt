@@ -1,6 +1,6 @@
 -- What is promised of the listed anchors, from the definitions alone: all of a country and no others, each once and ascending; and
 -- where an image's letters are true, the index tells what the items do.
-use Prim.Native.Nat.{ℕ, suc, _+_, _-_, _<_, _≤_}
+use Prim.Native.Nat.{ℕ, _+_, _-_, _<_, _≤_}
 use mathlib.Core.Path.{_≡_, refl, sym, subst, _∙_}
 use mathlib.Core.Bool.{Bool, true, false, cond, _&&_, and-eq-true-iff}
 use mathlib.Core.Logic.{_↔_}

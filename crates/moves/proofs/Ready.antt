@@ -1,39 +1,33 @@
 -- An image that was opened is ready to be moved: its octets start with the items, its columns are small, and the writer answers for
 -- them by their size only.
 use Prim.Native.Nat.{ℕ, suc, zero, _+_, _*_, _-_, _<_, _≤_}
-use mathlib.Core.Path.{_≡_, refl, sym, subst, _∙_, ap}
+use mathlib.Core.Path.{_≡_, refl, sym, _∙_, ap}
 use mathlib.Core.Bool.{Bool, true, false, cond, and-eq-true-iff}
-use mathlib.Core.List.{List, [], _∷_, _++_}
+use mathlib.Core.List.{List}
 use native.Mathlib.Omega.{arith}
 use borrow.Author.Tests.{leb-true, eqb-true, eqb-false, le-leb}
 use lib.Dec.{leb, eqb}
-use lib.ListN.{length, getD, take, drop}
+use lib.ListN.{length, getD, take}
 use lib.Seq.{take-at}
-use Rattle.octets.specs.Octets.{Octets, no-octet, octet}
-use Rattle.image.specs.declared.IndexEntry.{IndexEntry}
+use Rattle.octets.specs.Octets.{Octets}
 use Rattle.image.specs.declared.Opened.the-variants.{Image}
 use Rattle.image.specs.Items.{Item, packed, imageBytes}
 use Rattle.image.specs.Index.{entryCount, versionIn, dayIn, entryIn, itemAt, itemsIn, width}
 use Rattle.image.specs.Rules.{fieldsGood}
 use Rattle.image.specs.Answer.{openedOf, openedAs}
-use Rattle.image.proofs.Places.{length-items, item-in}
+use Rattle.image.proofs.Places.{item-in}
 use Rattle.writer.specs.Writing as writer
 use Rattle.writer.specs.Writing.{versionGood}
 use Rattle.roundtrip.specs.Good.{GoodItems, no-item, good-item, Fits}
 use Rattle.roundtrip.specs.Columns.{kindsOf, flagsOf, lengthsOf, lettersOf}
 use Rattle.image.proofs.Sizes.{length-image}
-use Rattle.roundtrip.proofs.Opening.{Holds, opened-holds, holds-wider, holds-opened}
+use Rattle.roundtrip.proofs.Opening.{opened-holds, holds-wider, holds-opened}
 use Rattle.roundtrip.proofs.Back.{fields-small}
 use Rattle.roundtrip.proofs.Rewriting.{columns-back, columns-sized}
 use Rattle.roundtrip.proofs.Theorems.{write-again, place-item}
 use Rattle.moves.specs.Moving.{other, movedItems, movedBytes, onMoved, movedOf, outputOf}
 use Rattle.moves.specs.Rows.{Small}
 use Rattle.moves.proofs.Moves.{moved-kinds, moved-flags, moved-lengths, moved-packed, moved-many, moved-good}
-
--- a list of octets, each known by its place
-pub each-octet : (s : List ℕ) → ((i : ℕ) → getD s i 0 < 256) → Octets s
-each-octet [] small = no-octet
-each-octet (o ∷ rest) small = octet (small 0) (each-octet rest (λ i. small (suc i)))
 
 pub other-known : (version : ℕ) → (1 ≤ other version) × (other version ≤ 2)
 unfolding other

@@ -5,11 +5,8 @@ use mathlib.Core.List.{List, [], _∷_, _++_}
 use native.Mathlib.Nat.{mul-le-mul-right}
 use native.Mathlib.Omega.{arith}
 use lib.ListN.{length, getD, drop, length-append}
+use Rattle.writer.proofs.Picked.{first-rest}
 use Rattle.room.specs.Kept.{cutLine, cutLines}
-
-pub first-rest : (l : List ℕ) → (length l ≡ 0 → ⊥) → l ≡ getD l 0 0 ∷ drop 1 l
-first-rest [] some = absurd (some refl)
-first-rest (x ∷ l) some = refl
 
 -- the first of some numbers, and the others
 pub rest-fits : (n wide : ℕ) → (n ≡ 0 → ⊥) → n * wide ≡ wide + (n - 1) * wide

@@ -1,14 +1,13 @@
 -- The image and the table of the places that stay are those that are said, and the writer refuses them for want of room alone.
-use Prim.Native.Nat.{ℕ, zero, suc, _+_, _*_, _≤_, _<_}
+use Prim.Native.Nat.{ℕ, suc, _+_, _*_, _≤_, _<_}
 use mathlib.Core.Path.{_≡_, refl, ap, ap₂, sym, _∙_}
 use mathlib.Core.Bool.{Bool, true, false, cond}
 use mathlib.Core.List.{List, [], _∷_}
-use native.Mathlib.Numerals.{add-one}
 use native.Mathlib.Omega.{arith}
 use borrow.Author.Tests.{lt-ltb, le-leb}
 use lib.Dec.{leb}
 use lib.ListN.{length, getD}
-use Rattle.octets.specs.Octets.{Octets, no-octet, octet}
+use Rattle.octets.specs.Octets.{Octets}
 use Rattle.refusal.specs.declared.Refusal.the-variants as refusal
 use Rattle.calendar.specs.Days.{realMoment}
 use Rattle.image.specs.declared.Opened.the-variants as opened
@@ -30,10 +29,6 @@ use Rattle.room.specs.Making.{roomBytes, roomTable, onOpened, madeOf, on
 use Rattle.room.specs.Inner.{onPut, putOf}
 use Rattle.room.proofs.Cut.{lines-long}
 use Rattle.room.proofs.Fitting.{either, chosen-fits}
-
-pub each-octet : (s : List ℕ) → ((i : ℕ) → getD s i 0 < 256) → Octets s
-each-octet [] small = no-octet
-each-octet (o ∷ rest) small = octet (small 0) (each-octet rest (λ i. small (suc i)))
 
 module _ (test : Item → Bool) (s : List ℕ) (none : Item) where
   -- the items at the places of those chosen are these

@@ -1,10 +1,10 @@
 -- A number in k octets is read where it was written, and written again it is the octets that it was read from.
 use mathlib.Core.Path.{_≡_, sym, _∙_, ap}
-use mathlib.Core.List.{List, _++_}
-use Prim.Native.Nat.{ℕ, _+_, _^_, _≤_, _<_}
+use mathlib.Core.List.{List, [], _∷_, _++_}
+use Prim.Native.Nat.{ℕ, suc, _+_, _^_, _≤_, _<_}
 use native.Mathlib.Nat.{mod-eq-of-lt}
 use native.Mathlib.Omega.{arith}
-use lib.ListN.{length, take, drop, length-drop}
+use lib.ListN.{length, getD, take, drop, length-drop}
 use lib.Seq.{take-add, drop-drop, drop-at, take-at, length-take-le}
 use Rattle.octets.specs.Octets.{Octets, no-octet, octet, number, big}
 use Rattle.tree.proofs.Numbers.{length-big, number-big, big-number, octets-take, octets-drop}
@@ -41,3 +41,8 @@ field-octet o at = go (octets-drop at o)
     go : {t : List ℕ} → Octets t → number (take 1 t) < 256
     go no-octet = omega arith
     go (octet h rest) = omega (arith, h)
+
+-- a list of octets, each known by its place
+pub each-octet : (s : List ℕ) → ((i : ℕ) → getD s i 0 < 256) → Octets s
+each-octet [] small = no-octet
+each-octet (o ∷ rest) small = octet (small 0) (each-octet rest (λ i. small (suc i)))

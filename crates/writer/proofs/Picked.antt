@@ -7,31 +7,29 @@ use native.Mathlib.Omega.{arith}
 use borrow.Author.Tests.{lt-ltb, le-ltb}
 use lib.ListN.{length, getD, take, drop, length-append, length-take, length-drop}
 use lib.Seq.{getD-drop}
-use Rattle.image.specs.Items.{Item, packed, indexBytes, entryBytes}
+use Rattle.image.specs.Items.{packed, indexBytes, entryBytes}
 use Rattle.octets.specs.Octets.{number}
 use Rattle.image.specs.declared.IndexEntry.{IndexEntry}
 use Rattle.image.specs.Index.{field, indexStart, versionIn, width, entryAt, entryIn, itemAt}
 use Rattle.writer.specs.Picking.{picked, inside}
 
-module _ (l : List ℕ) (some : length l ≡ 0 → ⊥) where
-  first-rest : l ≡ getD l 0 0 ∷ drop 1 l
-  first-rest = go l some
-    where
-      go : (l : List ℕ) → (length l ≡ 0 → ⊥) → l ≡ getD l 0 0 ∷ drop 1 l
-      go [] some = absurd (some refl)
-      go (x ∷ l) some = refl
+-- a list that is not empty is its first number and the rest
+pub first-rest : (l : List ℕ) → (length l ≡ 0 → ⊥) → l ≡ getD l 0 0 ∷ drop 1 l
+first-rest [] some = absurd (some refl)
+first-rest (x ∷ l) some = refl
 
+module _ (l : List ℕ) (some : length l ≡ 0 → ⊥) where
   pub inside-out : (n : ℕ) → n ≤ getD l 0 0 → inside n l ≡ false
   unfolding inside
-  inside-out n h = rw (ap (inside n) first-rest, le-ltb _ _ h) refl
+  inside-out n h = rw (ap (inside n) (first-rest l some), le-ltb _ _ h) refl
 
   pub inside-on : (n : ℕ) → getD l 0 0 < n → inside n l ≡ inside n (drop 1 l)
   unfolding inside
-  inside-on n h = rw (ap (inside n) first-rest, lt-ltb _ _ h) refl
+  inside-on n h = rw (ap (inside n) (first-rest l some), lt-ltb _ _ h) refl
 
   pub picked-on : (s : List ℕ) → picked s l ≡ itemAt s (entryIn s (getD l 0 0)) ∷ picked s (drop 1 l)
   unfolding picked
-  picked-on s = ap (picked s) first-rest
+  picked-on s = ap (picked s) (first-rest l some)
 
 pub inside-none : (l : List ℕ) → length l ≡ 0 → (n : ℕ) → inside n l ≡ true
 unfolding inside

@@ -1,6 +1,6 @@
 -- One law for each answer of the writer of some items, and what the output is then.
 use Prim.Native.Nat.{ℕ, _+_, _*_, _≤_, _<_}
-use mathlib.Core.Path.{_≡_, refl, sym, ap, _∙_}
+use mathlib.Core.Path.{_≡_, refl, sym}
 use mathlib.Core.Bool.{Bool, true, false, cond}
 use mathlib.Core.List.{List, [], _∷_, _++_, append-assoc}
 use native.Mathlib.Omega.{arith}
@@ -12,8 +12,8 @@ use Rattle.refusal.specs.declared.Refusal.the-variants.{Argument, Limit, Short}
 use Rattle.image.specs.declared.Opened.{Opened}
 use Rattle.image.specs.declared.Opened.the-variants as opened
 use Rattle.image.specs.Answer.{openedOf}
-use Rattle.image.specs.Items.{Item, packed, indexBytes, trailerBytes, imageBytes}
-use Rattle.image.specs.Index.{entryCount, versionIn, dayIn, width}
+use Rattle.image.specs.Items.{packed, indexBytes, trailerBytes, imageBytes}
+use Rattle.image.specs.Index.{versionIn, dayIn, width}
 use Rattle.image.proofs.Few.{opened-told}
 use Rattle.image.proofs.Sizes.{length-image}
 use Rattle.writer.specs.declared.Written.the-variants.{Length, Refused}

@@ -1,19 +1,16 @@
 -- The table, then the moment; then what is put for the places that stay is what is said. An image that is refused is refused.
-use Prim.Native.Nat.{ℕ, _-_, _≤_}
+use Prim.Native.Nat.{ℕ, _-_}
 use mathlib.Core.Bool.{true}
 use mathlib.Core.Path.{_≡_, refl, sym, ap, _∙_}
-use mathlib.Core.List.{List}
 use native.Mathlib.Omega.{arith}
 use borrow.Author.Needs.{needs}
 use borrow.Author.Tests.{not-true, not-false}
 use lib.ListN.{length, take, length-take}
-use Rattle.image.specs.Index.{itemsIn}
 use Rattle.image.proofs.Few.{opened-image}
 use Rattle.usable.specs.Table.{tableGood}
-use Rattle.room.specs.declared.Made.{Made}
-use Rattle.room.specs.Kept.{keptPlaces}
 use Rattle.room.specs.Making.{onOpened, madeOf, onMade, imageOut, tableOut}
-use Rattle.room.proofs.Making.{Put, put-all, each-octet}
+use Rattle.roundtrip.proofs.Fields.{each-octet}
+use Rattle.room.proofs.Making.{put-all}
 use Rattle.room.proofs.make_room.Statement.{statement}
 use Rattle.room.proofs.make_room.Tie as tie
 

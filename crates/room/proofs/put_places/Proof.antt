@@ -11,7 +11,7 @@ use Rattle.writer.specs.declared.Written.the-variants as written
 use Rattle.writer.specs.Writing.{onWritten}
 use Rattle.writer.specs.Picking.{pickedBytes, pickedOf, pickedOut}
 use Rattle.writer.proofs.PickedAnswers.{told-length}
-use Rattle.room.specs.Kept.{cut, cutLines}
+use Rattle.room.specs.Kept.{cutLines}
 use Rattle.room.specs.Making.{onMade}
 use Rattle.room.specs.Inner.{onPut, putOf}
 use Rattle.room.proofs.Cut.{lines-long}

@@ -9,7 +9,8 @@ use Rattle.octets.specs.Octets.{Octets}
 use Rattle.image.specs.Items.{packed}
 use Rattle.image.specs.Index.{itemsIn, width}
 use Rattle.image.proofs.Widths.{index-small}
-use Rattle.moves.proofs.Ready.{Ready, ready, each-octet, moved-sized, moved-output}
+use Rattle.roundtrip.proofs.Fields.{each-octet}
+use Rattle.moves.proofs.Ready.{Ready, ready, moved-sized, moved-output}
 use Rattle.moves.proofs.moving.rewritten.Statement.{statement}
 use Rattle.moves.proofs.moving.rewritten.Tie as tie
 

@@ -1,5 +1,5 @@
 -- The kind in the entry decides which judge is asked, and of which octets.
-use mathlib.Core.Path.{_≡_, refl, sym, _∙_}
+use mathlib.Core.Path.{_∙_}
 use borrow.Author.Needs.{needs}
 use borrow.Author.Tests.{eq-eqb, ne-eqb}
 use Rattle.image.proofs.Places.{entry-own}

@@ -1,17 +1,14 @@
 -- One item more, and the rest.
 use Prim.Native.Nat.{ℕ, _+_, _-_, _*_, _≤_, _<_}
-use mathlib.Core.Path.{_≡_, refl, sym, _∙_, ap}
-use mathlib.Core.List.{List, [], _∷_, _++_, append-assoc}
+use mathlib.Core.Path.{_≡_, sym, _∙_, ap}
 use native.Mathlib.Omega.{arith}
 use borrow.Author.Needs.{needs}
 use borrow.Fn.Kinds.{In}
 use borrow.Fn.PlainCycle.{Measures, is, falls, and}
 use borrow.Rule.Slice.PartAt.{part-to-end}
-use lib.ListN.{length, getD, take, drop, length-take, length-drop}
+use lib.ListN.{length, length-take, length-drop}
 use native.Mathlib.Nat.{mul-le-mul}
-use Rattle.image.specs.declared.IndexEntry.{IndexEntry}
-use Rattle.image.specs.Items.{Item, packed}
-use Rattle.image.specs.Index.{entryIn, itemAt}
+use Rattle.image.specs.Items.{packed}
 use Rattle.writer.specs.Picking.{picked}
 use Rattle.image.proofs.Places.{entry-own}
 use Rattle.writer.proofs.Picked.{packed-none, packed-long, picked-few}

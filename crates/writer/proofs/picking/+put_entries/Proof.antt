@@ -1,20 +1,20 @@
 -- One entry is written, and the rest behind it.
 use Prim.Native.Nat.{ℕ, suc, _+_, _-_, _*_, _≤_, _<_}
 use mathlib.Core.Path.{_≡_, refl, sym, _∙_, ap, ap₂}
-use mathlib.Core.List.{List, [], _∷_, _++_, append-assoc}
+use mathlib.Core.List.{List, _++_}
 use native.Mathlib.Nat.{mul-le-mul-left}
 use native.Mathlib.Omega.{arith}
 use borrow.Author.Needs.{needs}
 use borrow.Fn.Kinds.{In}
 use borrow.Fn.PlainCycle.{Measures, is, falls, and}
 use borrow.Rule.Slice.PartAt.{part-to-end}
-use lib.ListN.{length, getD, take, drop, length-take, length-drop}
-use Rattle.image.specs.Items.{packed, entryBytes, indexBytes}
+use lib.ListN.{length, drop, length-take, length-drop}
+use Rattle.image.specs.Items.{entryBytes, indexBytes}
 use Rattle.image.specs.Index.{width}
 use Rattle.image.proofs.Widths.{entry-length}
 use Rattle.writer.specs.Picking.{picked}
 use Rattle.image.proofs.Places.{entry-own}
-use Rattle.writer.proofs.Picked.{index-none, index-first, packed-long, entry-small, nothing-written}
+use Rattle.writer.proofs.Picked.{index-none, index-first, packed-long, entry-small}
 use Rattle.writer.proofs.Stores.{put-next}
 use Rattle.writer.proofs.picking.put_entries.Reads as put-entries
 use Rattle.writer.proofs.picking.put_entries.Kinds as put-entries-kinds
