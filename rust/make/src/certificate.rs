@@ -99,6 +99,12 @@ impl Certificate {
         Certificate::new(&Parameters::typical(role))
     }
 
+    /// A typical certificate whose two names are of a country.
+    pub fn of_country(role: u64, country: [u8; 2]) -> Certificate {
+        let names = name::name(country, "CSCA");
+        Certificate::new(&Parameters { issuer: names.clone(), subject: names, ..Parameters::typical(role) })
+    }
+
     /// A certificate that keeps every rule, its parts as they come.
     pub fn varied(random: &mut Random, role: u64) -> Certificate {
         let mut made = Certificate::new(&varied_parameters(random, role));

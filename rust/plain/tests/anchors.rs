@@ -1,9 +1,8 @@
 //! The anchors of a country.
 
-use make::certificate::{Certificate, Parameters};
+use make::certificate::Certificate;
 use make::crl::Crl;
 use make::image::{Image, BREAKS, BREAKS_OF_2};
-use make::name::name;
 use make::questions::{Question, Source};
 use make::random::Random;
 use plain::{anchors, anchors_by_index, entry, image, letters, Anchors};
@@ -11,9 +10,7 @@ use plain::{anchors, anchors_by_index, entry, image, letters, Anchors};
 const DAY: u32 = 20240301;
 
 fn certificate(role: u64, country: [u8; 2]) -> Vec<u8> {
-    let names = name(country, "CSCA");
-    let said = Parameters { issuer: names.clone(), subject: names, ..Parameters::typical(role) };
-    Certificate::new(&said).encode()
+    Certificate::of_country(role, country).encode()
 }
 
 /// Anchors of two countries among others; one is not enabled and one does not pass.

@@ -1,9 +1,8 @@
 //! The moves between the versions of images, and the check of letters.
 
-use make::certificate::{Certificate, Parameters};
+use make::certificate::Certificate;
 use make::crl::Crl;
 use make::image::{confuse, Image, BREAKS, BREAKS_OF_2};
-use make::name::name;
 use make::questions::{Question, Source};
 use make::random::Random;
 use make::world::World;
@@ -11,11 +10,8 @@ use plain::{entry, image, letters, move_to_1, move_to_2, Letters, Written};
 
 const DAY: u32 = 20240301;
 
-/// A certificate of a country in a role.
 fn certificate(role: u64, country: [u8; 2]) -> Vec<u8> {
-    let names = name(country, "CSCA");
-    let said = Parameters { issuer: names.clone(), subject: names, ..Parameters::typical(role) };
-    Certificate::new(&said).encode()
+    Certificate::of_country(role, country).encode()
 }
 
 /// One item of each kind, and three that fail: of another role, of no role, and no DER.
