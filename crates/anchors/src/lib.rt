@@ -1,4 +1,6 @@
 // The enabled anchors of a country: by the letters that they report, or by those that the index tells.
+#![tactic(auto)]
+
 ghost use Rattle.std.specs.Prelude.{◌≡◌, ◌&&◌, ℕ, ◌≤◌};
 ghost use Rattle.image.specs.declared.Opened.TheVariants as opened;
 ghost use Rattle.image.specs.Chosen.{places_from};
@@ -13,14 +15,14 @@ use octets::part;
 use refusal::Refusal;
 
 // Whether places are listed, else why not.
-#[derive(Drop)]
+#[derive(Clone, Copy)]
 pub enum Outcome {
     Listed,
     Refused(Refusal),
 }
 
 // How many places, and these in ascending order, unused slots 255; in a refusal count 0 and all slots 255.
-#[derive(Drop)]
+#[derive(Clone, Copy)]
 pub struct Listing {
     pub outcome: Outcome,
     pub count: usize,

@@ -1,4 +1,6 @@
 // Real days and moments, and the signed number of days from one day to another.
+#![tactic(auto)]
+
 mod months;
 
 ghost use Rattle.std.specs.Prelude.{◌≡◌, cond, ◌+◌};
@@ -9,7 +11,7 @@ ghost use Rattle.calendar.specs.Difference.{difference_of};
 use refusal::Refusal;
 
 // The days from one day to another, or why there is no answer.
-#[derive(Drop)]
+#[derive(Clone, Copy)]
 pub enum Difference {
     Days(i64),
     Refused(Refusal),

@@ -1,4 +1,6 @@
 // Answers the questions on standard input, a line of text for each.
+#![tactic(auto)]
+
 mod ask;
 mod certificates;
 mod chains;

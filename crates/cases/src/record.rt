@@ -1,7 +1,7 @@
 // The head of a record: the kind of the question, the sizes of its label and of its bytes, and its numbers.
 ghost use Rattle.std.specs.Prelude.{◌≤◌, length};
 
-#[derive(Drop)]
+#[derive(Clone, Copy)]
 pub(crate) struct Question {
     pub kind: u8,
     pub label: usize,

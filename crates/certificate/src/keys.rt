@@ -10,7 +10,7 @@ use elements::{Element, Found, contents, element_at, element_tagged, holds, shor
 use extensions::Held;
 
 // Where the contents of a key identifier start and end; that there is none; that it has not its form.
-#[derive(Drop)]
+#[derive(Clone, Copy)]
 pub enum KeyId {
     Key { at: usize, end: usize },
     Keyless,
@@ -19,7 +19,7 @@ pub enum KeyId {
 
 // The value of an extension that is there and not critical, and whose contents pass the walk; that there is none; that it is
 // otherwise.
-#[derive(Drop)]
+#[derive(Clone, Copy)]
 pub enum Value {
     Stands(Element),
     Missing,

@@ -1,4 +1,6 @@
 // Whether an item is a certificate of the profile, and its fields.
+#![tactic(auto)]
+
 mod countries;
 mod keys;
 mod rules;
@@ -20,7 +22,7 @@ use times::moment;
 
 // Start and end as YYYYMMDDHHMMSS, the issuer's letters, offset and length of issuer, subject and key with their
 // headers, and of the contents of the serial and the key identifiers, 0 and 0 where one is absent.
-#[derive(Drop)]
+#[derive(Clone, Copy)]
 pub struct Fields {
     pub start: u64,
     pub end: u64,
@@ -40,7 +42,7 @@ pub struct Fields {
     pub authority_key_len: usize,
 }
 
-#[derive(Drop)]
+#[derive(Clone, Copy)]
 pub enum Judged {
     Passed(Fields),
     Refused(Refusal),

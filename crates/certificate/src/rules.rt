@@ -16,7 +16,7 @@ use octets::same;
 use times::{Time, in_order, time_of};
 
 // What several rules and the answer read, each once.
-#[derive(Drop)]
+#[derive(Clone, Copy)]
 pub struct Readings {
     pub start: Time,
     pub finish: Time,

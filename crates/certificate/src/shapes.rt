@@ -7,7 +7,7 @@ use names::{Name, Seen, name_of};
 use times::time_at;
 
 // The parts that the other rules read; `unique` says that an 81 or 82 stands there.
-#[derive(Drop)]
+#[derive(Clone, Copy)]
 pub struct Layout {
     pub version: Element,
     pub serial: Element,
@@ -24,20 +24,20 @@ pub struct Layout {
     pub subject_country: Seen,
 }
 
-#[derive(Drop)]
+#[derive(Clone, Copy)]
 pub enum Shape {
     Parts(Layout),
     Broken,
 }
 
-#[derive(Drop)]
+#[derive(Clone, Copy)]
 pub enum Validity {
     Times { start: Element, finish: Element },
     Timeless,
 }
 
 // The first members of the tbs.
-#[derive(Drop)]
+#[derive(Clone, Copy)]
 pub enum Front {
     Opens {
         version: Element,
@@ -50,7 +50,7 @@ pub enum Front {
 }
 
 // The last members of the tbs.
-#[derive(Drop)]
+#[derive(Clone, Copy)]
 pub enum Back {
     Closes {
         subject: Element,

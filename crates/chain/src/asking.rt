@@ -8,7 +8,7 @@ use refusal::Refusal;
 use usable::table_good;
 
 // The number of places that it is asked over, and the version of their entries.
-#[derive(Drop)]
+#[derive(Clone, Copy)]
 pub enum Asked {
     Over { places: usize, version: usize },
     Refused(Refusal),

@@ -1,5 +1,7 @@
 // The chain from an enabled anchor to a document signer at a moment: the shortest, and of those the first. And whether a chain that
 // is proposed is a good one.
+#![tactic(auto)]
+
 mod anchors;
 mod asking;
 mod by_rounds;
@@ -23,14 +25,14 @@ use rounds::chain_among;
 pub use signers::{Signers, all_signers};
 
 // Whether a chain is shown, else why not.
-#[derive(Drop)]
+#[derive(Clone, Copy)]
 pub enum Outcome {
     Shown,
     Refused(Refusal),
 }
 
 // The chain's length and its places, unused slots 255; in a refusal length 0 and all slots 255.
-#[derive(Drop)]
+#[derive(Clone, Copy)]
 pub struct Answer {
     pub outcome: Outcome,
     pub length: usize,

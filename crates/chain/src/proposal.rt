@@ -19,7 +19,7 @@ use octets::part;
 use refusal::Refusal;
 use usable::{counting_lists, roles_of};
 
-#[derive(Drop)]
+#[derive(Clone, Copy)]
 pub enum Proposal {
     Accepted,
     Refused(Refusal),

@@ -13,7 +13,7 @@ use search::chains_to_all;
 use usable::{counting_lists, roles_of, table_good};
 
 // The octets that were written.
-#[derive(Drop)]
+#[derive(Clone, Copy)]
 pub enum Signers {
     Length(usize),
     Refused(Refusal),

@@ -11,7 +11,7 @@ use extensions::outline_of;
 use times::time_at;
 
 // An entry's serial and time, and whether one of its extensions is critical, where it has any.
-#[derive(Drop)]
+#[derive(Clone, Copy)]
 pub enum Entry {
     Bare {
         serial: Element,
@@ -26,7 +26,7 @@ pub enum Entry {
 }
 
 // The number of entries, whether each has a time that is one, and whether none has a critical extension.
-#[derive(Drop)]
+#[derive(Clone, Copy)]
 pub enum Survey {
     Entries {
         count: usize,
@@ -81,7 +81,7 @@ pub(crate) fn survey_of(item: &[u8], from: usize, end: usize) -> Survey
 
 // What is taken at an offset: whether there is an element, whether it is an entry, whether its time is one, whether none
 // of its extensions is critical, and the offset after it.
-#[derive(Drop)]
+#[derive(Clone, Copy)]
 pub struct Taken {
     pub found: bool,
     pub shaped: bool,

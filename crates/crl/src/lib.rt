@@ -1,4 +1,6 @@
 // Whether an item is a CRL of the profile, its fields, whether it lists a serial, and its age.
+#![tactic(auto)]
+
 mod countries;
 mod entries;
 mod fast;
@@ -30,7 +32,7 @@ use times::moment;
 
 // Both updates as YYYYMMDDHHMMSS, the issuer's letters, the number of entries, offset and length of the issuer with its
 // header, and where the entries stand.
-#[derive(Drop)]
+#[derive(Clone, Copy)]
 pub struct Fields {
     pub this_update: u64,
     pub next_update: u64,
@@ -43,7 +45,7 @@ pub struct Fields {
     pub entries_end: usize,
 }
 
-#[derive(Drop)]
+#[derive(Clone, Copy)]
 pub enum Judged {
     Passed(Fields),
     Refused(Refusal),

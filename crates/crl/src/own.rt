@@ -9,7 +9,7 @@ use extensions::one_pass;
 
 // Whether each is an extension, whether one is critical, whether an OID stands twice, and whether
 // authorityKeyIdentifier and cRLNumber are there.
-#[derive(Drop)]
+#[derive(Clone, Copy)]
 pub struct Own {
     pub shaped: bool,
     pub marked: bool,

@@ -12,7 +12,7 @@ use names::{Letters, letters_of};
 use times::{Time, in_order, time_of};
 
 // What several rules and the answer read, each once.
-#[derive(Drop)]
+#[derive(Clone, Copy)]
 pub struct Readings {
     pub current: Time,
     pub coming: Time,

@@ -9,7 +9,7 @@ use names::{Name, Seen, name_of};
 use times::time_at;
 
 // Whether the entry list is there, where its contents start and end, and the offset after it.
-#[derive(Drop)]
+#[derive(Clone, Copy)]
 pub struct Listing {
     pub there: bool,
     pub from: usize,
@@ -18,7 +18,7 @@ pub struct Listing {
 }
 
 // The parts that the other rules read, and what was found of all the entries.
-#[derive(Drop)]
+#[derive(Clone, Copy)]
 pub struct Layout {
     pub version: Element,
     pub inner: Element,
@@ -34,14 +34,14 @@ pub struct Layout {
     pub calm: bool,
 }
 
-#[derive(Drop)]
+#[derive(Clone, Copy)]
 pub enum Shape {
     Parts(Layout),
     Broken,
 }
 
 // The first members of the tbs.
-#[derive(Drop)]
+#[derive(Clone, Copy)]
 pub enum Front {
     Opens {
         version: Element,

@@ -5,7 +5,7 @@ ghost use Rattle.der.specs.Forms.{Forms};
 ghost use Rattle.der.specs.Heading.{identifier_good, within, long, sized, wide_heading, heading_of};
 
 // The element at the front of some octets: its identifier, the octets of its header and of its contents.
-#[derive(Drop)]
+#[derive(Clone, Copy)]
 pub enum Heading {
     Header {
         tag: usize,

@@ -1,4 +1,6 @@
 // Bytes as DER: the walk over an item's elements, an INTEGER as a number, and the steps through members.
+#![tactic(auto)]
+
 mod contents;
 mod fast;
 mod heading;

@@ -8,7 +8,7 @@ use crate::heading::{Heading, header};
 use crate::walking::{Walked, walk};
 use refusal::Refusal;
 
-#[derive(Drop)]
+#[derive(Clone, Copy)]
 pub enum Number {
     Value(i64),
     Refused(Refusal),

@@ -6,7 +6,7 @@ ghost use Rattle.der.specs.Member.{member_of};
 use crate::heading::{Heading, header};
 
 // An element by its identifier, the offset of its contents and the offset after it.
-#[derive(Drop)]
+#[derive(Clone, Copy)]
 pub enum Step {
     At {
         tag: usize,

@@ -12,14 +12,14 @@ use crate::order::fallen;
 use refusal::Refusal;
 
 // The count of elements read, at most 4,096, or the first fault.
-#[derive(Drop)]
+#[derive(Clone, Copy)]
 pub enum Walked {
     Passed { count: usize },
     Refused(Refusal),
 }
 
 // An element that was read: the octets that it takes, and the count of elements after it.
-#[derive(Drop)]
+#[derive(Clone, Copy)]
 pub enum Read {
     Past { used: usize, count: usize },
     Fault(Refusal),

@@ -10,7 +10,7 @@ use der::{Step, member};
 use octets::{between, part, same};
 
 // An element by its identifier and three offsets: of its first octet, of its contents, and after it.
-#[derive(Drop)]
+#[derive(Clone, Copy)]
 pub struct Element {
     pub tag: usize,
     pub at: usize,
@@ -18,7 +18,7 @@ pub struct Element {
     pub end: usize,
 }
 
-#[derive(Drop)]
+#[derive(Clone, Copy)]
 pub enum Found {
     One(Element),
     Missing,

@@ -6,7 +6,7 @@ ghost use Rattle.elements.specs.Envelope.{envelope_of};
 use crate::elements::{Element, Found, any_tagged, element_tagged};
 
 // The part that is signed, and the algorithm that stands after it.
-#[derive(Drop)]
+#[derive(Clone, Copy)]
 pub enum Envelope {
     Parts { tbs: Element, algorithm: Element },
     Formless,

@@ -1,4 +1,6 @@
 // The elements that stand in a walked item: found by offset and tag, compared, and the steps that shapes take.
+#![tactic(auto)]
+
 mod elements;
 mod envelopes;
 mod short;

@@ -1,4 +1,6 @@
 // Extensions: what one pass tells of all of them.
+#![tactic(auto)]
+
 mod fast;
 mod marks;
 mod members;
@@ -22,7 +24,7 @@ pub use told::is_there;
 use told::{held_of, is_critical, unusual};
 use twice::doubled;
 
-#[derive(Drop)]
+#[derive(Clone, Copy)]
 pub enum Extension {
     Is {
         oid: Element,
@@ -33,7 +35,7 @@ pub enum Extension {
 }
 
 // Of an extension: whether it is there, whether it is critical, and where the contents of its value start and end.
-#[derive(Drop)]
+#[derive(Clone, Copy)]
 pub struct Held {
     pub there: bool,
     pub start: usize,
@@ -45,7 +47,7 @@ pub struct Held {
 // keyUsage and basicConstraints is; whether an OID stands twice; and what the first extension with each slot's OID holds:
 // 2.5.29.14 to 2.5.29.35 in slots 0 to 21, the document type list in slot 22. The slots come first: behind the flags they
 // would be copied twice.
-#[derive(Drop)]
+#[derive(Clone, Copy)]
 pub struct Overview {
     pub slots: [Held; 23],
     pub shaped: bool,
@@ -107,7 +109,7 @@ pub fn one_pass(item: &[u8], extensions: Element) -> Overview
 }
 
 // The member of a list that starts at an offset: whether there is one, the offset after it, and the extension that it is.
-#[derive(Drop)]
+#[derive(Clone, Copy)]
 pub struct Met {
     pub found: bool,
     pub next: usize,

@@ -8,7 +8,7 @@ use crate::shape::any_extension;
 use crate::told::{is_critical, is_there};
 use elements::{Element, Found, element_at};
 
-#[derive(Drop)]
+#[derive(Clone, Copy)]
 pub struct Outline {
     pub shaped: bool,
     pub marked: bool,

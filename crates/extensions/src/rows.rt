@@ -8,7 +8,7 @@ use elements::{Element, contents};
 use octets::{between, part, same};
 
 // An OID: the number of its last eight octets, of its first eight, and where it starts and ends.
-#[derive(Drop)]
+#[derive(Clone, Copy)]
 pub struct Row {
     pub last: u64,
     pub first: u64,

@@ -9,7 +9,7 @@ use crate::slot::{slot_by, slot_of};
 use elements::{Element, Found, element_at, short_end};
 
 // An extension whose OID has no slot: its offset, the offset after it, and its OID.
-#[derive(Drop)]
+#[derive(Clone, Copy)]
 pub enum Stranger {
     At {
         place: usize,

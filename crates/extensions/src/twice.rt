@@ -21,7 +21,7 @@ pub(crate) fn doubled(item: &[u8], extensions: Element) -> bool
 }
 
 // Of a round: whether an OID stands twice, and the offset of the first extension that the table had no room for.
-#[derive(Drop)]
+#[derive(Clone, Copy)]
 pub struct Round {
     pub twice: bool,
     pub rest: usize,

@@ -1,4 +1,6 @@
 // The trust image: its entries and day, one entry, the bytes of an item.
+#![tactic(auto)]
+
 ghost use Rattle.std.specs.Prelude.{◌≡◌, cond, ℕ, ◌+◌, ◌*◌, ◌^◌, ◌≤◌, ◌<◌, leb, eqb, length, get_or, take, drop};
 ghost use Rattle.octets.specs.Octets.{number};
 ghost use Rattle.image.specs.Index.{field, index_start, width, letter_at, entry_at, entry_of};
@@ -13,7 +15,7 @@ use refusal::Refusal;
 const LEAST: usize = 8;
 
 // The number of entries, the day and the version of a good image.
-#[derive(Drop)]
+#[derive(Clone, Copy)]
 pub enum Opened {
     Image {
         entries: usize,
@@ -25,7 +27,7 @@ pub enum Opened {
 
 // Kind 1 anchor, 2 link, 3 document signer, 4 CRL; flags 1 for an enabled anchor; where the item stands; the letters of its
 // issuer's country, as the index tells them, zeros in version 1.
-#[derive(Drop)]
+#[derive(Clone, Copy)]
 pub struct IndexEntry {
     pub kind: usize,
     pub flags: usize,
@@ -35,14 +37,14 @@ pub struct IndexEntry {
     pub second: u8,
 }
 
-#[derive(Drop)]
+#[derive(Clone, Copy)]
 pub enum Place {
     Is(IndexEntry),
     Refused(Refusal),
 }
 
 // The sum of the lengths, where each entry is good.
-#[derive(Drop)]
+#[derive(Clone, Copy)]
 pub enum Total {
     Sum(usize),
     Unfit,

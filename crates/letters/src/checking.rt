@@ -9,7 +9,7 @@ use image::{Opened, entry_of, open_as};
 use octets::part;
 use refusal::Refusal;
 
-#[derive(Drop)]
+#[derive(Clone, Copy)]
 pub enum Checked {
     Told(bool),
     Refused(Refusal),

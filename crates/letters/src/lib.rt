@@ -1,4 +1,6 @@
 // The true letters of items, and whether an image's are the true ones.
+#![tactic(auto)]
+
 mod checking;
 mod telling;
 

@@ -6,7 +6,7 @@ ghost use Rattle.crl.specs.Answer as lists;
 ghost use Rattle.letters.specs.TrueLetters.{of_certificate, of_list, true_of, spells};
 
 // The letters of an issuer's country, or two zeros.
-#[derive(Drop)]
+#[derive(Clone, Copy)]
 pub struct Country {
     pub first: u8,
     pub second: u8,

@@ -8,7 +8,7 @@ use image::entry_of;
 use letters::{Country, true_letters};
 use octets::part;
 
-#[derive(Drop)]
+#[derive(Clone, Copy)]
 pub(crate) struct Columns {
     pub kinds: [u8; 96],
     pub flags: [u8; 96],

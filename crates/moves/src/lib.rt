@@ -1,4 +1,6 @@
 // Moving an image from version 1 to version 2, and back.
+#![tactic(auto)]
+
 mod columns;
 mod moving;
 

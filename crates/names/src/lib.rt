@@ -1,4 +1,6 @@
 // Names, and the countryName in one.
+#![tactic(auto)]
+
 mod country;
 mod fast;
 
@@ -11,7 +13,7 @@ use elements::{Element, Found, contents, element_at, element_tagged, holds};
 use fast::{country_set, other_set};
 
 // The value of a countryName, another attribute, or what is none.
-#[derive(Drop)]
+#[derive(Clone, Copy)]
 pub enum Attribute {
     Country(Element),
     Other,
@@ -19,7 +21,7 @@ pub enum Attribute {
 }
 
 // How often a countryName was seen.
-#[derive(Drop)]
+#[derive(Clone, Copy)]
 pub enum Seen {
     Never,
     Once(Element),
@@ -27,14 +29,14 @@ pub enum Seen {
 }
 
 // What a name holds of countryNames, or that it has not the shape of a name.
-#[derive(Drop)]
+#[derive(Clone, Copy)]
 pub enum Name {
     Holds(Seen),
     Shapeless,
 }
 
 // Two letters A to Z, or no such country.
-#[derive(Drop)]
+#[derive(Clone, Copy)]
 pub enum Letters {
     Two { first: u8, second: u8 },
     Unfit,

@@ -1,4 +1,6 @@
 // What is about octets alone: equal strings of them, parts, one octet of a table.
+#![tactic(auto)]
+
 mod equality;
 mod parts;
 

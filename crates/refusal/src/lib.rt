@@ -1,8 +1,10 @@
 // The refusals of the rules paper: what a call answers when it does not pass.
+#![tactic(auto)]
+
 ghost use Rattle.std.specs.Prelude.{◌≡◌};
 ghost use Rattle.refusal.specs.Numbers.{number_of, detail_of};
 
-#[derive(Drop)]
+#[derive(Clone, Copy)]
 pub enum Refusal {
     // An argument is outside its stated range.
     Argument,

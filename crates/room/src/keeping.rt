@@ -10,7 +10,7 @@ use image::entry_of;
 use octets::part;
 
 // How many items stay, and their places in the first slots.
-#[derive(Drop)]
+#[derive(Clone, Copy)]
 pub(crate) struct Kept {
     pub count: usize,
     pub places: [u8; 96],

@@ -1,4 +1,6 @@
 // An image without what is past, and its verdict table cut to match.
+#![tactic(auto)]
+
 mod cutting;
 mod keeping;
 
@@ -17,7 +19,7 @@ use usable::table_good;
 use writer::{Written, write_places};
 
 // The lengths of both outputs, and how many items stay.
-#[derive(Drop)]
+#[derive(Clone, Copy)]
 pub enum Made {
     Image {
         length: usize,

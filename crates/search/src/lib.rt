@@ -1,5 +1,7 @@
 // The best chain over the tables of opened items, by a queue. Names and keys of two places are compared only where the second is not
 // found yet.
+#![tactic(auto)]
+
 mod all;
 
 ghost use Rattle.std.specs.Prelude.{◌≡◌, Bool, ◌++◌, ℕ, ◌+◌, ◌-◌, ◌<◌, ◌≤◌, length, replicate};
@@ -17,7 +19,7 @@ use usable::{leads, matched};
 
 // What a search has found of each place: where the first of the paths to it comes from, 255 where no path reaches it, and its
 // distance, how many places that path has.
-#[derive(Drop)]
+#[derive(Clone, Copy)]
 struct Marks {
     parent: [u8; 96],
     distance: [u8; 96],

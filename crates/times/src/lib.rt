@@ -1,4 +1,6 @@
 // Times, as numbers YYYYMMDDHHMMSS.
+#![tactic(auto)]
+
 ghost use Rattle.std.specs.Prelude.{◌≡◌, ◌≤◌, length};
 ghost use Rattle.der.specs.Forms.{paper};
 ghost use Rattle.times.specs.Times.{figures, real_number, time_of, moment_of, in_order, time_at};
@@ -7,7 +9,7 @@ ghost use Rattle.times.specs.Pairs.{Pair, YearOf};
 use calendar::month_length;
 use elements::{Element, Found, contents, element_tagged};
 
-#[derive(Drop)]
+#[derive(Clone, Copy)]
 pub enum Time {
     Moment(u64),
     Untimely,

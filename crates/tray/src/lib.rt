@@ -1,4 +1,6 @@
 // Replay of a tray log: which records of the night were faulty.
+#![tactic(auto)]
+
 ghost use Rattle.std.specs.Prelude.{◌≡◌, true, cond, ◌&&◌, ◌+◌, ◌^◌, ◌≤◌, ◌<◌, eqb, leb, length, get_or, take, drop};
 ghost use Rattle.octets.specs.Octets.{number};
 ghost use Rattle.calendar.specs.Days.{real_day};
@@ -11,7 +13,7 @@ use calendar::real_day;
 use refusal::Refusal;
 
 // How many records are faulty, or why there is no answer.
-#[derive(Drop)]
+#[derive(Clone, Copy)]
 pub enum Replayed {
     Faulty(usize),
     Refused(Refusal),

@@ -1,1 +1,2 @@
 // What more trust can do, and what a longer list can. Theorems alone.
+#![tactic(auto)]

@@ -1,5 +1,7 @@
 // Which items may stand in a chain at a moment, place by place: the rows of opened items, the CRLs that count, the roles of places
 // and the steps that fit. The items of all places stand in some octets, wherever that is; a row tells where its item does.
+#![tactic(auto)]
+
 mod certificates;
 mod counting;
 mod countries;

@@ -5,7 +5,7 @@ ghost use Rattle.usable.specs.Rows.{row_at};
 // Standing: 1 a usable anchor, 2 a link, 3 a signer and 4 a CRL that pass and are within their times, else 0. Then the letters,
 // where the item stands in the octets of all items, and where its parts stand in the item: the issuer, the stretch of a CRL's
 // entries, and those of a certificate. A table of rows holds the numbers of each, in this order; an item that cannot stand in a chain has 0s.
-#[derive(Drop)]
+#[derive(Clone, Copy)]
 pub struct Row {
     pub standing: usize,
     pub first: usize,

@@ -6,7 +6,7 @@ ghost use Rattle.vrbolist.specs.Told.{certificate_passed, certificate_told};
 use certificate::{Fields, Judged};
 
 #[repr(C)]
-#[derive(Drop)]
+#[derive(Clone, Copy)]
 pub struct CertificateAnswer {
     pub number: u64,
     pub detail: u64,

@@ -5,7 +5,7 @@ ghost use Rattle.vrbolist.specs.Chains.{chain_told, Forwarded};
 use chain::{Answer, Outcome};
 
 #[repr(C)]
-#[derive(Drop)]
+#[derive(Clone, Copy)]
 pub struct ChainAnswer {
     pub number: u64,
     pub detail: u64,

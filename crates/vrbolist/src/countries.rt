@@ -6,7 +6,7 @@ ghost use Rattle.vrbolist.specs.Anchors.{anchors_told};
 use anchors::{Listing, Outcome};
 
 #[repr(C)]
-#[derive(Drop)]
+#[derive(Clone, Copy)]
 pub struct AnchorsAnswer {
     pub number: u64,
     pub detail: u64,

@@ -8,7 +8,7 @@ use image::{Opened, Place};
 use writer::Written;
 
 #[repr(C)]
-#[derive(Drop)]
+#[derive(Clone, Copy)]
 pub struct ImageAnswer {
     pub number: u64,
     pub detail: u64,
@@ -18,7 +18,7 @@ pub struct ImageAnswer {
 }
 
 #[repr(C)]
-#[derive(Drop)]
+#[derive(Clone, Copy)]
 pub struct EntryAnswer {
     pub number: u64,
     pub detail: u64,
@@ -30,7 +30,7 @@ pub struct EntryAnswer {
 }
 
 #[repr(C)]
-#[derive(Drop)]
+#[derive(Clone, Copy)]
 pub struct WriteAnswer {
     pub number: u64,
     pub detail: u64,

@@ -12,7 +12,7 @@ use der::{Number, Walked};
 
 // In every answer `number` is 0 for a pass, else the refusal's, and `detail` what it tells beside.
 #[repr(C)]
-#[derive(Drop)]
+#[derive(Clone, Copy)]
 pub struct WalkAnswer {
     pub number: u64,
     pub detail: u64,
@@ -20,7 +20,7 @@ pub struct WalkAnswer {
 }
 
 #[repr(C)]
-#[derive(Drop)]
+#[derive(Clone, Copy)]
 pub struct IntegerAnswer {
     pub number: u64,
     pub detail: u64,
@@ -28,7 +28,7 @@ pub struct IntegerAnswer {
 }
 
 #[repr(C)]
-#[derive(Drop)]
+#[derive(Clone, Copy)]
 pub struct DaysAnswer {
     pub number: u64,
     pub detail: u64,

@@ -1,4 +1,6 @@
 // The C interface: each function forwards one question and takes its answer apart. No rule stands here.
+#![tactic(auto)]
+
 mod certificates;
 mod chains;
 mod countries;

@@ -7,7 +7,7 @@ ghost use Rattle.vrbolist.specs.Told.{crl_passed, crl_told};
 use crl::{Fields, Judged};
 
 #[repr(C)]
-#[derive(Drop)]
+#[derive(Clone, Copy)]
 pub struct CrlAnswer {
     pub number: u64,
     pub detail: u64,

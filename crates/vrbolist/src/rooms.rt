@@ -6,7 +6,7 @@ ghost use Rattle.vrbolist.specs.Rooms.{room_told};
 use room::Made;
 
 #[repr(C)]
-#[derive(Drop)]
+#[derive(Clone, Copy)]
 pub struct RoomAnswer {
     pub number: u64,
     pub detail: u64,

@@ -4,7 +4,7 @@ ghost use Rattle.vrbolist.specs.Signers.{AllForwarded};
 use chain::Signers;
 
 #[repr(C)]
-#[derive(Drop)]
+#[derive(Clone, Copy)]
 pub struct SignersAnswer {
     pub number: u64,
     pub detail: u64,

@@ -6,7 +6,7 @@ ghost use Rattle.vrbolist.specs.Told.{replay_told};
 use tray::Replayed;
 
 #[repr(C)]
-#[derive(Drop)]
+#[derive(Clone, Copy)]
 pub struct ReplayAnswer {
     pub number: u64,
     pub detail: u64,

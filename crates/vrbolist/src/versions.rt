@@ -8,7 +8,7 @@ use crate::images::{WriteAnswer, write_told};
 use letters::Checked;
 
 #[repr(C)]
-#[derive(Drop)]
+#[derive(Clone, Copy)]
 pub struct LettersAnswer {
     pub number: u64,
     pub detail: u64,

@@ -1,4 +1,6 @@
 // Writing a trust image.
+#![tactic(auto)]
+
 mod copying;
 mod picking;
 
@@ -16,7 +18,7 @@ pub use picking::write_places;
 use refusal::Refusal;
 
 // The length of the image that was written.
-#[derive(Drop)]
+#[derive(Clone, Copy)]
 pub enum Written {
     Length(usize),
     Refused(Refusal),
