@@ -4,7 +4,6 @@ use mathlib.Core.Bool.{true, false, cond}
 use Prim.Native.Nat.{ℕ, ◌+◌, ◌<◌, ◌^◌}
 use native.Mathlib.Omega.{arith}
 use lib.IntN.{pos, ◌-ℤ◌}
-use borrow.Author.Rules.{rules}
 use mir.Syntax.{w64}
 use mir.ValLaws.{to_z_pos, to_z-of_z}
 use Rattle.calendar.specs.Days.{real_day}
@@ -15,8 +14,8 @@ use Rattle.calendar.proofs.Days.{by-test, real}
 use Rattle.calendar.proofs.Number.{number-most}
 use Rattle.calendar.proofs.Signed.{fits, both-more}
 use Rattle.calendar.proofs.Between.{answer}
-use Rattle.calendar.proofs.day_difference.Statement.{statement}
-use Rattle.calendar.proofs.day_difference.Tie as tie
+use Rattle.calendar.proofs.day_difference.Goals as goal
+use Rattle.calendar.proofs.day_difference.Goals.{Else-to-eq0}
 
 -- what `ordinal` tells of a day
 module _ (day n : ℕ) (told : n ≡ cond (real_day 1950 2099 day) (day_number day + 1) 0) where
@@ -46,41 +45,36 @@ between a b n m p q some more =
     rw (counted a n p some, counted b m q more)
     (ap Days (both-more (day_number b) (day_number a)) ∙ sym (answer a b (is_real a n p some) (is_real b m q more)))
 
-returns : tie.Need-returns
-unfolding difference_of
-returns c = simp (refused _ _ c.before.ordinal.ensures c.if1.true)
+from-small : (c : Else-to-eq0) → c.ordinal-from.result < 2 ^ 63
+from-small c = small _ _ c.ordinal-from.ensures
 
-returns-2 : tie.Need-returns-2
+to-small : (c : Else-to-eq0) → c.ordinal-to.result < 2 ^ 63
+to-small c = small _ _ c.ordinal-to.ensures
+
+pub returns-then-from-eq0 : goal.returns-then-from-eq0
 unfolding difference_of
-returns-2 c =
+returns-then-from-eq0 c = simp (refused _ _ c.ordinal-from.ensures c.if-from-eq0.true)
+
+pub returns-then-to-eq0 : goal.returns-then-to-eq0
+unfolding difference_of
+returns-then-to-eq0 c =
     simp (
-      is_real _ _ c.before.before.before.ordinal.ensures c.before.before.if1.false,
-      refused _ _ c.before.ordinal2.ensures c.if2.true,
+      is_real _ _ c.ordinal-from.ensures c.if-from-eq0.false,
+      refused _ _ c.ordinal-to.ensures c.if-to-eq0.true,
     )
 
-from-small : (c : tie.Else2) → c.before.before.before.ordinal.result < 2 ^ 63
-from-small c = small _ _ c.before.before.before.ordinal.ensures
+pub overflow_cast-result : goal.overflow_cast-result
+overflow_cast-result c = omega (arith, to-small (goal.at.overflow_cast-result c).Else-to-eq0)
 
-to-small : (c : tie.Else2) → c.before.ordinal2.result < 2 ^ 63
-to-small c = small _ _ c.before.ordinal2.ensures
+pub overflow_cast-result-2 : goal.overflow_cast-result-2
+overflow_cast-result-2 c = omega (arith, from-small (goal.at.overflow_cast-result-2 c).Else-to-eq0)
 
-cast-t8 : tie.Need-overflow-cast-t8
-cast-t8 c = omega (arith, to-small c)
+pub overflow_sub-result : goal.overflow_sub-result
+overflow_sub-result c = fits _ _ (to-small (goal.at.overflow_sub-result c).Else-to-eq0) (from-small (goal.at.overflow_sub-result c).Else-to-eq0)
 
-cast-t9 : tie.Need-overflow-cast-t9
-cast-t9 c = omega (arith, from-small c)
-
-sub-t10 : tie.Need-overflow-sub-t10
-sub-t10 c = fits _ _ (to-small c) (from-small c)
-
-returns-3 : tie.Need-returns-3
-returns-3 c =
+pub returns : goal.returns
+returns c =
     ap Days (to_z-of_z w64 _ (sub-t10 c))
-    ∙ rw (to_z_pos w64 _ (to-small c), to_z_pos w64 _ (from-small c))
-    (between _ _ _ _ c.before.before.before.ordinal.ensures c.before.ordinal2.ensures
-    c.before.before.if1.false c.if2.false)
-
-pub day-difference-spec : {M : Type 1} → statement M
-day-difference-spec =
-    tie.close
-    (tie.spec (λ c κs. search rules) returns (λ c κs. search rules) returns-2 cast-t8 cast-t9 sub-t10 returns-3)
+    ∙ rw (to_z_pos w64 _ (to-small (goal.at.returns c).Else-to-eq0), to_z_pos w64 _ (from-small (goal.at.returns c).Else-to-eq0))
+    (between _ _ _ _ c.ordinal-from.ensures c.ordinal-to.ensures
+    c.if-from-eq0.false c.if-to-eq0.false)

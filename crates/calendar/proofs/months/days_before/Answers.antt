@@ -4,12 +4,10 @@ use mathlib.Core.List.{List, []}
 use Prim.Native.Nat.{ℕ, ◌+◌, ◌-◌, ◌*◌, ◌/◌, ◌%◌, ◌^◌, ◌≤◌}
 use native.Mathlib.Omega.{arith}
 use lib.ListN.{get_or}
-use borrow.Author.Rules.{rules}
 use Rattle.calendar.specs.Number.{days_of_years, days_of_months}
 use Rattle.calendar.specs.Table.{entry_of, rows}
 use Rattle.calendar.proofs.Table.{carried}
-use Rattle.calendar.proofs.months.days_before.Statement.{statement}
-use Rattle.calendar.proofs.months.days_before.Tie as tie
+use Rattle.calendar.proofs.months.days_before.Goals as goal
 
 -- the place of a month, counted from 1
 entry : (row : List ℕ) (month : ℕ) → 1 ≤ month → month ≤ 12
@@ -19,25 +17,13 @@ entry row month low high =
     let place : 12 - month ≡ 11 - (month - 1) = omega arith in
     ap (λ (n : ℕ). get_or row ((month - 1) / 4) 0 / 2 ^ (n % 4 * 16) % 65536) place
 
-returns : tie.Need-returns
+pub returns : goal.returns
 returns c =
-    let start = c.before.before in
-    let y = start.args.year in
-    let month = start.args.month in
-    let year : 1950 + (y - 1950) ≡ y = omega (arith, start.requires) in
+    let y = c.args.year in
+    let month = c.args.month in
+    let year : 1950 + (y - 1950) ≡ y = omega (arith, c.requires) in
     ap (λ (n : ℕ). n / 2 ^ ((12 - month) % 4 * 16) % 65536)
-    (c.third.ensures ∙ ap (λ (row : List ℕ). get_or row ((month - 1) / 4) 0) c.before.row.ensures)
-    ∙ entry (get_or rows (y - 1950) []) month (omega (arith, start.requires)) (omega (arith, start.requires))
-    ∙ carried (y - 1950) (month - 1) (omega (arith, start.requires)) (omega (arith, start.requires))
+    (c.third.ensures ∙ ap (λ (row : List ℕ). get_or row ((month - 1) / 4) 0) c.row.ensures)
+    ∙ entry (get_or rows (y - 1950) []) month (omega (arith, c.requires)) (omega (arith, c.requires))
+    ∙ carried (y - 1950) (month - 1) (omega (arith, c.requires)) (omega (arith, c.requires))
     ∙ ap (λ (n : ℕ). days_of_years (y - 1950) + days_of_months n (month - 1)) year
-
-pub days-before-spec : {M : Type 1} → statement M
-days-before-spec =
-    tie.close
-    (tie.spec
-    (λ c κs. search rules)
-    (λ c κs. search rules)
-    (λ c. search rules)
-    (λ c. search rules)
-    (λ c. search rules)
-    returns)
