@@ -74,7 +74,7 @@ overflow_sub-result c = fits _ _ (to-small (goal.at.overflow_sub-result c).Else-
 
 pub returns : goal.returns
 returns c =
-    ap Days (to_z-of_z w64 _ (sub-t10 c))
+    ap Days (to_z-of_z w64 _ (fits _ _ (to-small (goal.at.returns c).Else-to-eq0) (from-small (goal.at.returns c).Else-to-eq0)))
     ∙ rw (to_z_pos w64 _ (to-small (goal.at.returns c).Else-to-eq0), to_z_pos w64 _ (from-small (goal.at.returns c).Else-to-eq0))
     (between _ _ _ _ c.ordinal-from.ensures c.ordinal-to.ensures
     c.if-from-eq0.false c.if-to-eq0.false)

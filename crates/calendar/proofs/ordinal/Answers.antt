@@ -23,7 +23,7 @@ unfolding day_number
 number c =
     let year = year_of c.args.day in
     let month = ap (λ (m : ℕ). days_of_years (year - 1950) + days_of_months year (m - 1)) c.month_of.ensures in
-    omega (arith, c.days_before.ensures ∙ month, known c)
+    omega (arith, c.days_before.ensures ∙ month, known c.before.before)
 
 pub returns-then-not-real_day : goal.returns-then-not-real_day
 returns-then-not-real_day c = simp (sym c.real_day.ensures ∙ c.if-not-real_day.true)
