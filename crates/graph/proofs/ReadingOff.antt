@@ -1,16 +1,16 @@
 -- Along the ways from outside, always to the first place: of all walks of as many places that keep to the ways none comes before
 -- this one, and the first walk to the target keeps to them, so at the target it is this one.
-use Prim.Native.Nat.{ℕ, zero, suc, ◌+◌, ◌-◌, ◌*◌, ◌<◌, ◌≤◌}
-use mathlib.Core.Path.{◌≡◌, refl, sym, ap, subst, ◌∙◌}
+use Prim.Native.Nat.{ℕ, zero, suc, ◌+◌, ◌-◌, ◌<◌, ◌≤◌}
+use mathlib.Core.Path.{◌≡◌, refl, sym, ap, ◌∙◌}
 use mathlib.Core.Bool.{Bool, true}
 use mathlib.Core.List.{List, [], ◌∷◌, ◌++◌}
 use mathlib.Core.Logic.{◌⊎◌, inl, inr, ⊎_elim}
 use native.Mathlib.Omega.{arith}
 use lib.ListN.{length, get_or, set, replicate, length-append}
 use lib.Seq.{append_snoc, set_at}
-use Rattle.graph.specs.Search.{rank, Reached, Seen, outside, place, distance_of, Walk, begun, gone, Searched}
+use Rattle.graph.specs.Search.{rank, Reached, Seen, distance_of, Walk, begun, gone, Searched}
 use Rattle.graph.specs.Rounds.{RoundTable, Onto, there, by, Back, Next}
-use Rattle.graph.proofs.Cases.{same?, less?}
+use Rattle.graph.proofs.Cases.{less?}
 use Rattle.graph.proofs.Ranks.{rank-snoc, rank-shorter}
 use Rattle.graph.proofs.RoundPaths.{walk-far}
 use Rattle.graph.proofs.Walks.{distance-outside, distance-place, seen_by, longer-by-one, walk_end, walk-small}

@@ -1,7 +1,7 @@
 -- The distances make a path to each place that is marked: back from a place, of those one nearer that lead to it, always the one
 -- whose path is the least number. Then no walk is a smaller number: one that is no longer than the distance goes by such places, and
 -- a longer one is larger.
-use Prim.Native.Nat.{ℕ, zero, suc, ◌+◌, ◌<◌, ◌≤◌}
+use Prim.Native.Nat.{ℕ, zero, suc, ◌<◌, ◌≤◌}
 use mathlib.Core.Path.{◌≡◌, refl, sym, ◌∙◌}
 use mathlib.Core.Bool.{Bool, true, false, cond}
 use mathlib.Core.List.{List, [], ◌∷◌, ◌++◌}

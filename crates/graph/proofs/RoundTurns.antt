@@ -1,14 +1,14 @@
 -- One turn of the search by rounds keeps what it knows: a step that is tried leads to a place that is marked already, and then no
 -- further than this round marks, or to one that is marked now; and a round that marks nothing has left no step.
 use Prim.Native.Nat.{ℕ, ◌+◌, ◌*◌, ◌<◌, ◌≤◌}
-use mathlib.Core.Path.{◌≡◌, refl, sym, ◌∙◌}
+use mathlib.Core.Path.{◌≡◌, sym, ◌∙◌}
 use mathlib.Core.Bool.{Bool, true, false}
 use mathlib.Core.List.{List}
 use mathlib.Core.Logic.{◌⊎◌, inl, inr, ⊎_elim}
 use native.Mathlib.Omega.{arith}
-use lib.ListN.{length, get_or, set, replicate, length-set, length-replicate, get_or-replicate}
+use lib.ListN.{get_or, set, replicate, length-set, length-replicate, get_or-replicate}
 use lib.Seq.{get_or-set_same, get_or-set_other}
-use Rattle.graph.specs.Search.{filled, Reached, Seen, outside, place, distance_of}
+use Rattle.graph.specs.Search.{Reached, Seen, outside, place, distance_of}
 use Rattle.graph.specs.Rounds.{Nearer, InRound, RoundTable}
 use Rattle.graph.proofs.Cases.{same?, less?, clash}
 use Rattle.graph.proofs.Slots.{filled-le, filled-set}

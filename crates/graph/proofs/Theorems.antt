@@ -11,12 +11,20 @@ use Rattle.graph.specs.Answer.{Answered, found, none}
 use Rattle.graph.proofs.Places.{two-places}
 
 -- of two chains neither of which comes later, both are one
-same-chain : {c d : List ℕ} → NotLater c d → NotLater d c → c ≡ d
-same-chain done done = refl
-same-chain (less h) (less k) = absurd (omega arith)
-same-chain (less h) (same m) = absurd (omega arith)
-same-chain (same l) (less k) = absurd (omega arith)
-same-chain (same {a = a} l) (same m) = ap (◌∷◌ a) (same-chain l m)
+same-chain : {c d e f : List ℕ} → NotLater c d → NotLater e f → d ≡ e → f ≡ c → c ≡ d
+same-chain done done p q = refl
+same-chain done (less k) p q = cc
+same-chain done (same m) p q = cc
+same-chain (less h) done p q = cc
+same-chain (same l) done p q = cc
+same-chain (less {a = a} {b = b} h) (less {a = a'} {b = b'} k) p q =
+    let s : b ≡ a' = cc in let t : b' ≡ a = cc in absurd (omega arith)
+same-chain (less {a = a} {b = b} h) (same {a = a'} m) p q =
+    let s : b ≡ a' = cc in let t : a' ≡ a = cc in absurd (omega arith)
+same-chain (same {a = a} l) (less {a = a'} {b = b'} k) p q =
+    let s : a ≡ a' = cc in let t : b' ≡ a = cc in absurd (omega arith)
+same-chain (same {a = a} {p = x} {q = y} l) (same {a = a'} {p = x'} {q = y'} m) p q =
+    let s : y ≡ x' = cc in let t : y' ≡ x = cc in ap (◌∷◌ a) (same-chain l m s t)
 
 module _ {g : Graph} {t : ℕ} where
   -- two best chains are one
@@ -27,7 +35,7 @@ module _ {g : Graph} {t : ℕ} where
       go (inl h) (inl k) = absurd (omega arith)
       go (inl h) (inr k) = absurd (omega (arith, k.0))
       go (inr h) (inl k) = absurd (omega (arith, h.0))
-      go (inr h) (inr k) = same-chain h.1 k.1
+      go (inr h) (inr k) = same-chain h.1 k.1 refl refl
 
   -- no second answer fits
   pub one_answer : {r q : Found} → Answered g t r → Answered g t q → (r.length ≡ q.length) × (r.places ≡ q.places)

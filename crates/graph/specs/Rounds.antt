@@ -1,6 +1,6 @@
 -- What a search by rounds knows between two of its steps. Its table has the distance of each place, how many places the shortest
 -- path to it has, and 255 where no round has marked it; outside, which is n, has distance 0. No public promise cites this.
-use Rattle.std.specs.Prelude.{ℕ, ◌+◌, ◌*◌, ◌<◌, ◌≤◌, ◌≡◌, Bool, true, false, List, ◌⊎◌, length, get_or}
+use Rattle.std.specs.Prelude.{ℕ, ◌+◌, ◌*◌, ◌<◌, ◌≤◌, ◌≡◌, Bool, true, List, length, get_or}
 use Rattle.graph.specs.Search.{filled, Reached, Seen, distance_of}
 
 -- a good step to a place from one that is one nearer
