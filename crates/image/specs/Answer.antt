@@ -1,6 +1,5 @@
 -- What is answered of an image: 5 with the smallest rule broken, or its entries, day and version; an entry; for a wanted day.
 use Rattle.std.specs.Prelude.{ℕ, cond, List, [], ltb, eqb, take, drop}
-use Rattle.refusal.specs.declared.Refusal.{Refusal}
 use Rattle.refusal.specs.declared.Refusal.TheVariants as refusal
 use Rattle.refusal.specs.Rules.{first_broken}
 use Rattle.calendar.specs.Days.{real_day}

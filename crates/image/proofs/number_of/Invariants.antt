@@ -1,0 +1,12 @@
+-- After i octets the value is their number, and a number of four octets is below 2 to the power of 32.
+use Prim.Native.Nat.{◌-◌, ◌^◌, ◌≤◌, ◌<◌}
+use mathlib.Core.Path.{◌≡◌}
+use lib.ListN.{length, take}
+use Rattle.octets.specs.Octets.{number}
+use Rattle.image.proofs.number_of.Given as goal
+
+abbrev pub invariant-loop-i : goal.invariant-loop-i
+invariant-loop-i l = (l.i ≤ length l.c) × (l.value ≡ number (take l.i l.c)) × (l.value < 256 ^ l.i)
+
+abbrev pub decreases-loop-i : goal.decreases-loop-i
+decreases-loop-i l = length l.c - l.i
