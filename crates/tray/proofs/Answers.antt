@@ -1,11 +1,11 @@
 -- The answers of a replay, each from its case; numbers that are stored stand at the front, and there are no more of them than records.
 use Prim.Native.Nat.{ℕ, zero, suc, ◌+◌, ◌/◌, ◌%◌, ◌≤◌, ◌<◌}
-use mathlib.Core.Bool.{Bool, true, false}
+use mathlib.Core.Bool.{true, false}
 use mathlib.Core.Path.{◌≡◌, refl, ap, sym, ◌∙◌}
 use mathlib.Core.List.{List, [], ◌∷◌, ◌++◌}
 use native.Mathlib.Omega.{arith}
 use borrow.Author.Tests.{eq-eqb, ne_eqb, le-leb, lt-leb}
-use lib.ListN.{length, set, drop, length-append}
+use lib.ListN.{length, drop, length-append}
 use lib.Seq.{set_at, append_snoc}
 use Rattle.refusal.specs.declared.Refusal.TheVariants.{Argument, Short}
 use Rattle.calendar.proofs.Days.{by-test}

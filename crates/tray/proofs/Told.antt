@@ -1,12 +1,12 @@
 -- What a good record is, by its action: each of its tests holds.
-use Prim.Native.Nat.{ℕ, ◌≤◌}
+use Prim.Native.Nat.{◌≤◌}
 use mathlib.Core.Path.{◌≡◌, refl, sym}
-use mathlib.Core.Bool.{Bool, true, false, true≢false, cond, ◌&&◌, and-eq-true_iff}
+use mathlib.Core.Bool.{Bool, true, false, true≢false, cond, and-eq-true_iff}
 use lib.Dec.{eqb, leb}
 use lib.ListN.{get_or}
 use borrow.Author.Tests.{eq-eqb, ne_eqb, eqb-true, leb-true}
 use Rattle.calendar.specs.Days.{real_day}
-use Rattle.tray.specs.Machine.{Entry, State, opens, loads, burns, good_record}
+use Rattle.tray.specs.Machine.{Entry, State, opens, burns, good_record}
 
 cond_both : (a b : Bool) → cond a b false ≡ true → (a ≡ true) × (b ≡ true)
 cond_both true b e = (refl, e)

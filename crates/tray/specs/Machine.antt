@@ -1,5 +1,5 @@
 -- The plain machine of the bench: what a tray log does, one record at a time.
-use Rattle.std.specs.Prelude.{ℕ, ◌+◌, Bool, true, false, cond, ◌&&◌, List, [], ◌∷◌, eqb, leb, get_or, set, replicate}
+use Rattle.std.specs.Prelude.{ℕ, ◌+◌, Bool, false, cond, ◌&&◌, List, [], ◌∷◌, eqb, leb, get_or, set, replicate}
 use Rattle.calendar.specs.Days.{real_day}
 
 -- a record of the log: action (1 open a tray for a day, 2 load an image, 3 burn a unit), unit, the two zero bytes as a number, day
