@@ -1,26 +1,22 @@
 -- Elements with a length in the short form: leaves, lists of them, and the element that such a list fills.
-use Prim.Native.Nat.{ℕ, zero, suc, ◌+◌, ◌-◌, ◌*◌, ◌≤◌, ◌<◌}
+use Prim.Native.Nat.{ℕ, ◌+◌, ◌-◌, ◌*◌, ◌≤◌, ◌<◌}
 use mathlib.Core.Path.{◌≡◌, refl, sym, subst, ◌∙◌}
 use mathlib.Core.Bool.{Bool, true, false}
 use mathlib.Core.List.{List, []}
 use native.Mathlib.Omega.{arith}
-use borrow.Author.Tests.{eq-eqb, le-ltb}
-use lib.ListN.{length, get_or, take, drop, length-drop}
+use borrow.Author.Tests.{eq-eqb}
+use lib.ListN.{length, get_or, take, drop}
 use lib.Seq.{get_or-take, get_or-drop}
-use Rattle.refusal.specs.declared.Refusal.{Refusal}
-use Rattle.refusal.specs.declared.Refusal.TheVariants.{Der}
-use Rattle.der.specs.declared.heading.Heading.TheVariants.{Header, Bad}
-use Rattle.der.specs.declared.walking.Read.{Read}
-use Rattle.der.specs.declared.walking.Read.TheVariants.{Past, Fault}
-use Rattle.der.specs.declared.walking.Walked.TheVariants.{Passed, Refused}
+use Rattle.der.specs.declared.heading.Heading.TheVariants.{Header}
+use Rattle.der.specs.declared.walking.Walked.TheVariants.{Passed}
 use Rattle.der.specs.Forms.{Forms}
-use Rattle.der.specs.Heading.{identifier_good, wide_heading, heading_of, constructed}
+use Rattle.der.specs.Heading.{identifier_good, heading_of, constructed}
 use Rattle.der.specs.Contents.{boolean_good, integer_good, bit_string_good, oid_good, contents_good}
-use Rattle.der.specs.Order.{is_set, handed}
+use Rattle.der.specs.Order.{is_set}
 use Rattle.der.specs.Fast.{stretch, Reads, Fills, Last, Unjudged, Leaf}
-use Rattle.der.specs.Walk.{filled, element_at, list_at}
-use Rattle.der.proofs.Laws.{short-header, element-bad, list_done, list-more, list-fault}
-use Rattle.der.proofs.Bounds.{element-within, element-takes}
+use Rattle.der.specs.Walk.{filled}
+use Rattle.der.proofs.Laws.{short-header}
+use Rattle.der.proofs.Bounds.{element-within}
 use Rattle.der.proofs.Enough.{ListIs, leaf-is, node-is}
 use Rattle.der.proofs.Parts.{part_length, part-drop, part-inner, passes_none, passes-more, passes-one}
 

@@ -8,7 +8,6 @@ use native.Mathlib.Omega.{arith}
 use native.Mathlib.Nat.{add-zero, add_assoc}
 use lib.ListN.{length, get_or, take, drop, length-drop}
 use lib.Seq.{take_all, drop-drop, get_or-drop}
-use Rattle.refusal.specs.declared.Refusal.TheVariants.{Der}
 use Rattle.der.specs.declared.heading.Heading.TheVariants.{Header}
 use Rattle.der.specs.declared.walking.Read.{Read}
 use Rattle.der.specs.declared.walking.Read.TheVariants.{Past, Fault}

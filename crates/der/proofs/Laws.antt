@@ -1,6 +1,6 @@
 -- One law for each answer of the walk's definition: what the element and the list come to under the tests that lead there.
 use mathlib.Core.Path.{◌≡◌, refl}
-use mathlib.Core.Bool.{Bool, true, false, cond, ◌&&◌}
+use mathlib.Core.Bool.{Bool, true, false, ◌&&◌}
 use mathlib.Core.List.{List, []}
 use Prim.Native.Nat.{ℕ, suc, ◌+◌, ◌*◌, ◌≤◌, ◌<◌}
 use native.Mathlib.Omega.{arith}
@@ -9,9 +9,7 @@ use lib.ListN.{length, get_or, take, drop}
 use Rattle.refusal.specs.declared.Refusal.{Refusal}
 use Rattle.refusal.specs.declared.Refusal.TheVariants.{Der, Limit}
 use Rattle.der.specs.declared.heading.Heading.TheVariants.{Header, Bad}
-use Rattle.der.specs.declared.walking.Read.{Read}
 use Rattle.der.specs.declared.walking.Read.TheVariants.{Past, Fault}
-use Rattle.der.specs.declared.walking.Walked.{Walked}
 use Rattle.der.specs.declared.walking.Walked.TheVariants.{Passed, Refused}
 use Rattle.der.specs.Forms.{Forms}
 use Rattle.der.specs.Heading.{identifier_good, within, sized, heading_of, constructed}

@@ -1,6 +1,5 @@
 -- The walk: an element before its members, left to right, and the first fault met.
 use Rattle.std.specs.Prelude.{ℕ, zero, suc, ◌+◌, ◌*◌, Bool, cond, List, [], leb, ltb, eqb, length, get_or, take, drop}
-use Rattle.refusal.specs.declared.Refusal.{Refusal}
 use Rattle.refusal.specs.declared.Refusal.TheVariants.{Der, Limit}
 use Rattle.der.specs.declared.heading.Heading.{Heading}
 use Rattle.der.specs.declared.heading.Heading.TheVariants.{Header, Bad}

@@ -1,0 +1,65 @@
+-- A first octet that is neither 00 nor FF tells all; those two ask for the second octet.
+use Prim.Native.Nat.{ℕ, ◌<◌, ◌≤◌}
+use mathlib.Core.Bool.{true}
+use mathlib.Core.List.{List, [], ◌∷◌}
+use mathlib.Core.Path.{◌≡◌, refl}
+use native.Mathlib.Omega.{arith}
+use borrow.Author.Tests.{eq-eqb, ne_eqb}
+use lib.Dec.{eqb, leb, ltb}
+use lib.ListN.{length, get_or}
+use Rattle.der.specs.Contents.{integer_good}
+use Rattle.der.proofs.contents.integer_good.Goals as goal
+use Rattle.der.proofs.contents.integer_good.Goals.{then-first-gt0+else-first-lt255, else-first-gt0}
+
+short : (c : List ℕ) → length c < 2 → eqb (length c) 1 ≡ integer_good c
+unfolding integer_good
+short [] h = refl
+short (x ∷ []) h = refl
+short (x ∷ (y ∷ rest)) h = absurd (omega arith)
+
+module _ (c : List ℕ) (two : 2 ≤ length c) where
+  middle : 0 < get_or c 0 0 → get_or c 0 0 < 255 → true ≡ integer_good c
+  unfolding integer_good
+  middle h g =
+      simp (
+        ne_eqb (length c) 0 (λ e. omega arith),
+        ne_eqb (length c) 1 (λ e. omega arith),
+        ne_eqb (get_or c 0 0) 0 (λ e. omega arith),
+        ne_eqb (get_or c 0 0) 255 (λ e. omega arith),
+      )
+
+  zeros : get_or c 0 0 ≡ 0 → leb 128 (get_or c 1 0) ≡ integer_good c
+  unfolding integer_good
+  zeros h = simp (ne_eqb (length c) 0 (λ e. omega arith), ne_eqb (length c) 1 (λ e. omega arith), eq-eqb (get_or c 0 0) 0 h)
+
+  ones : get_or c 0 0 ≡ 255 → ltb (get_or c 1 0) 128 ≡ integer_good c
+  unfolding integer_good
+  ones h =
+      simp (
+        ne_eqb (length c) 0 (λ e. omega arith),
+        ne_eqb (length c) 1 (λ e. omega arith),
+        ne_eqb (get_or c 0 0) 0 (λ e. omega arith),
+        eq-eqb (get_or c 0 0) 255 h,
+      )
+
+pub returns-then-c-lt2 : goal.returns-then-c-lt2
+returns-then-c-lt2 c = short c.args.c.now c.if-c-lt2.true
+
+pub returns-then-first-lt255 : goal.returns-then-first-lt255
+returns-then-first-lt255 c = middle c.args.c.now c.if-c-lt2.false c.if-first-gt0.true c.if-first-lt255.true
+
+pub returns-then-first-lt128 : goal.returns-then-first-lt128
+returns-then-first-lt128 c =
+    zeros c.args.c.now c.if-c-lt2.false
+    (elim c.if-first-gt0.branch [
+      | then-first-gt0+else-first-lt255 w ↦ absurd (omega (arith, w.if-first-lt255.false, c.if-first-lt128.true))
+      | else-first-gt0 w ↦ omega (arith, w.if-first-gt0.false)
+    ])
+
+pub returns : goal.returns
+returns c =
+    ones c.args.c.now c.if-c-lt2.false
+    (elim c.if-first-gt0.branch [
+      | then-first-gt0+else-first-lt255 w ↦ omega (arith, w.if-first-lt255.false, c.type_inv.c 0)
+      | else-first-gt0 w ↦ absurd (omega (arith, w.if-first-gt0.false, c.if-first-lt128.false))
+    ])

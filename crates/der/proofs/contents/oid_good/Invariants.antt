@@ -1,0 +1,14 @@
+-- Sub-identifiers read from octet i on, after the octet before it, are good just if they all are.
+use Prim.Native.Nat.{◌-◌, ◌≤◌}
+use mathlib.Core.Bool.{true}
+use mathlib.Core.Path.{◌≡◌}
+use lib.Dec.{ltb}
+use lib.ListN.{length, get_or, drop}
+use Rattle.der.specs.Contents.{sub_identifiers}
+use Rattle.der.proofs.contents.oid_good.Given as goal
+
+abbrev pub invariant-loop-i : goal.invariant-loop-i
+invariant-loop-i l = (1 ≤ l.i) × (l.i ≤ length l.c) × (sub_identifiers (ltb (get_or l.c (l.i - 1) 0) 128) (drop l.i l.c) ≡ sub_identifiers true l.c)
+
+abbrev pub decreases-loop-i : goal.decreases-loop-i
+decreases-loop-i l = length l.c - l.i
