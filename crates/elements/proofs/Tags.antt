@@ -1,7 +1,7 @@
 -- The tag of an element is its first octet: where that is another, no element with the tag is found.
 use Prim.Native.Nat.{ℕ, ◌+◌, ◌-◌, ◌≤◌}
 use mathlib.Core.Path.{◌≡◌, refl, sym, ap, ◌∙◌}
-use mathlib.Core.Bool.{Bool, true, false, cond, ◌&&◌}
+use mathlib.Core.Bool.{◌&&◌}
 use mathlib.Core.List.{List}
 use native.Mathlib.Omega.{arith}
 use borrow.Author.Tests.{leb-true, ne_eqb}
@@ -16,7 +16,6 @@ use Rattle.der.specs.Heading.{identifier_good, within, long, smallest, sized, wi
 use Rattle.octets.specs.Octets.{number}
 use Rattle.der.specs.Member.{placed, member_of}
 use Rattle.der.proofs.Bounds.{cond-by, heading-within}
-use Rattle.elements.specs.declared.elements.Found.{Found}
 use Rattle.elements.specs.declared.elements.Found.TheVariants.{Missing}
 use Rattle.elements.specs.Elements.{stepped, found_at, with_tag}
 

@@ -1,5 +1,5 @@
 -- The elements that stand in a stretch of a walked item, from one offset to another.
-use Rattle.std.specs.Prelude.{ℕ, zero, suc, ◌-◌, Bool, true, false, cond, ◌&&◌, List, [], ◌∷◌, eqb, length, take, drop}
+use Rattle.std.specs.Prelude.{ℕ, zero, suc, ◌-◌, cond, List, [], ◌∷◌, eqb, length, take, drop}
 use Rattle.der.specs.declared.stepping.Step.{Step}
 use Rattle.der.specs.declared.stepping.Step.TheVariants.{At, Nothing}
 use Rattle.der.specs.Forms.{Forms}
