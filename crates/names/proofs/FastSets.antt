@@ -1,15 +1,14 @@
 -- A SET with one attribute, all headers short: its OID is countryName, or does not end as that does.
 use Prim.Native.Nat.{ℕ, ◌+◌, ◌-◌, ◌<◌, ◌≤◌}
 use mathlib.Core.Path.{◌≡◌, refl, sym, ap, ◌∙◌}
-use mathlib.Core.Bool.{Bool, true, false, cond}
-use mathlib.Core.List.{List, [], ◌∷◌}
+use mathlib.Core.Bool.{true, false}
+use mathlib.Core.List.{List}
 use native.Mathlib.Omega.{arith}
 use borrow.Author.Tests.{eq-eqb}
 use lib.ListN.{length, get_or, take, drop, length-take, length-drop}
 use lib.Seq.{get_or-take, get_or-drop}
 use Rattle.der.specs.Forms.{paper}
 use Rattle.der.specs.Heading.{identifier_good}
-use Rattle.elements.specs.declared.elements.Element.{Element}
 use Rattle.elements.specs.declared.elements.Found.{Found}
 use Rattle.elements.specs.declared.elements.Found.TheVariants.{One, Missing}
 use Rattle.elements.specs.Elements.{found_at, with_tag, found_tagged, on_found, contents_of}
@@ -19,9 +18,7 @@ use Rattle.octets.proofs.Likeness.{three, is-alike, unequal-unlike}
 use Rattle.elements.proofs.Members.{found_within}
 use Rattle.elements.proofs.Shorts.{brief, short-found, short-inside, short-within}
 use Rattle.names.specs.declared.Attribute.TheVariants.{Country, Other}
-use Rattle.names.specs.declared.Name.TheVariants.{Holds}
-use Rattle.names.specs.declared.Seen.{Seen}
-use Rattle.names.specs.Names.{country_name, attribute_of, one_set}
+use Rattle.names.specs.Names.{country_name, attribute_of}
 use Rattle.names.specs.Fast.{Another, Land}
 use Rattle.names.proofs.Sets.{attributes-country, attributes-other, attributes-done, set-filled}
 

@@ -155,6 +155,8 @@ module _ (s t : List ℕ) (a b size : ℕ) (same : take size (drop a s) ≡ take
       go : (u v : Found) → found_at paper s m n ≡ u → found_at paper t p q ≡ v → Both u v → Lists (members_of paper s m n) (members_of paper t p q)
       go Missing Missing g h neither = rw (members-none s m n g, members-none t p q h) none
       go (One x) (One y) g h (each w) = absurd (omega (arith, found_within s m n g))
+      go (One x) Missing g h b = elim b [ ]
+      go Missing (One y) g h b = elim b [ ]
   members-both (suc fuel) m n p q enough e f low high =
       go (λ x y. members-both fuel x.end n y.end q) (found_at paper s m n) (found_at paper t p q) refl refl (found-both m n p q e f low high)
     where
@@ -166,6 +168,8 @@ module _ (s t : List ℕ) (a b size : ℕ) (same : take size (drop a s) ≡ take
       go rest (One x) (One y) g h (each w) =
           rw (members-more s m n g, members-more t p q h)
           (more w (rest x y (omega (arith, found_within s m n g)) w.end f (omega (arith, w.low, w.order)) high))
+      go rest (One x) Missing g h b = elim b [ ]
+      go rest Missing (One y) g h b = elim b [ ]
 
   inside_both : {x y : Element} → Twin x y → Lists (inside paper s x) (inside paper t y)
   unfolding inside
@@ -258,3 +262,5 @@ module _ (s t : List ℕ) (a b size : ℕ) (same : take size (drop a s) ≡ take
           let i : c ≡ p = cc in
           let j : d ≡ q = cc in
           ap (letters_of s) (sym i) ∙ letters-both k ∙ ap (letters_of t) j
+      go (Holds c) Shapeless g h b = elim b [ ]
+      go Shapeless (Holds d) g h b = elim b [ ]

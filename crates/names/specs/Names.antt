@@ -1,5 +1,5 @@
 -- Names: a SEQUENCE of non-empty SETs of SEQUENCE {OID, one element}, and the countryName in one.
-use Rattle.std.specs.Prelude.{ℕ, ◌+◌, Bool, true, false, cond, ◌&&◌, List, [], ◌∷◌, leb, eqb, length, get_or}
+use Rattle.std.specs.Prelude.{ℕ, Bool, cond, ◌&&◌, List, [], ◌∷◌, leb, eqb, length, get_or}
 use Rattle.der.specs.Forms.{Forms}
 use Rattle.elements.specs.declared.elements.Element.{Element}
 use Rattle.names.specs.declared.Attribute.{Attribute}

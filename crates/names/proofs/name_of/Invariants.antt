@@ -1,0 +1,13 @@
+-- The SETs from here on, with the countryNames seen before them, come to what the whole name comes to.
+use Prim.Native.Nat.{◌-◌}
+use mathlib.Core.Path.{◌≡◌}
+use Rattle.der.specs.Forms.{paper}
+use Rattle.elements.specs.Elements.{members_of}
+use Rattle.names.specs.Names.{sets_of, name_of}
+use Rattle.names.proofs.name_of.Given as goal
+
+abbrev pub invariant-loop-at : goal.invariant-loop-at
+invariant-loop-at l = sets_of paper l.item (members_of paper l.item l.at l.e.end) l.seen ≡ name_of paper l.item l.e
+
+abbrev pub decreases-loop-at : goal.decreases-loop-at
+decreases-loop-at l = l.e.end - l.at
