@@ -1,0 +1,12 @@
+-- The members before `at` have a slot or are no extensions; those from `at` on are left.
+use Prim.Native.Nat.{◌-◌, ◌≤◌}
+use mathlib.Core.Path.{◌≡◌}
+use Rattle.der.specs.Forms.{paper}
+use Rattle.extensions.specs.Strange.{strange_from}
+use Rattle.extensions.proofs.stranger.stranger_from.Given as goal
+
+abbrev pub invariant-loop-at : goal.invariant-loop-at
+invariant-loop-at l = (l.from ≤ l.at) × (strange_from paper l.item l.from l.end ≡ strange_from paper l.item l.at l.end)
+
+abbrev pub decreases-loop-at : goal.decreases-loop-at
+decreases-loop-at l = l.end - l.at
