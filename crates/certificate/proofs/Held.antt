@@ -15,8 +15,7 @@ use Rattle.certificate.specs.Keys.{walks, key_in, octet_string, first_of, list_g
 use Rattle.certificate.specs.Values.{value_of, value_in, on_value}
 use Rattle.certificate.specs.declared.keys.KeyId.{KeyId}
 use Rattle.certificate.specs.declared.keys.KeyId.TheVariants.{Keyless, Misformed}
-use Rattle.certificate.specs.declared.keys.Value.{Value}
-use Rattle.certificate.specs.declared.keys.Value.TheVariants.{Stands, Missing, Unfit}
+use Rattle.certificate.specs.declared.keys.Value.TheVariants.{Stands, Unfit}
 use Rattle.certificate.specs.Rules.{critical_with, uncritical}
 
 -- a form reads an element from its contents on
