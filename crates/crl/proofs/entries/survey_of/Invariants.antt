@@ -1,0 +1,15 @@
+-- The entries from `at` on, with what was found of those before them, come to what all of them come to.
+use Prim.Native.Nat.{◌+◌, ◌-◌, ◌≤◌}
+use mathlib.Core.Path.{◌≡◌}
+use lib.ListN.{length}
+use Rattle.der.specs.Forms.{paper}
+use Rattle.elements.specs.Elements.{members_of}
+use Rattle.crl.specs.Entries.{survey_of}
+use Rattle.crl.proofs.Surveys.{survey_with}
+use Rattle.crl.proofs.entries.survey_of.Given as goal
+
+abbrev pub invariant-loop-timely : goal.invariant-loop-timely
+invariant-loop-timely l = (l.count + length (members_of paper l.item l.at l.end) ≤ length l.item) × (survey_of paper l.item l.from l.end ≡ survey_with l.item l.count l.timely l.calm (members_of paper l.item l.at l.end))
+
+abbrev pub decreases-loop-timely : goal.decreases-loop-timely
+decreases-loop-timely l = l.end - l.at
