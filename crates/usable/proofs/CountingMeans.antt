@@ -16,12 +16,11 @@ use Rattle.crl.specs.declared.Fields as crls
 use Rattle.crl.specs.declared.Judged.TheVariants as list-judged
 use Rattle.crl.specs.Answer as lists
 use Rattle.image.specs.Items.{Item}
-use Rattle.usable.specs.declared.opened.Row.{Row}
 use Rattle.usable.specs.Items.{item_at, on_certificate, certificate_at, on_list, list_at, some_below, some_place}
 use Rattle.usable.specs.Usable.{valid, usable_anchor, same_country, counts}
 use Rattle.usable.specs.Table.{verdict_in}
 use Rattle.usable.specs.Rows.{blank, certificate_told, list_told, row_of, row_at, flag, same_letters, vouched_by, counted_of, Counted}
-use Rattle.usable.proofs.Booleans.{false-true, first, second, middle, chosen, grouped-near}
+use Rattle.usable.proofs.Booleans.{false-true, first, middle, chosen, grouped-near}
 use Rattle.usable.proofs.RowReadings.{valid_of, current_of, anchor_of, Reading, reading, unopened}
 use Rattle.usable.proofs.Scope.{Told, Scope}
 use Rattle.usable.proofs.StandingMeans.{standing-anchor, standing-list, certificate-row, list-row}

@@ -1,5 +1,5 @@
 -- The items that chains stand on: a list of items by place, each judged in the role of its kind.
-use Rattle.std.specs.Prelude.{ℕ, zero, suc, Bool, true, false, ◌&&◌, ◌||◌, List, [], leb, length, get_or, take, drop}
+use Rattle.std.specs.Prelude.{ℕ, zero, suc, Bool, false, ◌&&◌, ◌||◌, List, [], leb, length, get_or, take, drop}
 use Rattle.der.specs.Forms.{paper}
 use Rattle.certificate.specs.declared.Fields as certificate
 use Rattle.certificate.specs.declared.Judged.{Judged}

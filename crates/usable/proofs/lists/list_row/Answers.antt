@@ -1,0 +1,24 @@
+-- The judge decides, then the moment.
+use mathlib.Core.Path.{sym, ◌∙◌}
+use borrow.Author.Tests.{le-leb, lt-leb}
+use Rattle.usable.specs.Items.{within}
+use Rattle.usable.specs.Rows.{blank, list_row}
+use Rattle.usable.proofs.lists.list_row.Goals as goal
+
+pub returns-in_default : goal.returns-in_default
+unfolding list_row blank
+returns-in_default c kind flags first second = rw (sym c.judge.ensures ∙ c.in_default.is)
+
+pub returns-then-moment-f : goal.returns-then-moment-f
+unfolding list_row blank within
+returns-then-moment-f c kind flags first second = rw (sym c.judge.ensures ∙ c.in-Passed.is, lt-leb _ _ c.if-moment-f.true)
+
+pub returns-then-f-moment : goal.returns-then-f-moment
+unfolding list_row blank within
+returns-then-f-moment c kind flags first second =
+    rw (sym c.judge.ensures ∙ c.in-Passed.is, le-leb _ _ c.if-moment-f.false, lt-leb _ _ c.if-f-moment.true)
+
+pub returns : goal.returns
+unfolding list_row within
+returns c kind flags first second =
+    rw (sym c.judge.ensures ∙ c.in-Passed.is, le-leb _ _ c.if-moment-f.false, le-leb _ _ c.if-f-moment.false)
