@@ -1,7 +1,7 @@
 -- A best chain of an image's items has what is demanded: each place is what the graph of good chains says of it, a place that stands
 -- twice would leave a shorter chain, and a search finds it in 96 slots.
 use Prim.Native.Nat.{ℕ, ◌<◌, ◌≤◌}
-use mathlib.Core.Path.{◌≡◌, refl, sym, ap, ◌∙◌}
+use mathlib.Core.Path.{◌≡◌, refl}
 use mathlib.Core.Bool.{Bool, true, false, ◌&&◌}
 use mathlib.Core.List.{List}
 use mathlib.Core.Logic.{◌⊎◌, inl, inr}

@@ -22,10 +22,10 @@ use Rattle.usable.specs.Rows.{blank, row_from, row_of, row_at, is_near, Counted,
 use Rattle.usable.proofs.Booleans.{false-true, first, second, both_true}
 use Rattle.usable.proofs.Slots.{empty-slots}
 use Rattle.usable.proofs.RowLaws.{blank-rows, set_here, set_there}
-use Rattle.usable.proofs.RowReadings.{valid_of, Reading, reading, certificate, list, neither}
+use Rattle.usable.proofs.RowReadings.{Reading, reading, certificate, list, neither}
 use Rattle.usable.proofs.Scope.{Placed, Told}
 use Rattle.usable.proofs.StandingMeans.{standing-signed}
-use Rattle.usable.proofs.CountingMeans.{Counts, valid-told, counting-means}
+use Rattle.usable.proofs.CountingMeans.{valid-told, counting-means}
 use Rattle.usable.proofs.RolesMean.{roles-mean}
 use Rattle.chain.specs.Good.{chains}
 use Rattle.chain.specs.Near.{first_of}

@@ -6,12 +6,12 @@ use mathlib.Core.Bool.{Bool, true, false, cond, ◌&&◌}
 use mathlib.Core.List.{List}
 use mathlib.Core.Logic.{◌⊎◌, inl, inr, ⊎_elim}
 use native.Mathlib.Omega.{arith}
-use borrow.Author.Tests.{eqb-true, eq-eqb, ne_eqb}
+use borrow.Author.Tests.{eqb-true, ne_eqb}
 use lib.Dec.{eqb}
 use lib.ListN.{length}
 use Rattle.image.specs.Items.{Item}
-use Rattle.usable.specs.Items.{item_at, some_below}
-use Rattle.usable.specs.Usable.{usable_anchor, same_country, counts, covers}
+use Rattle.usable.specs.Items.{item_at}
+use Rattle.usable.specs.Usable.{counts, covers}
 use Rattle.usable.specs.Table.{verdict_in}
 use Rattle.usable.specs.Rows.{is_near}
 use Rattle.usable.proofs.Booleans.{false-true, first, second, both_true}

@@ -1,6 +1,6 @@
 -- The item of a place is what its index entry tells, since the item list is made entry by entry; and it is held where a row of it says.
 use Prim.Native.Nat.{ℕ, zero, suc, ◌<◌}
-use mathlib.Core.Path.{◌≡◌, refl, ap, ◌∙◌}
+use mathlib.Core.Path.{◌≡◌, refl, ap}
 use mathlib.Core.List.{List, [], ◌∷◌}
 use lib.ListN.{length, take, drop}
 use Rattle.image.specs.declared.IndexEntry.{IndexEntry}

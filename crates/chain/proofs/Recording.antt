@@ -7,7 +7,7 @@ use mathlib.Core.List.{List}
 use native.Mathlib.Omega.{arith}
 use borrow.Author.Tests.{lt-ltb}
 use lib.Dec.{eqb}
-use lib.ListN.{length, take, drop, replicate}
+use lib.ListN.{length, drop, replicate}
 use Rattle.refusal.specs.declared.Refusal.TheVariants as refusal
 use Rattle.calendar.specs.Days.{real_moment}
 use Rattle.graph.specs.Answer as search

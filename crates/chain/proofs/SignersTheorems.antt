@@ -4,14 +4,14 @@ use Prim.Native.Nat.{ℕ, zero, suc, ◌+◌, ◌*◌, ◌<◌, ◌≤◌}
 use mathlib.Core.Path.{◌≡◌, refl, sym, ap, ◌∙◌}
 use mathlib.Core.List.{List, ◌∷◌, ◌++◌}
 use native.Mathlib.Omega.{arith}
-use lib.ListN.{length, take, drop, take-append-drop}
+use lib.ListN.{take, drop, take-append-drop}
 use lib.Seq.{take-add}
 use Rattle.refusal.specs.declared.Refusal.{Refusal}
 use Rattle.chain.specs.declared.Answer.{Answer}
 use Rattle.chain.specs.declared.signers.Signers.{Signers}
 use Rattle.chain.specs.declared.signers.Signers.TheVariants.{Length, Refused}
 use Rattle.chain.specs.Answer.{Answered}
-use Rattle.chain.specs.Signers.{signers_of, Recorded, Records, AllSigned, refused, told}
+use Rattle.chain.specs.Signers.{Recorded, Records, AllSigned, refused, told}
 use Rattle.chain.proofs.Theorems.{one_answer}
 
 pair_same : {a b : ℕ} {x y : List ℕ} → a ≡ b → x ≡ y → a ∷ x ≡ b ∷ y

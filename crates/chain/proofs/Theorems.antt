@@ -3,7 +3,7 @@
 use Prim.Native.Nat.{ℕ, zero, suc, ◌<◌, ◌≤◌, ◌-◌}
 use mathlib.Core.Path.{◌≡◌, refl, sym, ap, ◌∙◌}
 use mathlib.Core.Bool.{Bool, true, false, cond, ◌&&◌, ◌||◌, not}
-use mathlib.Core.List.{List, [], ◌∷◌, ◌++◌}
+use mathlib.Core.List.{List, ◌∷◌, ◌++◌}
 use mathlib.Core.Logic.{◌⊎◌, inl, inr, ⊎_elim}
 use native.Mathlib.Nat.{eq-or-lt_of_le}
 use native.Mathlib.Omega.{arith}
@@ -31,7 +31,7 @@ use Rattle.chain.specs.declared.proposal.Proposal.TheVariants as proposal
 use Rattle.usable.specs.Items.{item_at, some_below, some_place}
 use Rattle.usable.specs.Usable.{valid, usable_anchor, counts, covers, lists, speaks_of, usable}
 use Rattle.chain.specs.Good.{chains}
-use Rattle.usable.specs.Steps.{has_kind, fits, good_step}
+use Rattle.usable.specs.Steps.{good_step}
 use Rattle.usable.specs.Table.{table_good}
 use Rattle.chain.specs.Answer as answers
 use Rattle.chain.specs.Answer.{on_image, asked_of, good_chains, With, Answered}

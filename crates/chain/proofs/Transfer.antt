@@ -58,6 +58,7 @@ module _ {near : ℕ → Bool} {g h : Graph} (a : Part near g h) {t : ℕ} where
       let here : v < g.places = omega (arith, a.places) in
       let is : g.link v ≡ true = a.link v here ∙ both_true (near v) (h.link v) n link in
       goes {v = v} here is (a.step u v l here from (inl is) ∙ step) (inward here (inr is) rest-near rest)
+  inward l from done onward = elim onward [ ]
 
   -- a chain of the whole that is near is one of what is near
   pub chain-near : {c : List ℕ} → AllNear near c → Chain h t c → Chain g t c
@@ -65,6 +66,7 @@ module _ {near : ℕ → Bool} {g h : Graph} (a : Part near g h) {t : ℕ} where
       let here : u < g.places = omega (arith, a.places) in
       let is : g.anchor u ≡ true = a.anchor u here ∙ both_true (near u) (h.anchor u) n anchor in
       chain {u = u} here is (inward here (inl is) others rest)
+  chain-near done good = elim good [ ]
 
   -- a chain of the whole is one of what is near, or longer than the one found
   chain-in :

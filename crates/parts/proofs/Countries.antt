@@ -209,7 +209,7 @@ seen-letters s seen trees a b (once {value = value} {tree = tree} like) h =
 
 -- the letters read of a name are those of the one countryName in its tree
 pub name-letters :
-    (s : List ℕ) (place : Place) (e : Element) (tree : Tree) (seen : Seen) (a b : ℕ) → PartMut s place e tree → name_of paper s e ≡ Holds seen
+    (s : List ℕ) (place : Place) (e : Element) (tree : Tree) (seen : Seen) (a b : ℕ) → Part s place e tree → name_of paper s e ≡ Holds seen
     → letters_of s seen ≡ Two a b → Lettered place a b
 unfolding name_of inside constructed
 name-letters s place e tree seen a b p h two =

@@ -1,0 +1,34 @@
+-- The inner loop fills one cell more, the outer one a row more.
+use Prim.Native.Nat.{ℕ, ◌-◌, ◌*◌, ◌≤◌, ◌<◌}
+use mathlib.Core.Path.{◌≡◌}
+use mathlib.Core.Bool.{true}
+use mathlib.Core.List.{List}
+use lib.ListN.{length, get_or, take, drop}
+use Rattle.usable.specs.Rows.{held_in, flag, leads_of, step_of}
+use Rattle.chain.proofs.Cells.{Cells}
+use Rattle.chain.proofs.by_rounds.matching_steps.Given as goal
+
+-- the cells before row u and column v are those of the steps
+abbrev pub Filled : List ℕ → ℕ → List ℕ → List (List ℕ) → List ℕ → List ℕ → ℕ → ℕ → Type 0
+Filled image places table rows roles steps u v =
+    (length steps ≡ 9216) × Cells (λ w x. flag (step_of (held_in image) places table rows roles w x)) places steps u v
+
+-- the line of a place that leads on, read up to v
+pub record Line (places : ℕ) (table roles : List ℕ) (u : ℕ) (line : List ℕ) (v : ℕ) : Type 0 where
+  pub small : places ≤ 96
+  pub place : u < places
+  pub leads : leads_of (get_or roles u 0) ≡ true
+  pub is : line ≡ take places (drop (u * places) table)
+  pub read : v ≤ length line
+
+abbrev pub invariant-loop-v : goal.invariant-loop-v
+invariant-loop-v l = Line l.places l.table l.roles l.u l.line l.v × Filled l.image l.places l.table l.rows l.roles l.steps l.u l.v
+
+abbrev pub decreases-loop-v : goal.decreases-loop-v
+decreases-loop-v l = length l.line - l.v
+
+abbrev pub invariant-loop-u : goal.invariant-loop-u
+invariant-loop-u l = (l.places ≤ 96) × (l.u ≤ l.places) × Filled l.image l.places l.table l.rows l.roles l.steps l.u 0
+
+abbrev pub decreases-loop-u : goal.decreases-loop-u
+decreases-loop-u l = l.places - l.u
