@@ -2,7 +2,7 @@
 use Prim.Native.Nat.{ℕ, ◌+◌, ◌*◌, ◌≤◌}
 use mathlib.Core.Path.{◌≡◌, refl, sym, ◌∙◌, ap, ap₂}
 use mathlib.Core.Bool.{Bool, true, false, cond}
-use mathlib.Core.List.{List, ◌++◌}
+use mathlib.Core.List.{List}
 use native.Mathlib.Omega.{arith}
 use borrow.Author.Tests.{leb-true, le-leb}
 use lib.Dec.{leb}
@@ -16,10 +16,9 @@ use Rattle.image.specs.declared.Opened.TheVariants as opened
 use Rattle.image.specs.declared.Opened.TheVariants.{Image}
 use Rattle.image.specs.Items.{Item, packed, image_bytes}
 use Rattle.image.specs.Index.{entry_count, version_in, day_in, items_in, width}
-use Rattle.image.specs.Answer.{opened_of, opened_as}
+use Rattle.image.specs.Answer.{opened_as}
 use Rattle.image.proofs.Places.{length-items}
 use Rattle.image.proofs.Widths.{widths}
-use Rattle.writer.specs.declared.Written.{Written}
 use Rattle.writer.specs.declared.Written.TheVariants.{Length, Refused}
 use Rattle.writer.specs.Writing.{version_good, on_written}
 use Rattle.roundtrip.specs.Good.{GoodItems, Fits}

@@ -1,0 +1,12 @@
+-- The version decides.
+use borrow.Author.Tests.{eq-eqb, ne_eqb}
+use Rattle.moves.specs.Moving.{country_for}
+use Rattle.moves.proofs.columns.country_for.Goals as goal
+
+pub returns-then-version-eq2 : goal.returns-then-version-eq2
+unfolding country_for
+returns-then-version-eq2 c = rw (eq-eqb _ _ c.if-version-eq2.true) c.true_letters.ensures
+
+pub returns : goal.returns
+unfolding country_for
+returns c = rw (ne_eqb _ _ c.if-version-eq2.false)
