@@ -4,38 +4,40 @@ use crate::{
     certificates, chains, countries, days, images, items, lists, proposals, rooms, say, signers,
     trays, versions, writing,
 };
+use std::io;
+use std::io::Print;
 
-pub(crate) fn answer(question: Question, bytes: &[u8]) {
+pub(crate) fn answer<R: Print>(rt: &R, question: Question, bytes: &[u8]) -> io::Result<()> {
     let kind = question.kind;
     let first = question.first;
     let second = question.second;
     let third = question.third;
     match kind {
-        1 => items::walk(bytes),
-        2 => items::integer(bytes),
-        3 => days::real_day(first),
-        4 => days::real_moment(first),
-        5 => days::difference(first, second),
-        6 => items::member(bytes, first, second),
-        7 => certificates::judge(bytes, first),
-        8 => lists::judge(bytes),
-        9 => lists::listed(bytes, first),
-        10 => lists::age(bytes, first),
-        11 => images::open(bytes),
-        12 => images::open_for(bytes, first),
-        13 => images::entry(bytes, first),
-        14 => images::item(bytes, first),
-        15 => writing::write(bytes, first, second, third),
-        16 => writing::write_filled(bytes, first, second, third),
-        17 => chains::best(bytes, first, second, third),
-        18 => trays::replay(bytes, first),
-        19 => proposals::weigh(bytes, first, second, third),
-        20 => signers::all(bytes, first, second, third),
-        21 => versions::to_2(bytes, first),
-        22 => versions::to_1(bytes, first),
-        23 => versions::check(bytes),
-        24 => countries::of_letters(bytes, first, second),
-        25 => rooms::make(bytes, first, second, third),
-        _ => say::text(b"no such question"),
+        1 => items::walk(rt, bytes),
+        2 => items::integer(rt, bytes),
+        3 => days::real_day(rt, first),
+        4 => days::real_moment(rt, first),
+        5 => days::difference(rt, first, second),
+        6 => items::member(rt, bytes, first, second),
+        7 => certificates::judge(rt, bytes, first),
+        8 => lists::judge(rt, bytes),
+        9 => lists::listed(rt, bytes, first),
+        10 => lists::age(rt, bytes, first),
+        11 => images::open(rt, bytes),
+        12 => images::open_for(rt, bytes, first),
+        13 => images::entry(rt, bytes, first),
+        14 => images::item(rt, bytes, first),
+        15 => writing::write(rt, bytes, first, second, third),
+        16 => writing::write_filled(rt, bytes, first, second, third),
+        17 => chains::best(rt, bytes, first, second, third),
+        18 => trays::replay(rt, bytes, first),
+        19 => proposals::weigh(rt, bytes, first, second, third),
+        20 => signers::all(rt, bytes, first, second, third),
+        21 => versions::to_2(rt, bytes, first),
+        22 => versions::to_1(rt, bytes, first),
+        23 => versions::check(rt, bytes),
+        24 => countries::of_letters(rt, bytes, first, second),
+        25 => rooms::make(rt, bytes, first, second, third),
+        _ => say::text(rt, b"no such question"),
     }
 }

@@ -1,29 +1,33 @@
 // Questions about certificates.
 use crate::say;
 use certificate::{Fields, Judged};
+use std::io;
+use std::io::Print;
 
-pub(crate) fn judge(item: &[u8], role: u64) {
+pub(crate) fn judge<R: Print>(rt: &R, item: &[u8], role: u64) -> io::Result<()> {
     match certificate::judge(item, role) {
-        Judged::Passed(fields) => tell(fields),
-        Judged::Refused(refusal) => say::refused(refusal),
+        Judged::Passed(fields) => tell(rt, fields),
+        Judged::Refused(refusal) => say::refused(rt, refusal),
     }
 }
 
-fn tell(fields: Fields) {
-    say::times(fields.start, fields.end);
-    say::letters(fields.first, fields.second);
-    say::part(b", issuer ", fields.issuer_at, fields.issuer_len);
-    say::part(b", subject ", fields.subject_at, fields.subject_len);
-    say::part(b", key ", fields.key_at, fields.key_len);
-    say::part(b", serial ", fields.serial_at, fields.serial_len);
+fn tell<R: Print>(rt: &R, fields: Fields) -> io::Result<()> {
+    say::times(rt, fields.start, fields.end)?;
+    say::letters(rt, fields.first, fields.second)?;
+    say::part(rt, b", issuer ", fields.issuer_at, fields.issuer_len)?;
+    say::part(rt, b", subject ", fields.subject_at, fields.subject_len)?;
+    say::part(rt, b", key ", fields.key_at, fields.key_len)?;
+    say::part(rt, b", serial ", fields.serial_at, fields.serial_len)?;
     say::part(
+        rt,
         b", subject key ",
         fields.subject_key_at,
         fields.subject_key_len,
-    );
+    )?;
     say::part(
+        rt,
         b", authority key ",
         fields.authority_key_at,
         fields.authority_key_len,
-    );
+    )
 }

@@ -2,38 +2,44 @@
 use crate::chains::{others, places};
 use crate::say;
 use anchors::{Listing, Outcome};
+use std::io;
+use std::io::Print;
 
-pub(crate) fn of_letters(image: &[u8], first: u64, second: u64) {
-    tell(anchors::anchors_of(image, first, second));
-    say::text(b"; by index ");
-    tell(anchors::anchors_by_index(image, first, second));
+pub(crate) fn of_letters<R: Print>(
+    rt: &R,
+    image: &[u8],
+    first: u64,
+    second: u64,
+) -> io::Result<()> {
+    tell(rt, anchors::anchors_of(image, first, second))?;
+    say::text(rt, b"; by index ")?;
+    tell(rt, anchors::anchors_by_index(image, first, second))
 }
 
-fn tell(listing: Listing) {
+fn tell<R: Print>(rt: &R, listing: Listing) -> io::Result<()> {
     let outcome = listing.outcome;
     let count = listing.count;
     let slots = listing.places;
-    show(outcome, count, &slots);
+    show(rt, outcome, count, &slots)
 }
 
 // The places or the refusal, and the slots beyond the count.
-fn show(outcome: Outcome, count: usize, slots: &[u8]) {
+fn show<R: Print>(rt: &R, outcome: Outcome, count: usize, slots: &[u8]) -> io::Result<()> {
     let end = slots.len();
     if end < count {
-        say::text(b"more places than slots");
-        return;
+        return say::text(rt, b"more places than slots");
     }
     match outcome {
         Outcome::Listed => {
-            say::number(count as u64);
-            say::text(b" anchors:");
-            places(&slots[0..count]);
+            say::number(rt, count as u64)?;
+            say::text(rt, b" anchors:")?;
+            places(rt, &slots[0..count])
         }
         Outcome::Refused(refusal) => {
-            say::refused(refusal);
-            say::text(b", count ");
-            say::number(count as u64);
+            say::refused(rt, refusal)?;
+            say::text(rt, b", count ")?;
+            say::number(rt, count as u64)
         }
-    }
-    others(&slots[count..end]);
+    }?;
+    others(rt, &slots[count..end])
 }

@@ -1,33 +1,35 @@
 // Questions about days and moments.
 use crate::say;
 use calendar::Difference;
+use std::io;
+use std::io::Print;
 
-pub(crate) fn real_day(day: u64) {
-    real(calendar::real_day(day));
+pub(crate) fn real_day<R: Print>(rt: &R, day: u64) -> io::Result<()> {
+    real(rt, calendar::real_day(day))
 }
 
-pub(crate) fn real_moment(moment: u64) {
-    real(calendar::real_moment(moment));
+pub(crate) fn real_moment<R: Print>(rt: &R, moment: u64) -> io::Result<()> {
+    real(rt, calendar::real_moment(moment))
 }
 
-pub(crate) fn difference(first: u64, second: u64) {
-    tell(calendar::day_difference(first, second));
+pub(crate) fn difference<R: Print>(rt: &R, first: u64, second: u64) -> io::Result<()> {
+    tell(rt, calendar::day_difference(first, second))
 }
 
-pub(crate) fn tell(answer: Difference) {
+pub(crate) fn tell<R: Print>(rt: &R, answer: Difference) -> io::Result<()> {
     match answer {
         Difference::Days(days) => {
-            say::signed(days);
-            say::text(b" days");
+            say::signed(rt, days)?;
+            say::text(rt, b" days")
         }
-        Difference::Refused(refusal) => say::refused(refusal),
+        Difference::Refused(refusal) => say::refused(rt, refusal),
     }
 }
 
-fn real(is_real: bool) {
+fn real<R: Print>(rt: &R, is_real: bool) -> io::Result<()> {
     if is_real {
-        say::text(b"real");
+        say::text(rt, b"real")
     } else {
-        say::text(b"not real");
+        say::text(rt, b"not real")
     }
 }

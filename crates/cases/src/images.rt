@@ -1,59 +1,61 @@
 // Questions about trust images.
 use crate::{say, sums};
 use image::{IndexEntry, Opened, Place};
+use std::io;
+use std::io::Print;
 
-pub(crate) fn open(image: &[u8]) {
-    tell(image::open(image));
+pub(crate) fn open<R: Print>(rt: &R, image: &[u8]) -> io::Result<()> {
+    tell(rt, image::open(image))
 }
 
-pub(crate) fn open_for(image: &[u8], wanted: u64) {
-    tell(image::open_for(image, wanted));
+pub(crate) fn open_for<R: Print>(rt: &R, image: &[u8], wanted: u64) -> io::Result<()> {
+    tell(rt, image::open_for(image, wanted))
 }
 
-fn tell(answer: Opened) {
+fn tell<R: Print>(rt: &R, answer: Opened) -> io::Result<()> {
     match answer {
         Opened::Image {
             entries,
             day,
             version,
         } => {
-            say::text(b"passed, ");
-            say::number(entries as u64);
-            say::text(b" entries, day ");
-            say::number(day);
-            say::text(b", version ");
-            say::number(version as u64);
+            say::text(rt, b"passed, ")?;
+            say::number(rt, entries as u64)?;
+            say::text(rt, b" entries, day ")?;
+            say::number(rt, day)?;
+            say::text(rt, b", version ")?;
+            say::number(rt, version as u64)
         }
-        Opened::Refused(refusal) => say::refused(refusal),
+        Opened::Refused(refusal) => say::refused(rt, refusal),
     }
 }
 
-pub(crate) fn entry(image: &[u8], place: u64) {
+pub(crate) fn entry<R: Print>(rt: &R, image: &[u8], place: u64) -> io::Result<()> {
     match image::entry(image, place) {
-        Place::Is(found) => tell_entry(found),
-        Place::Refused(refusal) => say::refused(refusal),
+        Place::Is(found) => tell_entry(rt, found),
+        Place::Refused(refusal) => say::refused(rt, refusal),
     }
 }
 
-fn tell_entry(found: IndexEntry) {
-    say::text(b"kind ");
-    say::number(found.kind as u64);
-    say::text(b", flags ");
-    say::number(found.flags as u64);
-    say::text(b", length ");
-    say::number(found.length as u64);
-    say::text(b", offset ");
-    say::number(found.offset as u64);
-    say::text(b", letters ");
-    say::number(found.first as u64);
-    say::text(b" ");
-    say::number(found.second as u64);
+fn tell_entry<R: Print>(rt: &R, found: IndexEntry) -> io::Result<()> {
+    say::text(rt, b"kind ")?;
+    say::number(rt, found.kind as u64)?;
+    say::text(rt, b", flags ")?;
+    say::number(rt, found.flags as u64)?;
+    say::text(rt, b", length ")?;
+    say::number(rt, found.length as u64)?;
+    say::text(rt, b", offset ")?;
+    say::number(rt, found.offset as u64)?;
+    say::text(rt, b", letters ")?;
+    say::number(rt, found.first as u64)?;
+    say::text(rt, b" ")?;
+    say::number(rt, found.second as u64)
 }
 
 // The number of an item's octets, and their checksum.
-pub(crate) fn item(image: &[u8], place: u64) {
+pub(crate) fn item<R: Print>(rt: &R, image: &[u8], place: u64) -> io::Result<()> {
     let octets = image::item(image, place);
-    say::number(octets.len() as u64);
-    say::text(b" octets, checksum ");
-    say::number(sums::adler(octets));
+    say::number(rt, octets.len() as u64)?;
+    say::text(rt, b" octets, checksum ")?;
+    say::number(rt, sums::adler(octets))
 }

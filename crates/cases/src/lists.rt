@@ -1,47 +1,48 @@
 // Questions about CRLs.
 use crate::{days, say};
 use crl::{Fields, Judged};
+use std::io;
+use std::io::Print;
 
-pub(crate) fn judge(item: &[u8]) {
+pub(crate) fn judge<R: Print>(rt: &R, item: &[u8]) -> io::Result<()> {
     match crl::judge(item) {
-        Judged::Passed(fields) => tell(fields),
-        Judged::Refused(refusal) => say::refused(refusal),
+        Judged::Passed(fields) => tell(rt, fields),
+        Judged::Refused(refusal) => say::refused(rt, refusal),
     }
 }
 
-fn tell(fields: Fields) {
-    say::times(fields.this_update, fields.next_update);
-    say::letters(fields.first, fields.second);
-    say::text(b", ");
-    say::number(fields.entries as u64);
-    say::text(b" entries");
-    say::part(b", issuer ", fields.issuer_at, fields.issuer_len);
+fn tell<R: Print>(rt: &R, fields: Fields) -> io::Result<()> {
+    say::times(rt, fields.this_update, fields.next_update)?;
+    say::letters(rt, fields.first, fields.second)?;
+    say::text(rt, b", ")?;
+    say::number(rt, fields.entries as u64)?;
+    say::text(rt, b" entries")?;
+    say::part(rt, b", issuer ", fields.issuer_at, fields.issuer_len)
 }
 
 // The last octets are the serial, those before them the CRL.
-pub(crate) fn listed(bytes: &[u8], serial: u64) {
+pub(crate) fn listed<R: Print>(rt: &R, bytes: &[u8], serial: u64) -> io::Result<()> {
     let end = bytes.len();
     if (end as u64) < serial {
-        say::text(b"no such question");
-        return;
+        return say::text(rt, b"no such question");
     }
     let middle = end - serial as usize;
-    look_up(&bytes[0..middle], &bytes[middle..end]);
+    look_up(rt, &bytes[0..middle], &bytes[middle..end])
 }
 
-fn look_up(item: &[u8], serial: &[u8]) {
+fn look_up<R: Print>(rt: &R, item: &[u8], serial: &[u8]) -> io::Result<()> {
     match crl::judge(item) {
         Judged::Passed(fields) => {
             if crl::listed(item, fields.entries_from, fields.entries_end, serial) {
-                say::text(b"listed");
+                say::text(rt, b"listed")
             } else {
-                say::text(b"not listed");
+                say::text(rt, b"not listed")
             }
         }
-        Judged::Refused(refusal) => say::refused(refusal),
+        Judged::Refused(refusal) => say::refused(rt, refusal),
     }
 }
 
-pub(crate) fn age(item: &[u8], day: u64) {
-    days::tell(crl::age(item, day));
+pub(crate) fn age<R: Print>(rt: &R, item: &[u8], day: u64) -> io::Result<()> {
+    days::tell(rt, crl::age(item, day))
 }

@@ -2,20 +2,22 @@
 ghost use Rattle.std.specs.Prelude.{◌≡◌, nat_abs};
 
 use refusal::Refusal;
+use std::io;
+use std::io::Print;
 
-pub(crate) fn text(words: &[u8]) {
-    io::write_all(libc::STDOUT_FILENO, words);
+pub(crate) fn text<R: Print>(rt: &R, words: &[u8]) -> io::Result<()> {
+    rt.write_all(words)
 }
 
-pub(crate) fn number(value: u64) {
-    io::print_decimal(libc::STDOUT_FILENO, value);
+pub(crate) fn number<R: Print>(rt: &R, value: u64) -> io::Result<()> {
+    rt.print(value)
 }
 
-pub(crate) fn signed(value: i64) {
+pub(crate) fn signed<R: Print>(rt: &R, value: i64) -> io::Result<()> {
     if value < 0 {
-        text(b"-");
+        text(rt, b"-")?;
     }
-    number(magnitude(value));
+    number(rt, magnitude(value))
 }
 
 fn magnitude(value: i64) -> u64
@@ -29,35 +31,35 @@ fn magnitude(value: i64) -> u64
 }
 
 // How the answer begins for a certificate or a CRL that passes.
-pub(crate) fn times(start: u64, end: u64) {
-    text(b"passed, ");
-    number(start);
-    text(b" to ");
-    number(end);
+pub(crate) fn times<R: Print>(rt: &R, start: u64, end: u64) -> io::Result<()> {
+    text(rt, b"passed, ")?;
+    number(rt, start)?;
+    text(rt, b" to ")?;
+    number(rt, end)
 }
 
-pub(crate) fn letters(first: u8, second: u8) {
-    text(b", ");
-    text(&[first, second]);
+pub(crate) fn letters<R: Print>(rt: &R, first: u8, second: u8) -> io::Result<()> {
+    text(rt, b", ")?;
+    text(rt, &[first, second])
 }
 
 // An offset and a length.
-pub(crate) fn part(name: &[u8], at: usize, size: usize) {
-    text(name);
-    number(at as u64);
-    text(b"+");
-    number(size as u64);
+pub(crate) fn part<R: Print>(rt: &R, name: &[u8], at: usize, size: usize) -> io::Result<()> {
+    text(rt, name)?;
+    number(rt, at as u64)?;
+    text(rt, b"+")?;
+    number(rt, size as u64)
 }
 
 // A refusal's number; the detail as an offset or a rule, where the refusal has one.
-pub(crate) fn refused(refusal: Refusal) {
+pub(crate) fn refused<R: Print>(rt: &R, refusal: Refusal) -> io::Result<()> {
     let class = refusal::number(refusal);
-    text(b"refused ");
-    number(class);
+    text(rt, b"refused ")?;
+    number(rt, class)?;
     match class {
-        2 | 3 => text(b" at "),
-        4 | 5 => text(b", rule "),
-        _ => return,
+        2 | 3 => text(rt, b" at ")?,
+        4 | 5 => text(rt, b", rule ")?,
+        _ => return Ok(()),
     }
-    number(refusal::detail(refusal));
+    number(rt, refusal::detail(refusal))
 }

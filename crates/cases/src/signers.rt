@@ -2,39 +2,52 @@
 // before the call.
 use crate::{say, writing};
 use chain::Signers;
+use std::io;
+use std::io::Print;
 
-pub(crate) fn all(bytes: &[u8], image: u64, moment: u64, room: u64) {
+pub(crate) fn all<R: Print>(
+    rt: &R,
+    bytes: &[u8],
+    image: u64,
+    moment: u64,
+    room: u64,
+) -> io::Result<()> {
     let mut output = [0xEEu8; 300_000];
     let end = bytes.len();
     if (end as u64) < image {
-        writing::no_question();
-        return;
+        return writing::no_question(rt);
     }
     if 300_000 < room {
-        writing::no_question();
-        return;
+        return writing::no_question(rt);
     }
     let middle = image as usize;
     let lent = room as usize;
     ask(
+        rt,
         &bytes[0..middle],
         &bytes[middle..end],
         moment,
         &mut output[0..lent],
-    );
+    )
 }
 
-fn ask(image: &[u8], table: &[u8], moment: u64, output: &mut [u8]) {
-    tell(chain::all_signers(image, table, moment, output));
-    writing::lent(output);
+fn ask<R: Print>(
+    rt: &R,
+    image: &[u8],
+    table: &[u8],
+    moment: u64,
+    output: &mut [u8],
+) -> io::Result<()> {
+    tell(rt, chain::all_signers(image, table, moment, output))?;
+    writing::lent(rt, output)
 }
 
-fn tell(answer: Signers) {
+fn tell<R: Print>(rt: &R, answer: Signers) -> io::Result<()> {
     match answer {
         Signers::Length(length) => {
-            say::text(b"written ");
-            say::number(length as u64);
+            say::text(rt, b"written ")?;
+            say::number(rt, length as u64)
         }
-        Signers::Refused(refusal) => say::refused(refusal),
+        Signers::Refused(refusal) => say::refused(rt, refusal),
     }
 }

@@ -1,35 +1,35 @@
 // Replays of tray logs. Each number of the lent list is 7777 before the call.
 use crate::say;
+use std::io;
+use std::io::Print;
 use tray::Replayed;
 
-pub(crate) fn replay(log: &[u8], room: u64) {
+pub(crate) fn replay<R: Print>(rt: &R, log: &[u8], room: u64) -> io::Result<()> {
     let mut list = [7777u64; 128];
     if 128 < room {
-        say::text(b"no such question");
-        return;
+        return say::text(rt, b"no such question");
     }
     let lent = room as usize;
-    ask(log, &mut list[0..lent]);
+    ask(rt, log, &mut list[0..lent])
 }
 
 // The answer, and all numbers of the list.
-fn ask(log: &[u8], list: &mut [u64]) {
+fn ask<R: Print>(rt: &R, log: &[u8], list: &mut [u64]) -> io::Result<()> {
     match tray::replay(log, list) {
         Replayed::Faulty(faulty) => {
-            say::text(b"faulty ");
-            say::number(faulty as u64);
+            say::text(rt, b"faulty ")?;
+            say::number(rt, faulty as u64)
         }
-        Replayed::Refused(refusal) => say::refused(refusal),
-    }
-    say::text(b", list");
-    numbers(list);
+        Replayed::Refused(refusal) => say::refused(rt, refusal),
+    }?;
+    say::text(rt, b", list")?;
+    numbers(rt, list)
 }
 
-fn numbers(list: &[u64]) {
-    let mut i = 0;
-    while i < list.len() {
-        say::text(b" ");
-        say::number(list[i]);
-        i += 1;
+fn numbers<R: Print>(rt: &R, list: &[u64]) -> io::Result<()> {
+    for one in list {
+        say::text(rt, b" ")?;
+        say::number(rt, *one)?;
     }
+    Ok(())
 }

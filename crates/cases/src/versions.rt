@@ -1,48 +1,48 @@
 // Moves between the versions of an image, and the check of letters. Each octet of the lent output is EE before a call.
 use crate::{say, writing};
 use letters::Checked;
+use std::io;
+use std::io::Print;
 
-pub(crate) fn to_2(image: &[u8], room: u64) {
+pub(crate) fn to_2<R: Print>(rt: &R, image: &[u8], room: u64) -> io::Result<()> {
     let mut output = [0xEEu8; 300_000];
     if 300_000 < room {
-        writing::no_question();
-        return;
+        return writing::no_question(rt);
     }
     let lent = room as usize;
-    forth(image, &mut output[0..lent]);
+    forth(rt, image, &mut output[0..lent])
 }
 
-fn forth(image: &[u8], output: &mut [u8]) {
+fn forth<R: Print>(rt: &R, image: &[u8], output: &mut [u8]) -> io::Result<()> {
     let answer = moves::move_to_2(image, output);
-    writing::told(answer, output);
+    writing::told(rt, answer, output)
 }
 
-pub(crate) fn to_1(image: &[u8], room: u64) {
+pub(crate) fn to_1<R: Print>(rt: &R, image: &[u8], room: u64) -> io::Result<()> {
     let mut output = [0xEEu8; 300_000];
     if 300_000 < room {
-        writing::no_question();
-        return;
+        return writing::no_question(rt);
     }
     let lent = room as usize;
-    back(image, &mut output[0..lent]);
+    back(rt, image, &mut output[0..lent])
 }
 
-fn back(image: &[u8], output: &mut [u8]) {
+fn back<R: Print>(rt: &R, image: &[u8], output: &mut [u8]) -> io::Result<()> {
     let answer = moves::move_to_1(image, output);
-    writing::told(answer, output);
+    writing::told(rt, answer, output)
 }
 
-pub(crate) fn check(image: &[u8]) {
+pub(crate) fn check<R: Print>(rt: &R, image: &[u8]) -> io::Result<()> {
     match letters::letters_true(image) {
-        Checked::Told(so) => tell(so),
-        Checked::Refused(refusal) => say::refused(refusal),
+        Checked::Told(so) => tell(rt, so),
+        Checked::Refused(refusal) => say::refused(rt, refusal),
     }
 }
 
-fn tell(so: bool) {
+fn tell<R: Print>(rt: &R, so: bool) -> io::Result<()> {
     if so {
-        say::text(b"true");
+        say::text(rt, b"true")
     } else {
-        say::text(b"false");
+        say::text(rt, b"false")
     }
 }

@@ -3,55 +3,70 @@
 ghost use Rattle.std.specs.Prelude.{◌≤◌, length};
 
 use crate::{record, say, sums};
+use std::io;
+use std::io::Print;
 use writer::Written;
 
-pub(crate) fn write(bytes: &[u8], day: u64, room: u64, packed: u64) {
+pub(crate) fn write<R: Print>(
+    rt: &R,
+    bytes: &[u8],
+    day: u64,
+    room: u64,
+    packed: u64,
+) -> io::Result<()> {
     let end = bytes.len();
     if (end as u64) < packed {
-        no_question();
-        return;
+        return no_question(rt);
     }
     let middle = packed as usize;
-    take_apart(&bytes[0..middle], &bytes[middle..end], day, room);
+    take_apart(rt, &bytes[0..middle], &bytes[middle..end], day, room)
 }
 
 // The packed items are octets of one value, and not among the bytes.
-pub(crate) fn write_filled(bytes: &[u8], day: u64, room: u64, packed: u64) {
+pub(crate) fn write_filled<R: Print>(
+    rt: &R,
+    bytes: &[u8],
+    day: u64,
+    room: u64,
+    packed: u64,
+) -> io::Result<()> {
     let filled = [0x5Au8; 300_000];
     if 300_000 < packed {
-        no_question();
-        return;
+        return no_question(rt);
     }
     let end = packed as usize;
-    take_apart(&filled[0..end], bytes, day, room);
+    take_apart(rt, &filled[0..end], bytes, day, room)
 }
 
 // Finds the columns among the bytes.
-fn take_apart(packed: &[u8], bytes: &[u8], day: u64, room: u64) {
+fn take_apart<R: Print>(
+    rt: &R,
+    packed: &[u8],
+    bytes: &[u8],
+    day: u64,
+    room: u64,
+) -> io::Result<()> {
     let end = bytes.len();
     if end < 24 {
-        no_question();
-        return;
+        return no_question(rt);
     }
     let kinds = record::number(&bytes[8..12]);
     if ((end - 24) as u64) < kinds {
-        no_question();
-        return;
+        return no_question(rt);
     }
     let flags_at = 24 + kinds as usize;
     let flags = record::number(&bytes[12..16]);
     if ((end - flags_at) as u64) < flags {
-        no_question();
-        return;
+        return no_question(rt);
     }
     let letters_at = flags_at + flags as usize;
     let letters = record::number(&bytes[16..20]);
     if ((end - letters_at) as u64) < letters {
-        no_question();
-        return;
+        return no_question(rt);
     }
     let lengths_at = letters_at + letters as usize;
     lend(
+        rt,
         packed,
         &bytes[0..24],
         &bytes[24..flags_at],
@@ -60,15 +75,16 @@ fn take_apart(packed: &[u8], bytes: &[u8], day: u64, room: u64) {
         &bytes[lengths_at..end],
         day,
         room,
-    );
+    )
 }
 
-pub(crate) fn no_question() {
-    say::text(b"no such question");
+pub(crate) fn no_question<R: Print>(rt: &R) -> io::Result<()> {
+    say::text(rt, b"no such question")
 }
 
 // Reads the lengths and lends the output.
-fn lend(
+fn lend<R: Print>(
+    rt: &R,
     packed: &[u8],
     head: &[u8],
     kinds: &[u8],
@@ -77,7 +93,7 @@ fn lend(
     rest: &[u8],
     day: u64,
     room: u64,
-)
+) -> io::Result<()>
     requires { 24 ≤ length head.now }
 {
     let mut lengths = [0u32; 128];
@@ -85,17 +101,16 @@ fn lend(
     let version = record::number(&head[0..8]);
     let count = record::number(&head[20..24]);
     if 128 < count {
-        no_question();
-        return;
+        return no_question(rt);
     }
     if 300_000 < room {
-        no_question();
-        return;
+        return no_question(rt);
     }
     let last = count as usize;
     let lent = room as usize;
     read_lengths(rest, &mut lengths);
     ask(
+        rt,
         packed,
         kinds,
         flags,
@@ -104,7 +119,7 @@ fn lend(
         version,
         day,
         &mut output[0..lent],
-    );
+    )
 }
 
 // Big-endian numbers of four octets, as many as there are and there is room for.
@@ -120,7 +135,8 @@ fn read_lengths(octets: &[u8], lengths: &mut [u32]) {
     }
 }
 
-fn ask(
+fn ask<R: Print>(
+    rt: &R,
     packed: &[u8],
     kinds: &[u8],
     flags: &[u8],
@@ -129,27 +145,27 @@ fn ask(
     version: u64,
     day: u64,
     output: &mut [u8],
-) {
+) -> io::Result<()> {
     let answer = writer::write(packed, kinds, flags, lengths, letters, version, day, output);
-    told(answer, output);
+    told(rt, answer, output)
 }
 
 // The answer, and what stands in the output.
-pub(crate) fn told(answer: Written, output: &[u8]) {
+pub(crate) fn told<R: Print>(rt: &R, answer: Written, output: &[u8]) -> io::Result<()> {
     match answer {
         Written::Length(length) => {
-            say::text(b"written ");
-            say::number(length as u64);
+            say::text(rt, b"written ")?;
+            say::number(rt, length as u64)
         }
-        Written::Refused(refusal) => say::refused(refusal),
-    }
-    lent(output);
+        Written::Refused(refusal) => say::refused(rt, refusal),
+    }?;
+    lent(rt, output)
 }
 
 // The checksum of all octets of the output that was lent.
-pub(crate) fn lent(output: &[u8]) {
-    say::text(b", output ");
-    say::number(output.len() as u64);
-    say::text(b" octets, checksum ");
-    say::number(sums::adler(output));
+pub(crate) fn lent<R: Print>(rt: &R, output: &[u8]) -> io::Result<()> {
+    say::text(rt, b", output ")?;
+    say::number(rt, output.len() as u64)?;
+    say::text(rt, b" octets, checksum ")?;
+    say::number(rt, sums::adler(output))
 }

@@ -1,0 +1,11 @@
+-- Each number has four octets where its place is below a quarter of them, and the places that are left grow fewer.
+use mathlib.Core.Path.{◌≡◌}
+use Prim.Native.Nat.{◌-◌}
+use lib.ListN.{length}
+use Rattle.cases.proofs.writing.read_lengths.Given as goal
+
+abbrev pub invariant-loop-i : goal.invariant-loop-i
+invariant-loop-i l = length l.lengths ≡ length l.initial.lengths
+
+abbrev pub decreases-loop-i : goal.decreases-loop-i
+decreases-loop-i l = length l.lengths - l.i

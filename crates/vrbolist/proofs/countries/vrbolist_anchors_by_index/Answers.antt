@@ -1,0 +1,6 @@
+-- The answer that is told is the one that was asked for.
+
+use Rattle.vrbolist.proofs.countries.vrbolist_anchors_by_index.Goals as goal
+
+pub returns : goal.returns
+returns c = rw c.anchors_by_index.ensures at c.anchors_told.ensures
