@@ -12,7 +12,6 @@ use Rattle.image.specs.Index.{entry_count, entry_in, items_in}
 use Rattle.chain.specs.declared.asking.Asked.{Asked}
 use Rattle.chain.specs.declared.asking.Asked.TheVariants as asked
 use Rattle.chain.specs.declared.Answer.{Answer}
-use Rattle.chain.specs.declared.Outcome.{Outcome}
 use Rattle.chain.specs.declared.Outcome.TheVariants.{Shown, Refused}
 use Rattle.chain.specs.Good.{chains}
 use Rattle.usable.specs.Table.{verdict_in, table_good}

@@ -7,12 +7,9 @@ use lib.Dec.{eqb}
 use lib.ListN.{length, take, drop}
 use Rattle.octets.specs.Alike.{alike}
 use Rattle.der.specs.Forms.{paper}
-use Rattle.certificate.specs.declared.Fields as certificate
 use Rattle.certificate.specs.Answer.{judged_of}
-use Rattle.crl.specs.declared.Fields as list
 use Rattle.crl.specs.Answer as lists-answer
 use Rattle.crl.specs.Listed.{listed_of}
-use Rattle.graph.specs.Chains.{Graph}
 use Rattle.image.specs.Items.{Item}
 use Rattle.usable.specs.Items.{item_at, on_certificate, certificate_at, on_list, list_at, some_below, some_place, within, part_of}
 use Rattle.usable.specs.Usable.{valid, usable_anchor, same_country, counts, covers, lists, speaks_of, usable}

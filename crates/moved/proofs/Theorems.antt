@@ -3,13 +3,10 @@ use Prim.Native.Nat.{ℕ, zero, suc, ◌≤◌}
 use mathlib.Core.Path.{◌≡◌, refl, sym, ◌∙◌, ap, ap₂}
 use mathlib.Core.Bool.{Bool}
 use mathlib.Core.List.{List, [], ◌∷◌}
-use native.Mathlib.Omega.{arith}
 use lib.ListN.{length}
 use Rattle.octets.specs.Octets.{Octets}
-use Rattle.graph.specs.Chains.{Graph}
 use Rattle.image.specs.Items.{Item}
 use Rattle.image.specs.Index.{entry_count, items_in}
-use Rattle.image.specs.Answer.{opened_as}
 use Rattle.image.proofs.Places.{length-items}
 use Rattle.writer.specs.declared.Written.TheVariants.{Length}
 use Rattle.usable.specs.Items.{item_at}

@@ -1,9 +1,8 @@
 -- An encoded tree is its header before its contents, and its header is read back, whatever follows.
-use mathlib.Core.Path.{◌≡◌, refl, sym, ◌∙◌, ap}
+use mathlib.Core.Path.{◌≡◌, sym, ◌∙◌, ap}
 use mathlib.Core.Bool.{true≢false}
 use mathlib.Core.List.{List, ◌++◌, append_assoc}
 use Prim.Native.Nat.{ℕ, ◌+◌, ◌≤◌}
-use native.Mathlib.Omega.{arith}
 use lib.ListN.{length, length-append}
 use Rattle.der.specs.declared.heading.Heading.TheVariants.{Header}
 use Rattle.der.specs.Forms.{Forms}

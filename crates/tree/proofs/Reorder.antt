@@ -9,7 +9,7 @@ use lib.ListN.{length, length-append}
 use Rattle.der.specs.Forms.{Forms}
 use Rattle.der.specs.Order.{smaller, is_set, handed}
 use Rattle.der.proofs.Ascending.{risen-through, risen-both}
-use Rattle.tree.specs.Tree.{Tree, Trees, node, none, more, tagged, encoded, encoded_all, ordered, Sound, sound-node, SoundAll, sound_none, sound_more}
+use Rattle.tree.specs.Tree.{Tree, Trees, node, none, more, tagged, encoded, encoded_all, ordered, Sound, sound-node, SoundAll, sound_more}
 use Rattle.tree.specs.Reordered.{Inserted, here, there, Permuted, nothing, placed, Reordered, members, inside, ReorderedIn, first, later}
 use Rattle.tree.proofs.Rising.{rises, rises-first, rises-rest, ordered-rises}
 use Rattle.tree.proofs.Headings.{skipped, length-tagged}

@@ -1,17 +1,16 @@
 -- No second answer fits the promise of the question for a chain, or that of a proposal: the answer that is told has none. So both searches
 -- tell the same.
 use Prim.Native.Nat.{ℕ}
-use mathlib.Core.Path.{◌≡◌, refl, sym, ap, ◌∙◌}
+use mathlib.Core.Path.{◌≡◌, sym, ap, ◌∙◌}
 use mathlib.Core.List.{List}
 use Rattle.chain.specs.declared.Answer.{Answer}
-use Rattle.chain.specs.declared.Outcome.{Outcome}
 use Rattle.chain.proofs.Theorems as chain
 use Rattle.vrbolist.specs.declared.told.ToldAnswer.{ToldAnswer}
 use Rattle.chain.proofs.SignersTheorems as signers
 use Rattle.vrbolist.specs.declared.chains.ChainAnswer.{ChainAnswer}
 use Rattle.vrbolist.specs.declared.signers.SignersAnswer.{SignersAnswer}
 use Rattle.vrbolist.specs.Signers as all
-use Rattle.vrbolist.specs.Chains.{chain_told, outcome_number, outcome_detail, Forwarded, forwarded}
+use Rattle.vrbolist.specs.Chains.{chain_told, Forwarded, forwarded}
 use Rattle.vrbolist.specs.Proposals.{proposal_told, Weighed, weighed}
 
 told_same :

@@ -1,5 +1,5 @@
 -- What the C interface tells of each answer: number 0 and the fields of a pass, or a refusal's number and detail and zeros.
-use Rattle.std.specs.Prelude.{ℕ, cond, List, [], ◌∷◌, pos}
+use Rattle.std.specs.Prelude.{cond, [], ◌∷◌, pos}
 use Rattle.refusal.specs.Numbers.{number_of, detail_of}
 use Rattle.der.specs.declared.walking.Walked.{Walked}
 use Rattle.der.specs.declared.walking.Walked.TheVariants as walked

@@ -1,5 +1,4 @@
 -- The slots that are left grow fewer.
-use Prim.Native.Nat.{◌-◌}
 use native.Mathlib.Omega.{arith}
 use Rattle.cases.proofs.chains.unused.Goals as goal
 

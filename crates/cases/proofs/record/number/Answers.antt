@@ -1,5 +1,4 @@
 -- The remainder leaves room for one octet more, and the octets that are left grow fewer.
-use Prim.Native.Nat.{◌-◌}
 use native.Mathlib.Omega.{arith}
 use Rattle.cases.proofs.record.number.Goals as goal
 

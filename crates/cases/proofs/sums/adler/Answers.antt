@@ -1,5 +1,4 @@
 -- The remainders leave room for each addition, and the octets that are left grow fewer.
-use Prim.Native.Nat.{◌-◌}
 use native.Mathlib.Omega.{arith}
 use Rattle.cases.proofs.sums.adler.Goals as goal
 

@@ -1,5 +1,4 @@
 -- Each number has four octets where its place is below a quarter of them, and the places that are left grow fewer.
-use Prim.Native.Nat.{◌-◌}
 use native.Mathlib.Omega.{arith}
 use lib.ListN.{length-set}
 use Rattle.cases.proofs.writing.read_lengths.Goals as goal
