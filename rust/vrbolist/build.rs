@@ -1,4 +1,4 @@
-//! Links `libvrbolist.a`, which `rt staticlib vrbolist` writes to `target/staticlib` at the root of the repository.
+//! Links `libvrbolist.a`, which `rust/archive` puts into `target/staticlib` at the root of the repository.
 
 use std::path::PathBuf;
 
@@ -9,7 +9,7 @@ fn main() {
     println!("cargo:rerun-if-changed={}", archive.display());
     if !archive.exists() {
         println!(
-            "cargo:warning=libvrbolist.a is missing: run `rt staticlib vrbolist` at the root of the repository first"
+            "cargo:warning=libvrbolist.a is missing: run `rust/archive` at the root of the repository first"
         );
         std::process::exit(1);
     }

@@ -10,9 +10,10 @@ use std::process::{Command, Output};
 
 const ARCHIVE: &str = "target/staticlib/libvrbolist.a";
 const RT: &str = "#!/bin/sh
+cd ../..
 echo \"$*\" >>asked
 [ ! -e broken ] || { echo 'fn walk: NOT PROVED' && exit 1; }
-mkdir -p target/staticlib && cat crates/der/src/lib.txt >target/staticlib/libvrbolist.a
+mkdir -p crates/vrbolist/out && cat crates/der/src/lib.txt >crates/vrbolist/out/libvrbolist.a
 ";
 const CARGO: &str = "#!/bin/sh
 [ \"$1\" != --runner ] || exit 0
@@ -29,7 +30,7 @@ fn script(bench: &Bench, name: &str, text: &[u8]) {
 fn repository(name: &str) -> Bench {
     let bench = Bench::new(name);
     for folder in
-        ["bin", "rust", "crates/der/src", "crates/der/specs", "crates/der/proofs/walk", "crates/der/must-fail"]
+        ["bin", "rust", "crates/vrbolist", "crates/der/src", "crates/der/specs", "crates/der/proofs/walk", "crates/der/must-fail"]
     {
         std::fs::create_dir_all(bench.folder.join(folder)).unwrap();
     }
