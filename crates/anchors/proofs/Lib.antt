@@ -1,4 +1,5 @@
 pub mod Tests
 pub mod Turns
 pub mod Picked
+pub mod Ascends
 pub mod Theorems

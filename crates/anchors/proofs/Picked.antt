@@ -21,16 +21,6 @@ found-behind x f = record { slot = suc f.slot; inside = omega (arith, f.inside);
 unfoldable pub Ascending : List ℕ → Type 0
 Ascending l = (i j : ℕ) → i < j → j < length l → get_or l i 255 < get_or l j 255
 
-ascending-none : Ascending []
-unfolding Ascending
-ascending-none i j h k = absurd (omega arith)
-
-ascending-more : (x : ℕ) (l : List ℕ) → ((j : ℕ) → j < length l → x < get_or l j 255) → Ascending l → Ascending (x ∷ l)
-unfolding Ascending
-ascending-more x l least a i zero h k = absurd (omega arith)
-ascending-more x l least a zero (suc j) h k = least j (omega arith)
-ascending-more x l least a (suc i) (suc j) h k = a i j (omega arith) (omega arith)
-
 module _ (test : Item → Bool) where
   -- the item of a place passes, the items counted from a place on
   pub record Passes (items : List Item) (from place : ℕ) : Type 0 where
@@ -70,11 +60,6 @@ module _ (test : Item → Bool) where
     one_found true e more = rw (places-take test from item rest e) (found-behind from more)
     one_found false e more = rw (places-skip test from item rest e) more
 
-    one-ascends :
-        (b : Bool) → test item ≡ b → ((j : ℕ) → j < length behind → from < get_or behind j 255) → Ascending behind → Ascending all
-    one-ascends true e least more = rw (places-take test from item rest e) (ascending-more from behind least more)
-    one-ascends false e least more = rw (places-skip test from item rest e) more
-
   pub found-passes :
       (items : List Item) (from i : ℕ) → i < length (places_from test from items)
       → Passes items from (get_or (places_from test from items) i 255)
@@ -92,9 +77,3 @@ module _ (test : Item → Bool) where
       let one : suc from + at ≡ from + suc at = omega arith in
       one_found item rest from (test item) refl
       (subst (Found (places_from test (suc from) rest)) one (passes-found rest (suc from) at (omega arith) p))
-
-  pub ascends : (items : List Item) (from : ℕ) → Ascending (places_from test from items)
-  unfolding places_from
-  ascends [] from = ascending-none
-  ascends (item ∷ rest) from =
-      one-ascends item rest from (test item) refl (λ j h. omega (arith, (found-passes rest (suc from) j h).here)) (ascends rest (suc from))

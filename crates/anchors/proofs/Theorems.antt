@@ -30,6 +30,7 @@ use Rattle.letters.proofs.Theorems.{spelled-are, are-spelled}
 use Rattle.anchors.specs.declared.Listing.{Listing}
 use Rattle.image.specs.Chosen.{places_from}
 use Rattle.anchors.specs.Listing.{enabled, full_for, short_for, index_letters, listed_as, unlisted, on_opened, listed_of, anchors_of, anchors_by_index}
+use Rattle.anchors.proofs.Ascends.{ascends}
 use Rattle.anchors.proofs.Picked as picked
 
 -- a place is listed: it stands in a slot that is used
@@ -85,7 +86,7 @@ none-ascend why i j h k = absurd (omega arith)
 opened-ascend : (test : Item → Bool) (s : List ℕ) (o : Opened) → Ascending (on_opened test s o)
 unfolding on_opened
 opened-ascend test s (Refused why) = none-ascend why
-opened-ascend test s (Image n day version) = slots-ascend _ (picked.ascends test (items_in s) 0)
+opened-ascend test s (Image n day version) = slots-ascend _ (ascends test (items_in s) 0)
 
 listed-ascend : (first second : ℕ) (test : Item → Bool) (s : List ℕ) (o : Opened) → Ascending (listed_of first second test s o)
 unfolding listed_of

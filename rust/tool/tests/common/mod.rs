@@ -32,6 +32,15 @@ pub fn program() -> Vec<String> {
     words
 }
 
+/// The folder goes with the test that made it, but for one that fails: `rt` would take a `crates.txt` in it for a repository.
+impl Drop for Bench {
+    fn drop(&mut self) {
+        if !std::thread::panicking() {
+            let _ = std::fs::remove_dir_all(&self.folder);
+        }
+    }
+}
+
 impl Bench {
     pub fn new(name: &str) -> Bench {
         let folder = Path::new(env!("CARGO_TARGET_TMPDIR")).join(name);
