@@ -1,4 +1,4 @@
--- The places of the items that pass a test: all of these and no others, ascending.
+-- The places of the items that pass a test: all of these and no others. And what it is that places ascend.
 use Prim.Native.Nat.{ℕ, zero, suc, ◌+◌, ◌<◌}
 use mathlib.Core.Path.{◌≡◌, refl, subst}
 use mathlib.Core.Bool.{Bool, true, false}
