@@ -199,16 +199,16 @@ module _ (items : List Item) (at : ℕ → ℕ) (held : Row → List ℕ) (place
       let told = told-next a b items at table moment _ near _ rows (first-told items at table moment target a b signer h few three is)
       (λ p k. first-kept items at table moment target near end p) opens in
       let wide = near-wider a b items at table moment c before near wider lists rows firsts named voucher listed told in
-      let Told-more = told-live items moment at (is_open a b items table wider) opened
+      let told-more = told-live items moment at (is_open a b items table wider) opened
       (told-next a b items at table moment near wider rows opened told wide more-open) in
       let scope = given-scope a b items at table moment c before near wider lists rows firsts named voucher listed told in
-      let counts = counting-means items at table moment scope opened Told-more counting counted in
+      let counts = counting-means items at table moment scope opened told-more counting counted in
       record {
         there = λ p. is_open a b items table wider p && live items moment p;
         within = λ p. inside a b items table wider p && live items moment p;
         scope = scope;
-        told = Told-more;
-        known = roles-mean items at table moment scope opened Told-more held placed counting counts (replicate 96 0) (replicate 96 0) roles known
+        told = told-more;
+        known = roles-mean items at table moment scope opened told-more held placed counting counts (replicate 96 0) (replicate 96 0) roles known
             (λ p k e. absurd (no-slots p e));
         near = λ d.
             chain-within a b items at table moment c before near wider lists rows firsts named voucher listed told target (row-home items at table moment target signer three is some) d

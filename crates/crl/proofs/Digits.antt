@@ -158,11 +158,11 @@ date_of c = eight (get_or c 0 0) (get_or c 1 0) (get_or c 2 0) (get_or c 3 0) (g
 
 module _
     (c : List ℕ) (ds : Each Digit (date_of c)) (n p : ℕ) (is : n ≡ word (date_of c))
-    (Made-so : p ≡ (n - 0x3030303030303030) * 10 + (n - 0x3030303030303030) / 256) where
+    (made-so : p ≡ (n - 0x3030303030303030) * 10 + (n - 0x3030303030303030) / 256) where
   pub usual-date : HeldTo p → (p / 0x10000 % 256 ≡ 0 → ⊥) → (p / 0x100000000 % 256 ≡ 0 → ⊥) → UsualDate c
   usual-date held month day =
       let few = pairs-few _ _ _ _ _ _ _ _ ds in
-      let word-is = Made-so ∙ pairs_made _ _ _ _ _ _ _ _ ds n is in
+      let word-is = made-so ∙ pairs_made _ _ _ _ _ _ _ _ ds n is in
       let third-is = ap (λ (k : ℕ). k / 0x10000 % 256) word-is ∙ third _ _ _ _ _ _ _ _ few in
       let fifth-is = ap (λ (k : ℕ). k / 0x100000000 % 256) word-is ∙ fifth _ _ _ _ _ _ _ _ few in
       let seventh-is = ap (λ (k : ℕ). k / 0x1000000000000 % 256) word-is ∙ seventh _ _ _ _ _ _ _ _ few in

@@ -1,4 +1,3 @@
--- The extensions before `at` are told by what was found; those from `at` on are left.
 use Prim.Native.Nat.{◌-◌}
 use Rattle.extensions.proofs.Passing.{Far}
 use Rattle.extensions.proofs.one_pass.Given as goal

@@ -1,4 +1,3 @@
--- The kinds of the places so far are told, and the next entry starts where the last one ends.
 use Prim.Native.Nat.{ℕ, ◌+◌, ◌*◌, ◌-◌, ◌<◌, ◌≤◌}
 use mathlib.Core.Path.{◌≡◌}
 use lib.ListN.{length, get_or}

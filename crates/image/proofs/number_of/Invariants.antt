@@ -1,4 +1,3 @@
--- After i octets the value is their number, and a number of four octets is below 2 to the power of 32.
 use Prim.Native.Nat.{◌-◌, ◌^◌, ◌≤◌, ◌<◌}
 use mathlib.Core.Path.{◌≡◌}
 use lib.ListN.{length, take}

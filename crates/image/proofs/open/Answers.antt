@@ -1,5 +1,4 @@
 -- Both versions are read.
-
 use Rattle.image.proofs.open.Goals as goal
 
 pub returns : goal.returns

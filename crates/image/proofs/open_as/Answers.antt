@@ -1,5 +1,4 @@
 -- One version is read.
-
 use Rattle.image.proofs.open_as.Goals as goal
 
 pub returns : goal.returns

@@ -1,4 +1,3 @@
--- With what is left of the entries the sum comes to the same as at the start, and no length passes 65,535.
 use Prim.Native.Nat.{ℕ, ◌+◌, ◌*◌, ◌-◌, ◌≤◌}
 use mathlib.Core.Path.{◌≡◌}
 use mathlib.Core.List.{List}

@@ -1,4 +1,3 @@
--- The SETs from here on, with the countryNames seen before them, come to what the whole name comes to.
 use Prim.Native.Nat.{◌-◌}
 use mathlib.Core.Path.{◌≡◌}
 use Rattle.der.specs.Forms.{paper}

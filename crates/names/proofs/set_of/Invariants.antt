@@ -1,4 +1,3 @@
--- The attributes from this one on, with the countryNames seen before it, come to what the whole SET comes to.
 use Prim.Native.Nat.{◌-◌}
 use mathlib.Core.List.{◌∷◌}
 use mathlib.Core.Path.{◌≡◌}

@@ -1,4 +1,3 @@
--- The search stands at the column that comes next in the row of outside, and no place from there on is reached.
 use Prim.Native.Nat.{ℕ, ◌+◌, ◌-◌, ◌≤◌, ◌<◌}
 use mathlib.Core.Path.{◌≡◌}
 use mathlib.Core.Bool.{Bool}

@@ -1,5 +1,3 @@
--- The slots from `left` on hold what stands on the path behind the place that is reached, and as many are left as that place has
--- on its own path, at first the distance of the target.
 use Rattle.search.specs.Queue.{Paths}
 use Rattle.search.proofs.Traces.{Filling}
 use Rattle.search.proofs.path_places.Given as goal

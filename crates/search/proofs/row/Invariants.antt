@@ -1,5 +1,3 @@
--- The search stands at the column that comes next, the row is that of the head, which is an anchor or a link, and what is new there has
--- the distance of the head and one more.
 use Prim.Native.Nat.{ℕ, ◌+◌, ◌*◌, ◌-◌, ◌≤◌, ◌<◌}
 use mathlib.Core.Bool.{true}
 use mathlib.Core.Path.{◌≡◌}

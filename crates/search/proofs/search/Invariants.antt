@@ -1,4 +1,3 @@
--- The search stands at the end of the row of the head, and with no row left its tables are those of the paths.
 use Prim.Native.Nat.{◌+◌, ◌-◌, ◌≤◌}
 use Rattle.graph.specs.Search.{followed}
 use Rattle.usable.specs.Rows.{held_in}

@@ -1,4 +1,3 @@
--- Before each record the state is the machine's, and what was counted and listed, with what is left, comes to all.
 use Prim.Native.Nat.{◌-◌}
 use Rattle.tray.specs.Records.{state_of}
 use Rattle.tray.proofs.Turns.{Turn}

@@ -1,4 +1,3 @@
--- Whether all are zeros is whether those so far were and those left are.
 use Prim.Native.Nat.{◌-◌, ◌≤◌}
 use mathlib.Core.Path.{◌≡◌}
 use mathlib.Core.Bool.{◌&&◌}

@@ -1,4 +1,3 @@
--- The entries written so far and those of the rows left are the whole index; each ends where the next begins.
 use mathlib.Core.Path.{◌≡◌}
 use Prim.Native.Nat.{ℕ, ◌*◌, ◌-◌, ◌^◌, ◌≤◌}
 use mathlib.Core.List.{List, ◌++◌}

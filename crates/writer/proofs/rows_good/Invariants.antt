@@ -1,4 +1,3 @@
--- Whether all rows are good is whether those left are, as long as each so far is.
 use Prim.Native.Nat.{◌-◌, ◌≤◌}
 use mathlib.Core.Path.{◌≡◌}
 use lib.ListN.{length, drop}

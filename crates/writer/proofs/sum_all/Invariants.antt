@@ -1,4 +1,3 @@
--- The sum so far and that of the lengths left come to the sum of all; 96 lengths below 2 to the power of 32 do not wrap.
 use Prim.Native.Nat.{◌+◌, ◌*◌, ◌-◌, ◌^◌, ◌≤◌}
 use mathlib.Core.Path.{◌≡◌}
 use lib.ListN.{length, drop}

@@ -1,4 +1,3 @@
--- The slots that are left grow fewer.
 use Prim.Native.Nat.{◌-◌}
 use lib.ListN.{length}
 use Rattle.cases.proofs.chains.unused.Given as goal

@@ -1,4 +1,3 @@
--- The remainder leaves room for one octet more, and the octets that are left grow fewer.
 use Prim.Native.Nat.{◌-◌}
 use lib.ListN.{length}
 use Rattle.cases.proofs.record.number.Given as goal

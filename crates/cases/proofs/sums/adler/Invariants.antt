@@ -1,4 +1,3 @@
--- The remainders leave room for each addition, and the octets that are left grow fewer.
 use Prim.Native.Nat.{◌-◌}
 use lib.ListN.{length}
 use Rattle.cases.proofs.sums.adler.Given as goal

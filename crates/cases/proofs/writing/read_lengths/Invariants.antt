@@ -1,4 +1,3 @@
--- Each number has four octets where its place is below a quarter of them, and the places that are left grow fewer.
 use mathlib.Core.Path.{◌≡◌}
 use Prim.Native.Nat.{◌-◌}
 use lib.ListN.{length}

@@ -1,4 +1,3 @@
--- Of the strings, those from `at` on are left: the answer for all is the answer for them.
 use mathlib.Core.Path.{◌≡◌}
 use Prim.Native.Nat.{◌-◌}
 use Rattle.der.specs.Forms.{paper}

@@ -1,4 +1,3 @@
--- The step that is found is good.
 use Prim.Native.Nat.{◌-◌, ◌<◌, ◌≤◌}
 use Rattle.chain.proofs.anchors.begins.Given as goal
 

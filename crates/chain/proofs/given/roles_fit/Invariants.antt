@@ -1,4 +1,3 @@
--- The places so far have their roles, and the first that has not refuses.
 use Prim.Native.Nat.{ℕ, ◌-◌, ◌<◌, ◌≤◌}
 use mathlib.Core.Path.{◌≡◌}
 use mathlib.Core.List.{List}

@@ -1,4 +1,3 @@
--- The inner loop asks one signer more, the outer one goes to the next usable place.
 use Prim.Native.Nat.{◌-◌, ◌≤◌}
 use mathlib.Core.Path.{◌≡◌}
 use lib.ListN.{length}

@@ -1,4 +1,3 @@
--- What was heard of the octets so far says whether one of them is 1.
 use Prim.Native.Nat.{◌-◌, ◌*◌, ◌≤◌}
 use mathlib.Core.Path.{◌≡◌}
 use lib.ListN.{length, take, drop}

@@ -1,4 +1,3 @@
--- The places so far are in the image, and the first that is not refuses.
 use Prim.Native.Nat.{ℕ, ◌-◌, ◌<◌, ◌≤◌}
 use lib.ListN.{length, get_or}
 use Rattle.chain.proofs.proposal.all_there.Given as goal

@@ -1,4 +1,3 @@
--- Where nothing was heard none of the octets so far is 1 at a CRL.
 use Prim.Native.Nat.{◌-◌, ◌*◌, ◌≤◌}
 use mathlib.Core.Path.{◌≡◌}
 use mathlib.Core.Bool.{false}

@@ -1,4 +1,3 @@
--- What holds at the start of a round holds at that of the next, and what a round settles is the answer.
 use Prim.Native.Nat.{ℕ, ◌-◌, ◌<◌, ◌≤◌}
 use mathlib.Core.Path.{◌≡◌}
 use mathlib.Core.List.{List}

@@ -1,4 +1,3 @@
--- The rows of the places so far are told.
 use Prim.Native.Nat.{◌-◌, ◌≤◌}
 use mathlib.Core.Path.{◌≡◌}
 use lib.ListN.{length}

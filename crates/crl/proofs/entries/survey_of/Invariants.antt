@@ -1,4 +1,3 @@
--- The entries from `at` on, with what was found of those before them, come to what all of them come to.
 use Prim.Native.Nat.{◌+◌, ◌-◌, ◌≤◌}
 use mathlib.Core.Path.{◌≡◌}
 use lib.ListN.{length}

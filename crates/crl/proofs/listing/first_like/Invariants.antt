@@ -1,4 +1,3 @@
--- Each entry that is passed by has another serial.
 use Prim.Native.Nat.{◌-◌}
 use Rattle.crl.specs.FastEntries.{NoneBefore}
 use Rattle.crl.proofs.listing.first_like.Given as goal

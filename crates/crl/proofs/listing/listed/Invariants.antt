@@ -1,4 +1,3 @@
--- Of the entries, those from `at` on are left: the answer for all is the answer for them.
 use Prim.Native.Nat.{◌-◌}
 use mathlib.Core.Path.{◌≡◌}
 use Rattle.der.specs.Forms.{paper}

@@ -1,4 +1,3 @@
--- Sub-identifiers read from octet i on, after the octet before it, are good just if they all are.
 use Prim.Native.Nat.{◌-◌, ◌≤◌}
 use mathlib.Core.Bool.{true}
 use mathlib.Core.Path.{◌≡◌}

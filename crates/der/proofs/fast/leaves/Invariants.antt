@@ -1,4 +1,3 @@
--- Each turn reads one leaf more, or goes into the last element; a leaf that ends too far ends the loop.
 use Prim.Native.Nat.{ℕ, ◌+◌, ◌-◌, ◌*◌, ◌≤◌}
 use mathlib.Core.Bool.{false}
 use mathlib.Core.List.{List}

@@ -1,5 +1,3 @@
--- After i octets `value` is their number and `most` is one less than 256 to the power of i; a negative number lacks to that
--- power what `value` lacks to `most`, and one more.
 use Prim.Native.Nat.{suc, ◌-◌, ◌^◌, ◌≤◌}
 use mathlib.Core.Path.{◌≡◌}
 use lib.ListN.{length, take}

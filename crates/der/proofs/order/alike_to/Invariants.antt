@@ -1,4 +1,3 @@
--- Each turn finds one block more that is the same in both.
 use Prim.Native.Nat.{ℕ, ◌-◌, ◌≤◌}
 use mathlib.Core.List.{List}
 use mathlib.Core.Path.{◌≡◌}

@@ -1,4 +1,3 @@
--- Octets that are the same in both change nothing, and the first ones that are not decide.
 use Prim.Native.Nat.{◌-◌, ◌≤◌}
 use mathlib.Core.Path.{◌≡◌}
 use lib.ListN.{length, drop}

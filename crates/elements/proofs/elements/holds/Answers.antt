@@ -1,5 +1,4 @@
 -- The contents are compared as they stand.
-
 use Rattle.elements.proofs.elements.holds.Goals as goal
 
 pub returns : goal.returns

@@ -1,5 +1,4 @@
 -- Both elements are compared whole.
-
 use Rattle.elements.proofs.elements.twins.Goals as goal
 
 pub returns : goal.returns

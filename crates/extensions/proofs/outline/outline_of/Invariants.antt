@@ -1,4 +1,3 @@
--- The extensions before `at` are told by the two flags; those from `at` on are left.
 use Prim.Native.Nat.{◌-◌}
 use mathlib.Core.Bool.{false}
 use Rattle.extensions.proofs.Outlining.{Shaping, Marking}

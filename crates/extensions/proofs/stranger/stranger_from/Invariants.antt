@@ -1,4 +1,3 @@
--- The members before `at` have a slot or are no extensions; those from `at` on are left.
 use Prim.Native.Nat.{◌-◌, ◌≤◌}
 use mathlib.Core.Path.{◌≡◌}
 use Rattle.der.specs.Forms.{paper}

@@ -1,4 +1,3 @@
--- The OIDs from `at` on are left; of the rows, those from `i` on are to be compared with this OID.
 use Prim.Native.Nat.{◌-◌, ◌≤◌}
 use mathlib.Core.Path.{◌≡◌}
 use mathlib.Core.Bool.{false}

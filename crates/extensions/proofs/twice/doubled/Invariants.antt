@@ -1,4 +1,3 @@
--- What is left to tell is told by the OIDs that the last round had no room for.
 use Prim.Native.Nat.{◌-◌, ◌<◌}
 use mathlib.Core.Path.{◌≡◌}
 use mathlib.Core.Bool.{false, ◌||◌}

@@ -1,4 +1,3 @@
--- The round that was done is whole; one that marked nothing was the last, and there are no more rounds than slots.
 use Prim.Native.Nat.{◌-◌, ◌≤◌}
 use Rattle.graph.specs.Chains.{graph_of}
 use Rattle.graph.specs.Search.{followed}

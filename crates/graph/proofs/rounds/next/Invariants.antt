@@ -1,4 +1,3 @@
--- No place that was looked at is on the ways at that distance and reached by a good step.
 use Prim.Native.Nat.{ℕ, ◌-◌, ◌<◌, ◌≤◌}
 use mathlib.Core.Bool.{true}
 use mathlib.Core.Path.{◌≡◌}

@@ -1,4 +1,3 @@
--- The ways stand before the row of the place that comes next; a place that is not so far, or a signer, leads to none of them.
 use Prim.Native.Nat.{ℕ, ◌-◌, ◌≤◌}
 use mathlib.Core.List.{List}
 use lib.ListN.{get_or}

@@ -1,4 +1,3 @@
--- The round stands at the column that comes next, in the row of one place that is so far.
 use Prim.Native.Nat.{ℕ, ◌-◌, ◌<◌, ◌≤◌}
 use mathlib.Core.Path.{◌≡◌}
 use mathlib.Core.List.{List}

@@ -1,4 +1,3 @@
--- So many places of the path to the target are read off, and the next one is the first that the ways lead on to.
 use Prim.Native.Nat.{ℕ, ◌-◌, ◌<◌, ◌≤◌}
 use mathlib.Core.List.{List}
 use lib.ListN.{get_or}

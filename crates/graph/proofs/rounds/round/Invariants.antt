@@ -1,4 +1,3 @@
--- The round stands before the row of the place that comes next; a place that is not so far, or a signer, has none to follow.
 use Prim.Native.Nat.{ℕ, ◌-◌, ◌≤◌}
 use mathlib.Core.List.{List}
 use Rattle.graph.specs.Chains.{graph_of}

@@ -1,4 +1,3 @@
--- The ways are whole down to the distance that was done last, the first time to that of the target.
 use Prim.Native.Nat.{◌≤◌}
 use lib.ListN.{get_or}
 use Rattle.graph.specs.Chains.{graph_of}

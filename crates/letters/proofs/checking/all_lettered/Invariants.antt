@@ -1,4 +1,3 @@
--- What is left of the items is as true as all of them were, as long as each item passed had its true letters.
 use Prim.Native.Nat.{◌-◌, ◌≤◌}
 use mathlib.Core.Path.{◌≡◌}
 use lib.ListN.{drop}

@@ -1,4 +1,3 @@
--- Each turn fills the next place of every column.
 use Prim.Native.Nat.{ℕ, ◌-◌, ◌<◌, ◌≤◌}
 use mathlib.Core.Path.{◌≡◌}
 use Rattle.image.specs.Index.{entry_count, version_in, entry_in}

@@ -1,4 +1,3 @@
--- All octets before i are equal; a block that differs, or the lengths, tell the strings apart, and the last block decides.
 use Prim.Native.Nat.{◌-◌, ◌≤◌}
 use mathlib.Core.Path.{◌≡◌}
 use lib.ListN.{length, take}

@@ -1,4 +1,3 @@
--- The octets compared so far are alike just if those before this one were, and this one.
 use Prim.Native.Nat.{◌-◌, ◌≤◌}
 use mathlib.Core.Path.{◌≡◌}
 use lib.ListN.{take, drop}

@@ -1,4 +1,3 @@
--- The first image's kinds stay before its end, and the update's stand behind it so far.
 use Prim.Native.Nat.{ℕ, ◌-◌, ◌<◌, ◌≤◌}
 use mathlib.Core.Path.{◌≡◌}
 use lib.ListN.{length, get_or}

@@ -1,4 +1,3 @@
--- Each turn adds the place to those found if its item stays, and else nothing.
 use Prim.Native.Nat.{◌-◌}
 use mathlib.Core.Path.{◌≡◌}
 use Rattle.image.specs.Index.{version_in}

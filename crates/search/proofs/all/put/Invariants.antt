@@ -1,4 +1,3 @@
--- After i slots the output has the first i of them behind the length.
 use Prim.Native.Nat.{◌+◌, ◌-◌, ◌≤◌}
 use mathlib.Core.Path.{◌≡◌}
 use lib.ListN.{length}

@@ -1,4 +1,3 @@
--- The records of the places so far are put, and each further one leaves them.
 use Prim.Native.Nat.{ℕ, ◌-◌, ◌≤◌}
 use mathlib.Core.Path.{◌≡◌}
 use mathlib.Core.Bool.{Bool}

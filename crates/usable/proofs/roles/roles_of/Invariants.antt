@@ -1,4 +1,3 @@
--- One slot more is filled, with the role that was known or the one that the CRLs leave.
 use Prim.Native.Nat.{ℕ, ◌-◌, ◌≤◌, ◌<◌}
 use mathlib.Core.Path.{◌≡◌}
 use lib.ListN.{length, get_or}

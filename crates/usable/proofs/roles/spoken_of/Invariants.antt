@@ -1,4 +1,3 @@
--- One CRL more is asked, or passed over.
 use Prim.Native.Nat.{◌-◌, ◌≤◌}
 use mathlib.Core.Path.{◌≡◌}
 use Rattle.usable.specs.Rows.{held_in, spoken_below}

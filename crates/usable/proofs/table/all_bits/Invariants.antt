@@ -1,4 +1,3 @@
--- The largest octet read so far is a bit, and those left decide.
 use Prim.Native.Nat.{◌-◌, ◌≤◌}
 use mathlib.Core.Bool.{◌&&◌}
 use mathlib.Core.Path.{◌≡◌}

@@ -1,5 +1,4 @@
 -- The answer that is told is the one that was asked for.
-
 use Rattle.vrbolist.proofs.countries.vrbolist_anchors.Goals as goal
 
 pub returns : goal.returns

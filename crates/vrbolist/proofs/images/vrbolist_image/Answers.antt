@@ -1,5 +1,4 @@
 -- The answer is taken apart as it is defined to be told.
-
 use Rattle.vrbolist.proofs.images.vrbolist_image.Goals as goal
 
 pub returns : goal.returns

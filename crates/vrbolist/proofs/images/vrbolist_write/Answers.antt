@@ -1,5 +1,4 @@
 -- The answer is told, and the output is as the writer leaves it.
-
 use Rattle.vrbolist.proofs.images.vrbolist_write.Goals as goal
 
 pub returns : goal.returns

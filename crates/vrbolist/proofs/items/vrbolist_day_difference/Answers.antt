@@ -1,5 +1,4 @@
 -- The answer is taken apart as it is defined to be told.
-
 use Rattle.vrbolist.proofs.items.vrbolist_day_difference.Goals as goal
 
 pub returns : goal.returns

@@ -1,5 +1,4 @@
 -- The answer is told, and both outputs are as the making of room leaves them.
-
 use Rattle.vrbolist.proofs.rooms.vrbolist_make_room.Goals as goal
 
 pub returns : goal.returns

@@ -1,5 +1,4 @@
 -- The test decides.
-
 use Rattle.vrbolist.proofs.versions.one_if.Goals as goal
 
 pub returns-then-so : goal.returns-then-so

@@ -1,5 +1,4 @@
 -- The answer is told, and the output is as the move leaves it.
-
 use Rattle.vrbolist.proofs.versions.vrbolist_move_to_1.Goals as goal
 
 pub returns : goal.returns

@@ -1,4 +1,3 @@
--- After the blocks before `at` the output has the first `at` octets, and from there on what it had.
 use Prim.Native.Nat.{◌-◌, ◌≤◌}
 use mathlib.Core.Path.{◌≡◌}
 use mathlib.Core.List.{◌++◌}

@@ -1,4 +1,3 @@
--- After i octets the output has the first i of them, and from there on what it had.
 use Prim.Native.Nat.{◌-◌, ◌≤◌}
 use mathlib.Core.Path.{◌≡◌}
 use mathlib.Core.List.{◌++◌}
