@@ -4,7 +4,6 @@ use mathlib.Core.Path.{◌≡◌, sym, ◌∙◌}
 use mathlib.Core.Bool.{Bool, true, false, ◌&&◌, and-eq-true_iff}
 use mathlib.Core.List.{List}
 use borrow.Author.Tests.{eq-eqb, ne_eqb}
-use lib.ListN.{take, drop}
 use Rattle.names.specs.Names.{is_capital}
 use Rattle.image.specs.declared.IndexEntry.{IndexEntry}
 use Rattle.image.specs.Index.{entry_in, item_at}
@@ -56,7 +55,7 @@ module _ (s : List ℕ) (place : ℕ) {kind : ℕ} (of : kind ≡ (entry_in s pl
 
       -- by those that the item reports
       pub by-report :
-          {by answer : Bool} {bytes : List ℕ} {country : Country} → by ≡ false → bytes ≡ take e.length (drop e.offset s)
+          {by answer : Bool} {bytes : List ℕ} {country : Country} → by ≡ false → bytes ≡ (item_at s (entry_in s place)).bytes
           → country ≡ true_of e.kind bytes → answer ≡ spells first second country
           → answer ≡ test_for by first second (item_at s (entry_in s place))
       unfolding item_at

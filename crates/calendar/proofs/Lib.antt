@@ -1,6 +1,5 @@
 pub mod Days
 pub mod Number
-pub mod Keys
 pub mod Table
 pub mod Signed
 pub mod Between

@@ -18,17 +18,6 @@ pub more : (a b : ℕ) → b ≤ a → pos a -ℤ pos b ≡ pos (a - b)
 more a zero h = ap pos (omega arith)
 more a (suc b) h = simp (le-ltb a (suc b) h)
 
--- numbers that are one more have the same difference
-pub both-more : (a b : ℕ) → pos (a + 1) -ℤ pos (b + 1) ≡ pos a -ℤ pos b
-both-more a b =
-    by-test (ltb a b)
-    (λ e.
-    let h : a < b = ltb-true a b e in
-    less (a + 1) (b + 1) (omega arith) ∙ sym (less a b h ∙ ap negsuc (omega arith)))
-    (λ e.
-    let h : b ≤ a = ltb-false a b e in
-    more (a + 1) (b + 1) (omega arith) ∙ sym (more a b h ∙ ap pos (omega arith)))
-
 -- the difference of two numbers that are read as signed ones fits
 pub fits : (a b : ℕ) → a < 2 ^ 63 → b < 2 ^ 63 → SFits w64 (to_z w64 a -ℤ to_z w64 b)
 fits a b ha hb =

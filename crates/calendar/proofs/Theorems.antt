@@ -1,10 +1,10 @@
 -- What the calendar promises, from its definitions alone.
+use Rattle.std.specs.Prelude.{Ok}
 use mathlib.Core.Path.{◌≡◌, ◌∙◌, ap}
 use mathlib.Core.Bool.{true}
 use mathlib.Core.Logic.{◌↔◌}
 use Prim.Native.Nat.{ℕ, suc, ◌<◌}
 use lib.IntN.{ℤ, pos, negsuc, neg_ℤ, ◌+ℤ◌}
-use Rattle.calendar.specs.declared.Difference.TheVariants.{Days}
 use Rattle.calendar.specs.Days.{real_day}
 use Rattle.calendar.specs.Number.{day_number, day_after}
 use Rattle.calendar.specs.Difference.{difference_of}
@@ -43,26 +43,26 @@ only f zeroth step d t = no_other f zeroth step d (real 1950 2099 d t)
 
 -- Between two real days there is a number of days.
 pub answered : (a b : ℕ) → real_day 1950 2099 a ≡ true → real_day 1950 2099 b ≡ true
-    → (x : ℤ) × (difference_of a b ≡ Days x)
+    → (x : ℤ) × (difference_of a b ≡ Ok x)
 answered a b ta tb = (_, answer a b ta tb)
 
 -- If b is x days after a, and c is y days after b, then c is x + y days after a.
 pub additive : (a b c : ℕ) (x y : ℤ)
-    → difference_of a b ≡ Days x → difference_of b c ≡ Days y → difference_of a c ≡ Days (x +ℤ y)
+    → difference_of a b ≡ Ok x → difference_of b c ≡ Ok y → difference_of a c ≡ Ok (x +ℤ y)
 additive a b c x y p q =
     let k : Answered a b x = between a b x p in
     let l : Answered b c y = between b c y q in
     answer a c k.from l.to
-    ∙ ap Days (rw (k.days, l.days) (adds (pos (day_number a)) (pos (day_number b)) (pos (day_number c))))
+    ∙ ap Ok (rw (k.days, l.days) (adds (pos (day_number a)) (pos (day_number b)) (pos (day_number c))))
 
 -- If b is x days after a, then a is -x days after b.
-pub turned : (a b : ℕ) (x : ℤ) → difference_of a b ≡ Days x → difference_of b a ≡ Days (neg_ℤ x)
+pub turned : (a b : ℕ) (x : ℤ) → difference_of a b ≡ Ok x → difference_of b a ≡ Ok (neg_ℤ x)
 turned a b x p =
     let k : Answered a b x = between a b x p in
     answer b a k.to k.from
-    ∙ ap Days (rw k.days (turns (pos (day_number a)) (pos (day_number b))))
+    ∙ ap Ok (rw k.days (turns (pos (day_number a)) (pos (day_number b))))
 
 -- Between real days the number is negative if, and only if, the second is earlier.
 pub negative : (a b : ℕ) → real_day 1950 2099 a ≡ true → real_day 1950 2099 b ≡ true
-    → (b < a) ↔ ((n : ℕ) × (difference_of a b ≡ Days (negsuc n)))
+    → (b < a) ↔ ((n : ℕ) × (difference_of a b ≡ Ok (negsuc n)))
 negative a b ta tb = (λ h. (_, below-zero a b ta tb h), λ p. earlier a b p.0 p.1)

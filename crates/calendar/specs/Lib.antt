@@ -1,4 +1,3 @@
 pub mod Days
 pub mod Number
 pub mod Difference
-pub mod Table

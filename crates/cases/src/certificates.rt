@@ -1,13 +1,13 @@
 // Questions about certificates.
 use crate::say;
-use certificate::{Fields, Judged};
+use certificate::Fields;
 use std::io;
 use std::io::Print;
 
 pub(crate) fn judge<R: Print>(rt: &R, item: &[u8], role: u64) -> io::Result<()> {
     match certificate::judge(item, role) {
-        Judged::Passed(fields) => tell(rt, fields),
-        Judged::Refused(refusal) => say::refused(rt, refusal),
+        Ok(fields) => tell(rt, fields),
+        Err(refusal) => say::refused(rt, refusal),
     }
 }
 

@@ -1,7 +1,8 @@
 // Questions for the anchors of a country, asked in full and by the index.
 use crate::chains::{others, places};
 use crate::say;
-use anchors::{Listing, Outcome};
+use anchors::Listing;
+use refusal::Refusal;
 use std::io;
 use std::io::Print;
 
@@ -16,30 +17,25 @@ pub(crate) fn of_letters<R: Print>(
     tell(rt, anchors::anchors_by_index(image, first, second))
 }
 
-fn tell<R: Print>(rt: &R, listing: Listing) -> io::Result<()> {
-    let outcome = listing.outcome;
-    let count = listing.count;
-    let slots = listing.places;
-    show(rt, outcome, count, &slots)
-}
-
 // The places or the refusal, and the slots beyond the count.
-fn show<R: Print>(rt: &R, outcome: Outcome, count: usize, slots: &[u8]) -> io::Result<()> {
-    let end = slots.len();
-    if end < count {
-        return say::text(rt, b"more places than slots");
-    }
-    match outcome {
-        Outcome::Listed => {
+fn tell<R: Print>(rt: &R, listing: Result<Listing, Refusal>) -> io::Result<()> {
+    match listing {
+        Ok(found) => {
+            let count = found.count;
+            let slots = found.places;
+            let end = slots.len();
+            if end < count {
+                return say::text(rt, b"more places than slots");
+            }
             say::number(rt, count as u64)?;
             say::text(rt, b" anchors:")?;
-            places(rt, &slots[0..count])
+            places(rt, &slots[0..count])?;
+            others(rt, &slots[count..end])
         }
-        Outcome::Refused(refusal) => {
+        Err(refusal) => {
             say::refused(rt, refusal)?;
-            say::text(rt, b", count ")?;
-            say::number(rt, count as u64)
+            say::text(rt, b", count 0")?;
+            others(rt, &[])
         }
-    }?;
-    others(rt, &slots[count..end])
+    }
 }

@@ -1,6 +1,6 @@
 // Questions about days and moments.
 use crate::say;
-use calendar::Difference;
+use refusal::Refusal;
 use std::io;
 use std::io::Print;
 
@@ -16,13 +16,13 @@ pub(crate) fn difference<R: Print>(rt: &R, first: u64, second: u64) -> io::Resul
     tell(rt, calendar::day_difference(first, second))
 }
 
-pub(crate) fn tell<R: Print>(rt: &R, answer: Difference) -> io::Result<()> {
+pub(crate) fn tell<R: Print>(rt: &R, answer: Result<i64, Refusal>) -> io::Result<()> {
     match answer {
-        Difference::Days(days) => {
+        Ok(days) => {
             say::signed(rt, days)?;
             say::text(rt, b" days")
         }
-        Difference::Refused(refusal) => say::refused(rt, refusal),
+        Err(refusal) => say::refused(rt, refusal),
     }
 }
 

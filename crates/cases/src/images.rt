@@ -1,6 +1,7 @@
 // Questions about trust images.
 use crate::{say, sums};
-use image::{IndexEntry, Opened, Place};
+use image::{IndexEntry, Opened};
+use refusal::Refusal;
 use std::io;
 use std::io::Print;
 
@@ -12,13 +13,15 @@ pub(crate) fn open_for<R: Print>(rt: &R, image: &[u8], wanted: u64) -> io::Resul
     tell(rt, image::open_for(image, wanted))
 }
 
-fn tell<R: Print>(rt: &R, answer: Opened) -> io::Result<()> {
+fn tell<R: Print>(rt: &R, answer: Result<Opened, Refusal>) -> io::Result<()> {
     match answer {
-        Opened::Image {
-            entries,
-            day,
-            version,
-        } => {
+        Ok(
+            Opened {
+                entries,
+                day,
+                version,
+            },
+        ) => {
             say::text(rt, b"passed, ")?;
             say::number(rt, entries as u64)?;
             say::text(rt, b" entries, day ")?;
@@ -26,14 +29,14 @@ fn tell<R: Print>(rt: &R, answer: Opened) -> io::Result<()> {
             say::text(rt, b", version ")?;
             say::number(rt, version as u64)
         }
-        Opened::Refused(refusal) => say::refused(rt, refusal),
+        Err(refusal) => say::refused(rt, refusal),
     }
 }
 
 pub(crate) fn entry<R: Print>(rt: &R, image: &[u8], place: u64) -> io::Result<()> {
     match image::entry(image, place) {
-        Place::Is(found) => tell_entry(rt, found),
-        Place::Refused(refusal) => say::refused(rt, refusal),
+        Ok(found) => tell_entry(rt, found),
+        Err(refusal) => say::refused(rt, refusal),
     }
 }
 

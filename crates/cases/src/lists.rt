@@ -1,13 +1,13 @@
 // Questions about CRLs.
 use crate::{days, say};
-use crl::{Fields, Judged};
+use crl::Fields;
 use std::io;
 use std::io::Print;
 
 pub(crate) fn judge<R: Print>(rt: &R, item: &[u8]) -> io::Result<()> {
     match crl::judge(item) {
-        Judged::Passed(fields) => tell(rt, fields),
-        Judged::Refused(refusal) => say::refused(rt, refusal),
+        Ok(fields) => tell(rt, fields),
+        Err(refusal) => say::refused(rt, refusal),
     }
 }
 
@@ -32,14 +32,14 @@ pub(crate) fn listed<R: Print>(rt: &R, bytes: &[u8], serial: u64) -> io::Result<
 
 fn look_up<R: Print>(rt: &R, item: &[u8], serial: &[u8]) -> io::Result<()> {
     match crl::judge(item) {
-        Judged::Passed(fields) => {
+        Ok(fields) => {
             if crl::listed(item, fields.entries_from, fields.entries_end, serial) {
                 say::text(rt, b"listed")
             } else {
                 say::text(rt, b"not listed")
             }
         }
-        Judged::Refused(refusal) => say::refused(rt, refusal),
+        Err(refusal) => say::refused(rt, refusal),
     }
 }
 

@@ -1,6 +1,6 @@
 // Proposed chains. The first bytes are the image, then an octet says how many places are proposed; these follow, then the table.
 use crate::{record, say};
-use chain::Proposal;
+use refusal::Refusal;
 use std::io;
 use std::io::Print;
 
@@ -42,9 +42,9 @@ fn behind<R: Print>(
     )
 }
 
-fn tell<R: Print>(rt: &R, proposal: Proposal) -> io::Result<()> {
+fn tell<R: Print>(rt: &R, proposal: Result<(), Refusal>) -> io::Result<()> {
     match proposal {
-        Proposal::Accepted => say::text(rt, b"accepted"),
-        Proposal::Refused(refusal) => say::refused(rt, refusal),
+        Ok(()) => say::text(rt, b"accepted"),
+        Err(refusal) => say::refused(rt, refusal),
     }
 }

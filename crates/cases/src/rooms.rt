@@ -48,11 +48,13 @@ fn ask<R: Print>(
     verdicts: &mut [u8],
 ) -> io::Result<()> {
     match room::make_room(image, table, moment, output, verdicts) {
-        Made::Image {
-            length,
-            table_length,
-            entries,
-        } => {
+        Ok(
+            Made {
+                length,
+                table_length,
+                entries,
+            },
+        ) => {
             say::text(rt, b"made ")?;
             say::number(rt, length as u64)?;
             say::text(rt, b", ")?;
@@ -60,7 +62,7 @@ fn ask<R: Print>(
             say::text(rt, b", ")?;
             say::number(rt, entries as u64)
         }
-        Made::Refused(refusal) => say::refused(rt, refusal),
+        Err(refusal) => say::refused(rt, refusal),
     }?;
     lent(rt, b", image ", output)?;
     lent(rt, b", table ", verdicts)

@@ -51,15 +51,6 @@ pub(crate) fn part<R: Print>(rt: &R, name: &[u8], at: usize, size: usize) -> io:
     number(rt, size as u64)
 }
 
-// A refusal's number; the detail as an offset or a rule, where the refusal has one.
 pub(crate) fn refused<R: Print>(rt: &R, refusal: Refusal) -> io::Result<()> {
-    let class = refusal::number(refusal);
-    text(rt, b"refused ")?;
-    number(rt, class)?;
-    match class {
-        2 | 3 => text(rt, b" at ")?,
-        4 | 5 => text(rt, b", rule ")?,
-        _ => return Ok(()),
-    }
-    number(rt, refusal::detail(refusal))
+    rt.print(refusal)
 }

@@ -1,7 +1,7 @@
 // Every signer in one call. The first bytes are the image, those behind it the table of verdicts. Each octet of the lent output is EE
 // before the call.
 use crate::{say, writing};
-use chain::Signers;
+use refusal::Refusal;
 use std::io;
 use std::io::Print;
 
@@ -42,12 +42,12 @@ fn ask<R: Print>(
     writing::lent(rt, output)
 }
 
-fn tell<R: Print>(rt: &R, answer: Signers) -> io::Result<()> {
+fn tell<R: Print>(rt: &R, answer: Result<usize, Refusal>) -> io::Result<()> {
     match answer {
-        Signers::Length(length) => {
+        Ok(length) => {
             say::text(rt, b"written ")?;
             say::number(rt, length as u64)
         }
-        Signers::Refused(refusal) => say::refused(rt, refusal),
+        Err(refusal) => say::refused(rt, refusal),
     }
 }

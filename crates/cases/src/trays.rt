@@ -2,7 +2,6 @@
 use crate::say;
 use std::io;
 use std::io::Print;
-use tray::Replayed;
 
 pub(crate) fn replay<R: Print>(rt: &R, log: &[u8], room: u64) -> io::Result<()> {
     let mut list = [7777u64; 128];
@@ -16,11 +15,11 @@ pub(crate) fn replay<R: Print>(rt: &R, log: &[u8], room: u64) -> io::Result<()> 
 // The answer, and all numbers of the list.
 fn ask<R: Print>(rt: &R, log: &[u8], list: &mut [u64]) -> io::Result<()> {
     match tray::replay(log, list) {
-        Replayed::Faulty(faulty) => {
+        Ok(faulty) => {
             say::text(rt, b"faulty ")?;
             say::number(rt, faulty as u64)
         }
-        Replayed::Refused(refusal) => say::refused(rt, refusal),
+        Err(refusal) => say::refused(rt, refusal),
     }?;
     say::text(rt, b", list")?;
     numbers(rt, list)

@@ -1,6 +1,5 @@
 // Moves between the versions of an image, and the check of letters. Each octet of the lent output is EE before a call.
 use crate::{say, writing};
-use letters::Checked;
 use std::io;
 use std::io::Print;
 
@@ -34,8 +33,8 @@ fn back<R: Print>(rt: &R, image: &[u8], output: &mut [u8]) -> io::Result<()> {
 
 pub(crate) fn check<R: Print>(rt: &R, image: &[u8]) -> io::Result<()> {
     match letters::letters_true(image) {
-        Checked::Told(so) => tell(rt, so),
-        Checked::Refused(refusal) => say::refused(rt, refusal),
+        Ok(so) => tell(rt, so),
+        Err(refusal) => say::refused(rt, refusal),
     }
 }
 

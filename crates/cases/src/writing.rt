@@ -3,9 +3,9 @@
 ghost use Rattle.std.specs.Prelude.{◌≤◌, length};
 
 use crate::{record, say, sums};
+use refusal::Refusal;
 use std::io;
 use std::io::Print;
-use writer::Written;
 
 pub(crate) fn write<R: Print>(
     rt: &R,
@@ -151,13 +151,17 @@ fn ask<R: Print>(
 }
 
 // The answer, and what stands in the output.
-pub(crate) fn told<R: Print>(rt: &R, answer: Written, output: &[u8]) -> io::Result<()> {
+pub(crate) fn told<R: Print>(
+    rt: &R,
+    answer: Result<usize, Refusal>,
+    output: &[u8],
+) -> io::Result<()> {
     match answer {
-        Written::Length(length) => {
+        Ok(length) => {
             say::text(rt, b"written ")?;
             say::number(rt, length as u64)
         }
-        Written::Refused(refusal) => say::refused(rt, refusal),
+        Err(refusal) => say::refused(rt, refusal),
     }?;
     lent(rt, output)
 }

@@ -1,12 +1,12 @@
 -- What is held of an extension tells of it what the rules ask.
+use Rattle.std.specs.Prelude.{Option, Some, None}
 use Prim.Native.Nat.{ℕ}
 use mathlib.Core.Bool.{Bool, true, false, cond, ◌&&◌, not}
 use mathlib.Core.List.{List}
 use mathlib.Core.Path.{◌≡◌, refl, sym, ap, ◌∙◌}
-use native.Mathlib.Omega.{arith}
+use Rattle.std.proofs.lemmas.Option.{none-some}
 use Rattle.elements.specs.declared.elements.Element.{Element}
 use Rattle.extensions.specs.declared.Extension.{Extension}
-use Rattle.extensions.specs.declared.Extension.TheVariants.{Is, Absent}
 use Rattle.extensions.specs.declared.Held.{Held}
 use Rattle.octets.specs.Alike.{alike}
 use Rattle.elements.specs.Elements.{contents_of}
@@ -17,6 +17,7 @@ use Rattle.certificate.specs.declared.keys.KeyId.{KeyId}
 use Rattle.certificate.specs.declared.keys.KeyId.TheVariants.{Keyless, Misformed}
 use Rattle.certificate.specs.declared.keys.Value.TheVariants.{Stands, Unfit}
 use Rattle.certificate.specs.Rules.{critical_with, uncritical}
+use Rattle.extensions.proofs.Payloads.{an_extension}
 
 -- a form reads an element from its contents on
 abbrev Form : {A : Type 0} → (Element → A) → Type 0
@@ -34,48 +35,68 @@ pub list-form : (s : List ℕ) → Form (list_good s)
 unfolding list_good
 list-form s v w start end = rw (start, end)
 
+some-same : {a b : Held} → Some a ≡ Some b → a ≡ b
+some-same p = cc
+
 -- what the definitions say of an extension is said of the value that is held of it
-module _ (s : List ℕ) {held : Held} where
+module _ (s : List ℕ) {held : Option Held} where
   pub key-in :
-      (form : Element → KeyId) → Form form → (x : Extension) → held ≡ held_of x
+      (form : Element → KeyId) → Form form → (x : Option Extension) → held ≡ held_of x
       → key_in s x form ≡ on_value (value_in s held) Keyless Misformed form
   unfolding key_in on_value value_in value_of held_of walks contents_of
-  key-in form same Absent h = rw h
-  key-in form same (Is oid true value) h = rw h
-  key-in form same (Is oid false value) h = rw h (go (walks s value))
+  key-in form same None h = rw h
+  key-in form same (Some x) h = rw h (go x.critical)
     where
-      go : (b : Bool) → cond b (form value) Misformed ≡ on_value (cond b (Stands (value_of (held_of (Is oid false value)))) Unfit) Keyless Misformed form
-      go true = same _ _ refl refl
-      go false = refl
+      passed : (b : Bool) → cond b (form x.value) Misformed ≡ on_value (cond b (Stands (value_of (record { critical = false; start = x.value.contents; end = x.value.end }))) Unfit) Keyless Misformed form
+      passed true = same _ _ refl refl
+      passed false = refl
 
-  pub documents-in : (x : Extension) → held ≡ held_of x → documents_in s x ≡ on_value (value_in s held) false false (list_good s)
+      go : (critical : Bool) → key_in s (an_extension x.oid critical x.value) form ≡ on_value (value_in s (held_of (an_extension x.oid critical x.value))) Keyless Misformed form
+      go true = refl
+      go false = passed (walks s x.value)
+
+  pub documents-in : (x : Option Extension) → held ≡ held_of x → documents_in s x ≡ on_value (value_in s held) false false (list_good s)
   unfolding documents_in on_value value_in value_of held_of walks contents_of
-  documents-in Absent h = rw h
-  documents-in (Is oid true value) h = rw h
-  documents-in (Is oid false value) h = rw h (go (walks s value))
+  documents-in None h = rw h
+  documents-in (Some x) h = rw h (go x.critical)
     where
-      go : (b : Bool) → (b && list_good s value) ≡ on_value (cond b (Stands (value_of (held_of (Is oid false value)))) Unfit) false false (list_good s)
-      go true = list-form s _ _ refl refl
-      go false = refl
+      passed : (b : Bool) → (b && list_good s x.value) ≡ on_value (cond b (Stands (value_of (record { critical = false; start = x.value.contents; end = x.value.end }))) Unfit) false false (list_good s)
+      passed true = list-form s _ _ refl refl
+      passed false = refl
 
-  -- it is there and not critical
-  pub uncritical-in : (x : Extension) → held ≡ held_of x → uncritical x ≡ cond held.there (not held.critical) false
+      go : (critical : Bool) → documents_in s (an_extension x.oid critical x.value) ≡ on_value (value_in s (held_of (an_extension x.oid critical x.value))) false false (list_good s)
+      go true = refl
+      go false = passed (walks s x.value)
+
+  -- none is not there
+  pub uncritical-none : (x : Option Extension) → held ≡ held_of x → held ≡ None → false ≡ uncritical x
   unfolding uncritical held_of
-  uncritical-in Absent h = rw h
-  uncritical-in (Is oid critical value) h = rw h
+  uncritical-none None h n = refl
+  uncritical-none (Some x) h n = absurd (none-some _ (sym n ∙ h))
 
--- its value is read from the contents on
-module _ (s : List ℕ) {held : Held} {v : Element} (w : v ≡ value_of held) where
-  pub critical-same : (octets : List ℕ) (x : Extension) → held ≡ held_of x → held.critical ≡ true → alike (contents_of s v) octets ≡ critical_with s octets x
-  unfolding held_of critical_with contents_of value_of
-  critical-same octets Absent h n =
-      let z : true ≡ false = sym n ∙ ap (λ (f : Held). f.critical) h in
-      let y : ◌≡◌ {A = ℕ} 0 1 = cc in
-      absurd (omega arith)
-  critical-same octets (Is oid critical value) h n =
-      rw (sym (ap (λ (f : Held). f.critical) h) ∙ n, w, ap (λ (f : Held). f.start) h, ap (λ (f : Held). f.end) h)
+  pub critical-none : (octets : List ℕ) (x : Option Extension) → held ≡ held_of x → held ≡ None → false ≡ critical_with s octets x
+  unfolding critical_with held_of
+  critical-none octets None h n = refl
+  critical-none octets (Some x) h n = absurd (none-some _ (sym n ∙ h))
 
-pub critical-not : (s octets : List ℕ) {held : Held} (x : Extension) → held ≡ held_of x → held.critical ≡ false → false ≡ critical_with s octets x
-unfolding held_of critical_with
-critical-not s octets Absent h n = refl
-critical-not s octets (Is oid critical value) h n = rw (sym (ap (λ (f : Held). f.critical) h) ∙ n)
+  -- one that is there
+  module _ {own : Held} (there : held ≡ Some own) where
+    pub uncritical-some : (x : Option Extension) → held ≡ held_of x → not own.critical ≡ uncritical x
+    unfolding uncritical held_of
+    uncritical-some None h = absurd (none-some _ (sym h ∙ there))
+    uncritical-some (Some x) h = let critical : own.critical ≡ x.critical = ap (λ (f : Held). f.critical) (some-same (sym there ∙ h)) in rw critical
+
+    pub critical-not : (octets : List ℕ) (x : Option Extension) → held ≡ held_of x → own.critical ≡ false → false ≡ critical_with s octets x
+    unfolding held_of critical_with
+    critical-not octets None h n = refl
+    critical-not octets (Some x) h n = rw (sym (ap (λ (f : Held). f.critical) (some-same (sym there ∙ h))) ∙ n)
+
+    -- its value is read from the contents on
+    pub critical-same :
+        {v : Element} → v ≡ value_of own → (octets : List ℕ) (x : Option Extension) → held ≡ held_of x → own.critical ≡ true
+        → alike (contents_of s v) octets ≡ critical_with s octets x
+    unfolding held_of critical_with contents_of value_of
+    critical-same w octets None h n = absurd (none-some _ (sym h ∙ there))
+    critical-same w octets (Some x) h n =
+        let q = some-same (sym there ∙ h) in
+        rw (sym (ap (λ (f : Held). f.critical) q) ∙ n, w, ap (λ (f : Held). f.start) q, ap (λ (f : Held). f.end) q)

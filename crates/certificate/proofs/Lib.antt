@@ -1,6 +1,6 @@
+pub mod Payloads
 pub mod Held
 pub mod Inside
-pub mod Chains
 pub mod Runs
 pub mod Theorems
 pub mod Lone

@@ -1,11 +1,11 @@
 -- Contents that are one primitive element with a short header, or a SEQUENCE of one, pass the walk.
-use Prim.Native.Nat.{ℕ, ◌+◌, ◌-◌, ◌*◌, ◌<◌, ◌≤◌}
+use Rattle.std.specs.Prelude.{Ok, Some}
+use Prim.Native.Nat.{ℕ, ◌+◌, ◌-◌, ◌*◌, ◌≤◌}
 use mathlib.Core.Path.{◌≡◌, refl, sym, subst}
 use mathlib.Core.Bool.{true, false}
 use mathlib.Core.List.{List}
 use native.Mathlib.Omega.{arith}
 use lib.ListN.{length, get_or, drop, length-take, length-drop}
-use Rattle.der.specs.declared.walking.Walked.TheVariants.{Passed}
 use Rattle.der.specs.Forms.{paper}
 use Rattle.der.specs.Heading.{identifier_good, constructed}
 use Rattle.der.specs.Contents.{contents_good}
@@ -22,26 +22,26 @@ use Rattle.certificate.specs.Keys.{passes, walks}
 
 -- an item that one element fills
 alone : (s : List ℕ) (at end n : ℕ) → end ≤ length s → end ≤ at + 129 → Reads paper (stretch s at end) 1 0 (end - at) n → walk_of paper
-    (stretch s at end) ≡ Passed n
+    (stretch s at end) ≡ Ok n
 alone s at end n inside short f =
     let long : length (stretch s at end) ≡ end - at = omega (arith, length-take (end - at) (drop at s), length-drop at s) in
     walk-passed paper (stretch s at end) (omega (arith, long)) (sym (f 0 (2 * length (stretch s at end) + 2) (omega arith))) (sym long)
 
-module _ (s : List ℕ) (value : Element) (some : 0 < value.end) where
+module _ (s : List ℕ) (value : Element) where
   abbrev at : ℕ
   at = value.contents
 
   abbrev end : ℕ
   end = value.end
 
-  facts : (from tag : ℕ) → end ≡ short_end s from end tag → ShortAt s from end tag end
-  facts from tag is = subst (ShortAt s from end tag) (sym is) (short-told s from end tag (subst (λ (n : ℕ). 0 < n) is some))
+  facts : (from tag : ℕ) → short_end s from end tag ≡ Some end → ShortAt s from end tag end
+  facts from tag is = short-told s from end tag is
 
-  passed : {n : ℕ} → walk_of paper (stretch s at end) ≡ Passed n → walks s value ≡ true
+  passed : {n : ℕ} → walk_of paper (stretch s at end) ≡ Ok n → walks s value ≡ true
   unfolding walks passes contents_of
   passed h = rw h
 
-  pub lone-octets : end ≡ short_end s at end 0x04 → walks s value ≡ true
+  pub lone-octets : short_end s at end 0x04 ≡ Some end → walks s value ≡ true
   unfolding identifier_good constructed contents_good
   lone-octets is =
       let t = facts at 0x04 is in
@@ -50,7 +50,7 @@ module _ (s : List ℕ) (value : Element) (some : 0 < value.end) where
       (leaf-reads paper s at end t.two t.inside t.ends (omega arith) t.short (rw t.same refl) 1 0 (omega arith) (omega arith)
       (rw t.same refl) (rw t.same refl)))
 
-  pub lone-sequence : end ≡ short_end s at end 0x30 → end ≡ short_end s (at + 2) end 0x80 → walks s value ≡ true
+  pub lone-sequence : short_end s at end 0x30 ≡ Some end → short_end s (at + 2) end 0x80 ≡ Some end → walks s value ≡ true
   unfolding identifier_good constructed contents_good is_set
   lone-sequence is inner =
       let t = facts at 0x30 is in

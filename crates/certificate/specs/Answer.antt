@@ -1,8 +1,7 @@
 -- What is answered of a certificate: 1 for another role, the walk's 2 and 3, 4 with the smallest rule broken, or its fields.
-use Rattle.std.specs.Prelude.{ℕ, ◌-◌, Bool, cond, ◌&&◌, List, ◌++◌, leb, eqb}
+use Rattle.std.specs.Prelude.{ℕ, ◌-◌, Bool, cond, ◌&&◌, List, ◌++◌, leb, eqb, Option, Some, None, Result, Ok, Err}
 use Rattle.refusal.specs.declared.Refusal.TheVariants.{Argument, Profile}
-use Rattle.der.specs.declared.walking.Walked.{Walked}
-use Rattle.der.specs.declared.walking.Walked.TheVariants as walked
+use Rattle.refusal.specs.declared.Refusal.{Refusal}
 use Rattle.der.specs.Forms.{paper}
 use Rattle.der.specs.Walk.{walk_of}
 use Rattle.names.specs.Names.{first_letter, second_letter}
@@ -12,11 +11,7 @@ use Rattle.certificate.specs.declared.keys.KeyId.{KeyId}
 use Rattle.certificate.specs.declared.keys.KeyId.TheVariants.{Key, Keyless, Misformed}
 use Rattle.certificate.specs.declared.rules.Readings.{Readings}
 use Rattle.certificate.specs.declared.shapes.Layout.{Layout}
-use Rattle.certificate.specs.declared.shapes.Shape.{Shape}
-use Rattle.certificate.specs.declared.shapes.Shape.TheVariants.{Parts, Broken}
 use Rattle.certificate.specs.declared.Fields.{Fields}
-use Rattle.certificate.specs.declared.Judged.{Judged}
-use Rattle.certificate.specs.declared.Judged.TheVariants.{Passed, Refused}
 use Rattle.certificate.specs.Rules.{readings_of, rules2to8, rules9to14}
 use Rattle.certificate.specs.Shape.{layout_of}
 
@@ -53,26 +48,26 @@ fields_of l r =
       authority_key_len = key_length r.authority;
     }
 
-unfoldable pub graded : ℕ → Fields → Judged
-graded rule fields = cond (eqb rule 0) (Passed fields) (Refused (Profile rule))
+unfoldable pub graded : ℕ → Fields → Result Fields Refusal
+graded rule fields = cond (eqb rule 0) (Ok fields) (Err (Profile rule))
 
-unfoldable pub on_shape : Shape → (Layout → Judged) → Judged
-on_shape Broken next = Refused (Profile 1)
-on_shape (Parts l) next = next l
+unfoldable pub on_shape : Option Layout → (Layout → Result Fields Refusal) → Result Fields Refusal
+on_shape None next = Err (Profile 1)
+on_shape (Some l) next = next l
 
-unfoldable pub on_walk : Walked → Judged → Judged
-on_walk (walked.Refused refusal) next = Refused refusal
-on_walk (walked.Passed count) next = next
+unfoldable pub on_walk : Result ℕ Refusal → Result Fields Refusal → Result Fields Refusal
+on_walk (Err refusal) next = Err refusal
+on_walk (Ok count) next = next
 
 -- all the rules but the first
 unfoldable pub rules_of : List ℕ → Layout → Readings → ℕ → List Bool
 rules_of s l r role = rules2to8 s l r ++ rules9to14 s l.extensions r role
 
 -- rules 1 to 14 of a walked item
-unfoldable pub profile_of : List ℕ → ℕ → Judged
+unfoldable pub profile_of : List ℕ → ℕ → Result Fields Refusal
 profile_of s role =
     on_shape (layout_of s) λ l.
     graded (first_broken 2 (rules_of s l (readings_of s l) role)) (fields_of l (readings_of s l))
 
-unfoldable pub judged_of : List ℕ → ℕ → Judged
-judged_of s role = cond (leb 1 role && leb role 3) (on_walk (walk_of paper s) (profile_of s role)) (Refused Argument)
+unfoldable pub judged_of : List ℕ → ℕ → Result Fields Refusal
+judged_of s role = cond (leb 1 role && leb role 3) (on_walk (walk_of paper s) (profile_of s role)) (Err Argument)

@@ -1,12 +1,10 @@
 -- Key identifiers (rule 11) and the document type list (rule 13), inside the extensions that hold them.
-use Rattle.std.specs.Prelude.{ℕ, Bool, true, false, cond, ◌&&◌, not, List, [], ◌∷◌, leb, eqb, length}
-use Rattle.der.specs.declared.walking.Walked.{Walked}
-use Rattle.der.specs.declared.walking.Walked.TheVariants.{Passed, Refused}
+use Rattle.std.specs.Prelude.{ℕ, Bool, true, false, cond, ◌&&◌, not, List, [], ◌∷◌, leb, eqb, length, Option, Some, None, Result, Ok, Err}
+use Rattle.refusal.specs.declared.Refusal.{Refusal}
 use Rattle.der.specs.Forms.{paper}
 use Rattle.der.specs.Walk.{walk_of}
 use Rattle.elements.specs.declared.elements.Element.{Element}
 use Rattle.extensions.specs.declared.Extension.{Extension}
-use Rattle.extensions.specs.declared.Extension.TheVariants.{Is, Absent}
 use Rattle.octets.specs.Alike.{alike}
 use Rattle.elements.specs.Elements.{found_tagged, on_found, inside, contents_of}
 use Rattle.extensions.specs.Extensions.{lookup_of}
@@ -24,17 +22,17 @@ abbrev pub document_type_list : List ℕ
 document_type_list = 0x67 ∷ 0x81 ∷ 0x08 ∷ 0x01 ∷ 0x01 ∷ 0x06 ∷ 0x02 ∷ []
 
 -- an extension's contents pass the walk by themselves
-unfoldable pub passes : Walked → Bool
-passes (Passed count) = true
-passes (Refused refusal) = false
+unfoldable pub passes : Result ℕ Refusal → Bool
+passes (Ok count) = true
+passes (Err refusal) = false
 
 unfoldable pub walks : List ℕ → Element → Bool
 walks s value = passes (walk_of paper (contents_of s value))
 
 -- a key identifier is not critical, its contents pass the walk, and it has its form
-unfoldable pub key_in : List ℕ → Extension → (Element → KeyId) → KeyId
-key_in s Absent form = Keyless
-key_in s (Is oid critical value) form = cond critical Misformed (cond (walks s value) (form value) Misformed)
+unfoldable pub key_in : List ℕ → Option Extension → (Element → KeyId) → KeyId
+key_in s None form = Keyless
+key_in s (Some x) form = cond x.critical Misformed (cond (walks s x.value) (form x.value) Misformed)
 
 -- one OCTET STRING
 unfoldable pub octet_string : List ℕ → Element → KeyId
@@ -72,9 +70,9 @@ list_good s value =
     eqb types.end sequence.end
     && (alike (contents_of s version) (0 ∷ []) && types_in s types)
 
-unfoldable pub documents_in : List ℕ → Extension → Bool
-documents_in s Absent = false
-documents_in s (Is oid critical value) = not critical && (walks s value && list_good s value)
+unfoldable pub documents_in : List ℕ → Option Extension → Bool
+documents_in s None = false
+documents_in s (Some x) = not x.critical && (walks s x.value && list_good s x.value)
 
 unfoldable pub document_types : List ℕ → Element → Bool
 document_types s extensions = documents_in s (lookup_of paper s extensions document_type_list)

@@ -1,14 +1,11 @@
 -- What it is to pass, rule by rule, and what a rule's number in a refusal says.
-use Rattle.std.specs.Prelude.{ℕ, ◌≤◌, Bool, true, false, List, [], ◌∷◌, ◌≡◌}
+use Rattle.std.specs.Prelude.{ℕ, ◌≤◌, Bool, true, false, List, [], ◌∷◌, ◌≡◌, Option, Some, None, Ok, Err}
 use Rattle.refusal.specs.declared.Refusal.{Refusal}
 use Rattle.refusal.specs.declared.Refusal.TheVariants.{Argument, Profile}
-use Rattle.der.specs.declared.walking.Walked.TheVariants as walked
 use Rattle.der.specs.Forms.{paper}
 use Rattle.der.specs.Walk.{walk_of}
 use Rattle.refusal.specs.Rules.{Smallest}
 use Rattle.certificate.specs.declared.shapes.Layout.{Layout}
-use Rattle.certificate.specs.declared.shapes.Shape.{Shape}
-use Rattle.certificate.specs.declared.shapes.Shape.TheVariants.{Parts, Broken}
 use Rattle.certificate.specs.declared.Fields.{Fields}
 use Rattle.certificate.specs.Rules.{readings_of, rule2, rule3, rule4, rule5, rule6, rule7, rule8, rule9, rule10, rule11, rule12, rule13, rule14}
 use Rattle.certificate.specs.Shape.{layout_of}
@@ -35,16 +32,16 @@ pub record Passes (s : List ℕ) (role : ℕ) (f : Fields) : Type 0 where
   pub low : 1 ≤ role
   pub high : role ≤ 3
   pub count : ℕ
-  pub walks : walk_of paper s ≡ walked.Passed count
+  pub walks : walk_of paper s ≡ Ok count
   pub layout : Layout
-  pub shape : layout_of s ≡ Parts layout  -- 1
+  pub shape : layout_of s ≡ Some layout  -- 1
   pub meets : Meets s role layout
   pub fields : f ≡ fields_of layout (readings_of s layout)
 
 -- rules 1 to 14; where the shape is broken there is nothing that the others could read
-unfoldable pub rules_in : List ℕ → ℕ → Shape → List Bool
-rules_in s role Broken = false ∷ []
-rules_in s role (Parts l) = true ∷ rules_of s l (readings_of s l) role
+unfoldable pub rules_in : List ℕ → ℕ → Option Layout → List Bool
+rules_in s role None = false ∷ []
+rules_in s role (Some l) = true ∷ rules_of s l (readings_of s l) role
 
 unfoldable pub rules1to14 : List ℕ → ℕ → List Bool
 rules1to14 s role = rules_in s role (layout_of s)
@@ -54,12 +51,12 @@ pub record Breaks (s : List ℕ) (role k : ℕ) : Type 0 where
   pub low : 1 ≤ role
   pub high : role ≤ 3
   pub count : ℕ
-  pub walks : walk_of paper s ≡ walked.Passed count
+  pub walks : walk_of paper s ≡ Ok count
   pub smallest : Smallest 1 (rules1to14 s role) k
 
 -- what an item is refused for: 1 for another role, what the walk refuses, 4 for a rule
 pub data RefusedFor (s : List ℕ) (role : ℕ) : Refusal → Type 0 where
   by-role : (1 ≤ role → role ≤ 3 → ⊥) → RefusedFor s role Argument
   by-walk :
-      {refusal : Refusal} → 1 ≤ role → role ≤ 3 → walk_of paper s ≡ walked.Refused refusal → RefusedFor s role refusal
+      {refusal : Refusal} → 1 ≤ role → role ≤ 3 → walk_of paper s ≡ Err refusal → RefusedFor s role refusal
   by-rule : {k : ℕ} → Breaks s role k → RefusedFor s role (Profile k)

@@ -1,11 +1,11 @@
 -- Rules 2 to 14 of the certificate profile, each over the parts that rule 1 found. Role 1 is an anchor, 2 a link, 3 a DS.
-use Rattle.std.specs.Prelude.{ℕ, Bool, true, false, cond, ◌&&◌, not, List, [], ◌∷◌, leb, ltb, eqb, length, get_or}
+use Rattle.std.specs.Prelude.{ℕ, suc, Bool, true, false, cond, ◌&&◌, not, List, [], ◌∷◌, leb, ltb, eqb, length, get_or, Option, Some, None, Result, Ok, Err}
+use Rattle.refusal.specs.declared.Refusal.{Refusal}
+use Rattle.refusal.specs.declared.Refusal.TheVariants.{Profile}
 use Rattle.der.specs.Forms.{paper}
 use Rattle.elements.specs.declared.elements.Element.{Element}
 use Rattle.extensions.specs.declared.Extension.{Extension}
-use Rattle.extensions.specs.declared.Extension.TheVariants.{Is, Absent}
 use Rattle.names.specs.declared.Letters.{Letters}
-use Rattle.names.specs.declared.Letters.TheVariants.{Two, Unfit}
 use Rattle.octets.specs.Alike.{alike}
 use Rattle.elements.specs.Elements.{inside, whole_of, contents_of}
 use Rattle.extensions.specs.Extensions.{lookup_of, present, doubled_of, critical_of}
@@ -45,10 +45,10 @@ unfoldable pub rule4 : List ℕ → Layout → Bool
 rule4 s l = alike (whole_of s l.inner) (whole_of s l.outer)
 
 -- 5: issuer and subject each hold countryName once, as PrintableString of two letters, and the same two
-unfoldable pub same_two : Letters → Letters → Bool
-same_two Unfit other = false
-same_two (Two a b) Unfit = false
-same_two (Two a b) (Two c d) = eqb a c && eqb b d
+unfoldable pub same_two : Option Letters → Option Letters → Bool
+same_two None other = false
+same_two (Some l) None = false
+same_two (Some l) (Some letters) = eqb l.first letters.first && eqb l.second letters.second
 
 unfoldable pub rule5 : Readings → Bool
 rule5 r = same_two r.issuer r.subject
@@ -66,9 +66,9 @@ unfoldable pub rule8 : List ℕ → Layout → Bool
 rule8 s l = not (eqb (length (inside paper s l.extensions)) 0) && not (doubled_of paper s l.extensions)
 
 -- an extension that is critical and has those contents
-unfoldable pub critical_with : List ℕ → List ℕ → Extension → Bool
-critical_with s octets Absent = false
-critical_with s octets (Is oid critical value) = critical && alike (contents_of s value) octets
+unfoldable pub critical_with : List ℕ → List ℕ → Option Extension → Bool
+critical_with s octets None = false
+critical_with s octets (Some x) = x.critical && alike (contents_of s x.value) octets
 
 -- 9: keyUsage 2.5.29.15 critical, its contents by role
 abbrev pub key_usage : List ℕ
@@ -87,7 +87,7 @@ basic_constraints = 0x55 ∷ 0x1D ∷ 0x13 ∷ []
 abbrev pub signing_once : List ℕ
 signing_once = 0x30 ∷ 0x06 ∷ 0x01 ∷ 0x01 ∷ 0xFF ∷ 0x02 ∷ 0x01 ∷ 0x00 ∷ []
 
-unfoldable pub constrained : List ℕ → ℕ → Extension → Bool
+unfoldable pub constrained : List ℕ → ℕ → Option Extension → Bool
 constrained s role constraints = cond (eqb role 3) (not (present constraints)) (critical_with s signing_once constraints)
 
 unfoldable pub rule10 : List ℕ → Element → ℕ → Bool
@@ -106,9 +106,9 @@ unfoldable pub rule11 : Readings → ℕ → Bool
 rule11 r role = both_keys r.own r.authority role
 
 -- 12: 2.5.29.16, .17, .18 and .31 present, not critical
-unfoldable pub uncritical : Extension → Bool
-uncritical Absent = false
-uncritical (Is oid critical value) = not critical
+unfoldable pub uncritical : Option Extension → Bool
+uncritical None = false
+uncritical (Some x) = not x.critical
 
 unfoldable pub rule12 : List ℕ → Element → Bool
 rule12 s extensions =
@@ -131,3 +131,8 @@ rules2to8 s l r = rule2 s l ∷ rule3 s l ∷ rule4 s l ∷ rule5 r ∷ rule6 l 
 
 unfoldable pub rules9to14 : List ℕ → Element → Readings → ℕ → List Bool
 rules9to14 s x r role = rule9 s x role ∷ rule10 s x role ∷ rule11 r role ∷ rule12 s x ∷ rule13 s x role ∷ rule14 s x ∷ []
+
+-- refused for the first that is broken, of rules numbered from `rule` on
+unfoldable pub told : ℕ → List Bool → Result (Unit {0}) Refusal
+told rule [] = Ok tt
+told rule (holds ∷ rest) = cond holds (told (suc rule) rest) (Err (Profile rule))

@@ -1,12 +1,12 @@
 // Key identifiers and the document type list, inside the extensions that hold them.
-ghost use Rattle.std.specs.Prelude.{◌≡◌, true};
+ghost use Rattle.std.specs.Prelude.{◌≡◌, true, Option};
 ghost use Rattle.extensions.specs.declared.Extension.{Extension};
 ghost use Rattle.extensions.specs.Extensions.{held_of};
 ghost use Rattle.certificate.specs.Keys.{walks, octet_string, first_of, key_in, types_in, list_good, documents_in};
 ghost use Rattle.certificate.specs.Values.{value_of, value_in};
 
-use der::{Walked, walk};
-use elements::{Element, Found, contents, element_at, element_tagged, holds, short_end};
+use der::walk;
+use elements::{Element, contents, element_at, element_tagged, fills, holds};
 use extensions::Held;
 
 // Where the contents of a key identifier start and end; that there is none; that it has not its form.
@@ -26,8 +26,8 @@ pub enum Value {
     Unfit,
 }
 
-pub(crate) fn subject_key(item: &[u8], held: Held) -> KeyId
-    ensures { (x : Extension) → held ≡ held_of x → result ≡ key_in item.now x (octet_string item.now) }
+pub(crate) fn subject_key(item: &[u8], held: Option<Held>) -> KeyId
+    ensures { (x : Option Extension) → held ≡ held_of x → result ≡ key_in item.now x (octet_string item.now) }
 {
     match value_in(item, held) {
         Value::Missing => KeyId::Keyless,
@@ -36,8 +36,8 @@ pub(crate) fn subject_key(item: &[u8], held: Held) -> KeyId
     }
 }
 
-pub(crate) fn authority_key(item: &[u8], held: Held) -> KeyId
-    ensures { (x : Extension) → held ≡ held_of x → result ≡ key_in item.now x (first_of item.now) }
+pub(crate) fn authority_key(item: &[u8], held: Option<Held>) -> KeyId
+    ensures { (x : Option Extension) → held ≡ held_of x → result ≡ key_in item.now x (first_of item.now) }
 {
     match value_in(item, held) {
         Value::Missing => KeyId::Keyless,
@@ -46,16 +46,16 @@ pub(crate) fn authority_key(item: &[u8], held: Held) -> KeyId
     }
 }
 
-fn value_in(item: &[u8], held: Held) -> Value
+fn value_in(item: &[u8], held: Option<Held>) -> Value
     ensures { result ≡ value_in item.now held }
 {
-    if !held.there {
+    let Some(own) = held else {
         return Value::Missing;
-    }
-    if held.critical {
+    };
+    if own.critical {
         return Value::Unfit;
     }
-    let value = value_of(held);
+    let value = value_of(own);
     if walks_alone(item, value) {
         return Value::Stands(value);
     }
@@ -75,16 +75,11 @@ pub(crate) fn value_of(held: Held) -> Element
 }
 
 // Whether an extension's contents pass the walk, depth and count from the start.
+#[tactic(auto, unfolding(crate::specs::Keys::walks, crate::specs::Keys::passes))]
 fn walks_alone(item: &[u8], value: Element) -> bool
     ensures { result ≡ walks item.now value }
 {
-    if lone(item, value) {
-        return true;
-    }
-    if let Walked::Refused(_) = walk(contents(item, value)) {
-        return false;
-    }
-    true
+    lone(item, value) || walk(contents(item, value)).is_ok()
 }
 
 // Whether they are an OCTET STRING, or a SEQUENCE of one element with tag 80, all headers short, as in most key
@@ -94,23 +89,21 @@ fn lone(item: &[u8], value: Element) -> bool
 {
     let at = value.contents;
     let end = value.end;
-    if end == 0 {
-        return false;
-    }
-    if short_end(item, at, end, 0x04) == end {
+    if fills(item, at, end, 0x04) {
         return true;
     }
-    if short_end(item, at, end, 0x30) != end {
+    if !fills(item, at, end, 0x30) {
         return false;
     }
-    short_end(item, at + 2, end, 0x80) == end
+    fills(item, at + 2, end, 0x80)
 }
 
 // One OCTET STRING.
+#[tactic(auto, unfolding(crate::specs::Keys::octet_string, elements::specs::Elements::on_found))]
 fn octet_string(item: &[u8], value: Element) -> KeyId
     ensures { result ≡ octet_string item.now value }
 {
-    let Found::One(key) = element_tagged(item, value.contents, value.end, 0x04) else {
+    let Some(key) = element_tagged(item, value.contents, value.end, 0x04) else {
         return KeyId::Misformed;
     };
     KeyId::Key {
@@ -120,13 +113,14 @@ fn octet_string(item: &[u8], value: Element) -> KeyId
 }
 
 // A SEQUENCE whose first member is tag 80.
+#[tactic(auto, unfolding(crate::specs::Keys::first_of, elements::specs::Elements::on_found))]
 fn first_of(item: &[u8], value: Element) -> KeyId
     ensures { result ≡ first_of item.now value }
 {
-    let Found::One(sequence) = element_tagged(item, value.contents, value.end, 0x30) else {
+    let Some(sequence) = element_tagged(item, value.contents, value.end, 0x30) else {
         return KeyId::Misformed;
     };
-    let Found::One(key) = element_tagged(item, sequence.contents, sequence.end, 0x80) else {
+    let Some(key) = element_tagged(item, sequence.contents, sequence.end, 0x80) else {
         return KeyId::Misformed;
     };
     KeyId::Key {
@@ -136,8 +130,8 @@ fn first_of(item: &[u8], value: Element) -> KeyId
 }
 
 // The document type list, not critical.
-pub(crate) fn document_types(item: &[u8], held: Held) -> bool
-    ensures { (x : Extension) → held ≡ held_of x → result ≡ documents_in item.now x }
+pub(crate) fn document_types(item: &[u8], held: Option<Held>) -> bool
+    ensures { (x : Option Extension) → held ≡ held_of x → result ≡ documents_in item.now x }
 {
     match value_in(item, held) {
         Value::Missing => false,
@@ -147,25 +141,20 @@ pub(crate) fn document_types(item: &[u8], held: Held) -> bool
 }
 
 // SEQUENCE {INTEGER 0, SET of one or more PrintableStrings of 1 or 2 octets}.
+#[tactic(auto, unfolding(crate::specs::Keys::list_good, elements::specs::Elements::on_found))]
 fn list_good(item: &[u8], value: Element) -> bool
     ensures { result ≡ list_good item.now value }
 {
-    let Found::One(sequence) = element_tagged(item, value.contents, value.end, 0x30) else {
+    let Some(sequence) = element_tagged(item, value.contents, value.end, 0x30) else {
         return false;
     };
-    let Found::One(version) = element_tagged(item, sequence.contents, sequence.end, 0x02) else {
+    let Some(version) = element_tagged(item, sequence.contents, sequence.end, 0x02) else {
         return false;
     };
-    let Found::One(types) = element_tagged(item, version.end, sequence.end, 0x31) else {
+    let Some(types) = element_tagged(item, version.end, sequence.end, 0x31) else {
         return false;
     };
-    if types.end != sequence.end {
-        return false;
-    }
-    if !holds(item, version, b"\x00") {
-        return false;
-    }
-    types_good(item, types)
+    types.end == sequence.end && holds(item, version, b"\x00") && types_good(item, types)
 }
 
 // One or more PrintableStrings of 1 or 2 octets.
@@ -174,21 +163,14 @@ fn types_good(item: &[u8], types: Element) -> bool
 {
     let end = types.end;
     let mut at = types.contents;
-    let Found::One(_) = element_at(item, at, end) else {
+    if element_at(item, at, end).is_none() {
         return false;
-    };
+    }
     loop {
-        let Found::One(e) = element_at(item, at, end) else {
+        let Some(e) = element_at(item, at, end) else {
             return true;
         };
-        if e.tag != 0x13 {
-            return false;
-        }
-        let length = contents(item, e).len();
-        if length < 1 {
-            return false;
-        }
-        if 2 < length {
+        if e.tag != 0x13 || !matches!(contents(item, e).len(), 1..=2) {
             return false;
         }
         at = e.end;

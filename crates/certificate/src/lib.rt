@@ -10,14 +10,14 @@ ghost use Rattle.std.specs.Prelude.{◌≡◌};
 ghost use Rattle.certificate.specs.Answer.{key_start, key_length, fields_of, profile_of, judged_of};
 
 pub use countries::country;
-use der::{Walked, walk};
+use der::walk;
 use extensions::one_pass;
 use keys::KeyId;
 use names::{first_letter, second_letter};
 use octets::between;
 use refusal::Refusal;
-use rules::{Readings, readings_of, rules_2_to_8, rules_9_to_14};
-use shapes::{Layout, Shape, parts_of};
+use rules::{Readings, readings_of, rule, rules_2_to_8, rules_9_to_14};
+use shapes::{Layout, parts_of};
 use times::moment;
 
 // Start and end as YYYYMMDDHHMMSS, the issuer's letters, offset and length of issuer, subject and key with their
@@ -42,66 +42,43 @@ pub struct Fields {
     pub authority_key_len: usize,
 }
 
-#[derive(Clone, Copy)]
-pub enum Judged {
-    Passed(Fields),
-    Refused(Refusal),
-}
-
 // Role 1 is an anchor, 2 a link, 3 a document signer; any other is refusal 1, told before anything of the bytes.
-pub fn judge(item: &[u8], role: u64) -> Judged
+#[tactic(auto, unfolding(crate::specs::Answer::judged_of, crate::specs::Answer::on_walk))]
+pub fn judge(item: &[u8], role: u64) -> Result<Fields, Refusal>
     ensures { result ≡ judged_of item.now role }
 {
-    if role < 1 {
-        return Judged::Refused(Refusal::Argument);
+    if !matches!(role, 1..=3) {
+        return Err(Refusal::Argument);
     }
-    if 3 < role {
-        return Judged::Refused(Refusal::Argument);
-    }
-    if let Walked::Refused(refusal) = walk(item) {
-        return Judged::Refused(refusal);
-    }
+    walk(item)?;
     profile(item, role)
 }
 
 // The rules in order, and the fields where all of them hold.
-fn profile(item: &[u8], role: u64) -> Judged
+fn profile(item: &[u8], role: u64) -> Result<Fields, Refusal>
     ensures { result ≡ profile_of item.now role }
 {
-    let Shape::Parts(l) = parts_of(item) else {
-        return Judged::Refused(Refusal::Profile { rule: 1 });
-    };
-    let extensions = l.extensions;
-    let seen = one_pass(item, extensions);
-    if !seen.shaped {
-        return Judged::Refused(Refusal::Profile { rule: 1 });
-    }
+    let l = parts_of(item).ok_or(Refusal::Profile { rule: 1 })?;
+    let seen = one_pass(item, l.extensions);
+    rule(1, seen.shaped)?;
     let slots = seen.slots;
     let r = readings_of(item, l, slots);
-    let early = rules_2_to_8(item, l, r, seen.doubled);
-    if early != 0 {
-        return Judged::Refused(Refusal::Profile { rule: early });
-    }
-    let late = rules_9_to_14(item, slots, seen.critical, r, role);
-    if late != 0 {
-        return Judged::Refused(Refusal::Profile { rule: late });
-    }
-    Judged::Passed(fields_of(l, r))
+    rules_2_to_8(item, l, r, seen.doubled)?;
+    rules_9_to_14(item, slots, seen.critical, r, role)?;
+    Ok(fields_of(l, r))
 }
 
+#[tactic(auto, unfolding(crate::specs::Answer::fields_of))]
 fn fields_of(l: Layout, r: Readings) -> Fields
     ensures { result ≡ fields_of l r }
 {
-    let start = r.start;
-    let finish = r.finish;
-    let issuer = r.issuer;
-    let own = r.own;
-    let authority = r.authority;
+    let (subject_key_at, subject_key_len) = place_of(r.own);
+    let (authority_key_at, authority_key_len) = place_of(r.authority);
     Fields {
-        start: moment(start),
-        end: moment(finish),
-        first: first_letter(issuer),
-        second: second_letter(issuer),
+        start: moment(r.start),
+        end: moment(r.finish),
+        first: first_letter(r.issuer),
+        second: second_letter(r.issuer),
         issuer_at: l.issuer.at,
         issuer_len: between(l.issuer.at, l.issuer.end),
         subject_at: l.subject.at,
@@ -110,29 +87,20 @@ fn fields_of(l: Layout, r: Readings) -> Fields
         key_len: between(l.key.at, l.key.end),
         serial_at: l.serial.contents,
         serial_len: between(l.serial.contents, l.serial.end),
-        subject_key_at: key_at(own),
-        subject_key_len: key_length(own),
-        authority_key_at: key_at(authority),
-        authority_key_len: key_length(authority),
+        subject_key_at,
+        subject_key_len,
+        authority_key_at,
+        authority_key_len,
     }
 }
 
-fn key_at(key: KeyId) -> usize
-    ensures { result ≡ key_start key }
+// Where a key identifier stands and its length, 0 and 0 where it is absent.
+#[tactic(auto, unfolding(crate::specs::Answer::key_start, crate::specs::Answer::key_length))]
+fn place_of(key: KeyId) -> (usize, usize)
+    ensures { (result.0 ≡ key_start key) × (result.1 ≡ key_length key) }
 {
     match key {
-        KeyId::Key { at, end: _ } => at,
-        KeyId::Keyless => 0,
-        KeyId::Misformed => 0,
-    }
-}
-
-fn key_length(key: KeyId) -> usize
-    ensures { result ≡ key_length key }
-{
-    match key {
-        KeyId::Key { at, end } => between(at, end),
-        KeyId::Keyless => 0,
-        KeyId::Misformed => 0,
+        KeyId::Key { at, end } => (at, between(at, end)),
+        KeyId::Keyless | KeyId::Misformed => (0, 0),
     }
 }

@@ -9,6 +9,7 @@ use native.Mathlib.Omega.{arith}
 use borrow.Author.Tests.{ltb-true, ltb-false}
 use lib.Dec.{ltb}
 use lib.ListN.{length, get_or, set}
+use Rattle.usable.specs.Rows.{flag}
 use lib.Seq.{get_or-set_same, get_or-set_other}
 
 pub below_or_not : (a b : ℕ) → (a < b) ⊎ (b ≤ a)
@@ -17,6 +18,14 @@ below_or_not a b = go (ltb a b) refl
     go : (t : Bool) → ltb a b ≡ t → (a < b) ⊎ (b ≤ a)
     go true e = inl (ltb-true a b e)
     go false e = inr (ltb-false a b e)
+
+pub flag-is : {b : Bool} → b ≡ true → 1 ≡ flag b
+unfolding flag
+flag-is e = rw e
+
+pub flag_not : {b : Bool} → b ≡ false → 0 ≡ flag b
+unfolding flag
+flag_not e = rw e
 
 -- the cells before row u and column v are those of f, and the others 0, in the first n columns
 pub record Cells (f : ℕ → ℕ → ℕ) (n : ℕ) (l : List ℕ) (u v : ℕ) : Type 0 where

@@ -1,5 +1,6 @@
 -- A best chain of an image's items has what is demanded: each place is what the graph of good chains says of it, a place that stands
 -- twice would leave a shorter chain, and a search finds it in 96 slots.
+use Rattle.std.specs.Prelude.{Result, Ok, Err}
 use Prim.Native.Nat.{ℕ, ◌<◌, ◌≤◌}
 use mathlib.Core.Path.{◌≡◌, refl}
 use mathlib.Core.Bool.{Bool, true, false, ◌&&◌}
@@ -9,8 +10,8 @@ use native.Mathlib.Omega.{arith}
 use borrow.Author.Tests.{eqb-true, leb-true, ne_eqb}
 use lib.Dec.{eqb, leb}
 use lib.ListN.{length, get_or}
-use Rattle.certificate.specs.declared.Judged.{Judged}
-use Rattle.certificate.specs.declared.Judged.TheVariants.{Passed, Refused}
+use Rattle.refusal.specs.declared.Refusal.{Refusal}
+use Rattle.certificate.specs.declared.Fields.{Fields}
 use Rattle.certificate.specs.Answer.{judged_of}
 use Rattle.graph.specs.Chains.{Chain, NotLater, Best}
 use Rattle.graph.proofs.Places as places
@@ -19,7 +20,6 @@ use Rattle.graph.proofs.Targets.{chain-target}
 use Rattle.search.proofs.Ending.{best-fits}
 use Rattle.image.specs.Items.{Item}
 use Rattle.image.specs.Index.{entry_count, items_in}
-use Rattle.chain.specs.declared.asking.Asked.TheVariants as asked
 use Rattle.chain.specs.Answer.{asked_of, good_chains}
 use Rattle.chain.specs.Demand.{EnabledAnchor, UsableAs, Demanded}
 use Rattle.chain.specs.Given.{InRange}
@@ -31,6 +31,7 @@ use Rattle.usable.specs.Usable.{valid, usable_anchor, usable}
 use Rattle.chain.proofs.Answering.{asked-over}
 use Rattle.usable.proofs.Booleans.{false-true, first, second}
 use Rattle.image.proofs.Places.{length-items}
+use Rattle.chain.proofs.Payloads.{a_question}
 
 module _ (items : List Item) (moment u : ℕ) where
   anchor-kind : usable_anchor items moment u ≡ true → (item_at items u).kind ≡ 1
@@ -44,9 +45,9 @@ module _ (items : List Item) (moment u : ℕ) where
       on : (eqb (item_at items u).flags 1 && valid items moment u) ≡ true
       on = second (eqb (item_at items u).kind 1) _ h
 
-      go : (j : Judged) → judged_of (item_at items u).bytes (item_at items u).kind ≡ j → on_certificate j (λ f. within f.start f.end moment) ≡ true → EnabledAnchor items moment u
-      go (Refused why) e v = false-true v
-      go (Passed f) e v =
+      go : (j : Result Fields Refusal) → judged_of (item_at items u).bytes (item_at items u).kind ≡ j → on_certificate j (λ f. within f.start f.end moment) ≡ true → EnabledAnchor items moment u
+      go (Err why) e v = false-true v
+      go (Ok f) e v =
           record {
             anchor = anchor-kind h;
             enabled = eqb-true _ _ (first (eqb (item_at items u).flags 1) _ on);
@@ -96,7 +97,7 @@ module _ (s table : List ℕ) (moment target : ℕ) where
     no-later d e (inl k) = absurd (omega arith)
     no-later d e (inr k) = k.1
 
-    pub demands : {n version : ℕ} → asked_of s table moment target ≡ asked.Over n version → Demanded s table moment target c
+    pub demands : {n version : ℕ} → asked_of s table moment target ≡ a_question n version → Demanded s table moment target c
     unfolding chains
     demands e =
         let o = asked-over s table moment target e in
@@ -117,7 +118,7 @@ module _ (s table : List ℕ) (moment target : ℕ) where
         }
 
     -- so it is in the range of a proposal
-    pub best-in-range : {n version : ℕ} → asked_of s table moment target ≡ asked.Over n version → InRange n c
+    pub best-in-range : {n version : ℕ} → asked_of s table moment target ≡ a_question n version → InRange n c
     best-in-range e =
         let d = demands e in
         let o = asked-over s table moment target e in

@@ -130,7 +130,8 @@ module _ (items : List Item) (at : ℕ → ℕ) (held : Row → List ℕ) (place
   first_reach h (goes l link step (goes m other next rest)) few = absurd (⊎_elim (λ k. omega arith) (λ k. omega arith) few)
 
   pub first_round :
-      (signer : List ℕ) {rows : List (List ℕ)} {counting roles : List ℕ} → length items ≤ 96 → target < length items → (item_at items target).kind ≡ 3
+      (signer : List ℕ) {rows : List (List ℕ)} {counting roles : List ℕ}
+      → length items ≤ 96 → target < length items → (item_at items target).kind ≡ 3
       → row_from signer ≡ row_of moment (item_at items target) (at target) → (get_or signer 0 0 ≡ 0 → ⊥)
       → Opens moment (get_or signer 1 0) (get_or signer 2 0) (length items) table items at (set (replicate 96 0) target 1) near (set (replicate 96 (replicate 17 0)) target signer) rows
       → Counted (length items) table rows counting → Roles held (length items) (replicate 96 0) rows counting (replicate 96 0) roles

@@ -15,9 +15,8 @@ use Rattle.graph.proofs.Targets.{chain-target}
 use Rattle.image.specs.Items.{Item}
 use Rattle.usable.specs.declared.opened.Row.{Row}
 use Rattle.usable.specs.Table.{verdict_in}
-use Rattle.usable.specs.Rows.{row_at, flag, leads_of, led_of, fits_of, matched_of, step_of}
+use Rattle.usable.specs.Rows.{row_at, leads_of, led_of, fits_of, matched_of, step_of}
 use Rattle.usable.proofs.Booleans.{false-true}
-use Rattle.usable.proofs.CountingMeans.{flag_one}
 use Rattle.usable.proofs.RolesMean.{Known}
 use Rattle.usable.proofs.Scope.{Placed, Told, Scope}
 use Rattle.chain.specs.Given.{InRange, role_asked, RolesFit, joined, StepsFit}
@@ -67,12 +66,12 @@ module _ (held : Row → List ℕ) (n : ℕ) (table : List ℕ) (rows : List (Li
   joined-unasked e other = rw (ne_eqb (get_or table (u * n + v) 0) 1 (λ z. other (e ∙ z)))
 
   pub joined-asked :
-      {octet value : ℕ} → octet ≡ get_or table (u * n + v) 0 → octet ≡ 1 → value ≡ flag (matched_of held (row_at rows u) (row_at rows v) 2)
-      → eqb value 1 ≡ joined held n table rows u v
+      {octet : ℕ} {value : Bool} → octet ≡ get_or table (u * n + v) 0 → octet ≡ 1 → value ≡ matched_of held (row_at rows u) (row_at rows v) 2
+      → value ≡ joined held n table rows u v
   unfolding joined verdict_in matched_of led_of
   joined-asked e one k =
       let is-1 : eqb (get_or table (u * n + v) 0) 1 ≡ true = eq-eqb _ 1 (sym e ∙ one) in
-      rw (k, is-1) (flag_one (fits_of held (row_at rows u) (row_at rows v)))
+      rw (k, is-1)
 
 module _ (held : Row → List ℕ) (n : ℕ) (table : List ℕ) (rows : List (List ℕ)) (roles : List ℕ) (target : ℕ) (c : List ℕ) (range : InRange n c) where
   -- the last place is the target, a usable signer

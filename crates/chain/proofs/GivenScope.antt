@@ -85,7 +85,7 @@ module _ (items : List Item) (moment : ℕ) where
       go false k e n f = refl
 
 -- the marks at first, and those with the anchors that have verdict 1 for a CRL
-module _ (a b : ℕ) (items : List Item) (at : ℕ → ℕ) (table : List ℕ) (moment : ℕ) (c before near wider lists : List ℕ) (rows : List (List ℕ)) (firsts : (p : ℕ) → p < length items → get_or before p 0 ≡ waiting_of (item_at items p).kind) (named : Named c before near) (voucher : Vouching (length items) table lists near wider) (listed : (p : ℕ) → p < length items → get_or lists p 0 ≡ list_of (row_at rows p)) (told : Told moment items at (is_open a b items table near) rows) where
+module _ (a b : ℕ) (items : List Item) (at : ℕ → ℕ) (table : List ℕ) (moment : ℕ) (c before near wider : List ℕ) (lists : List Bool) (rows : List (List ℕ)) (firsts : (p : ℕ) → p < length items → get_or before p 0 ≡ waiting_of (item_at items p).kind) (named : Named c before near) (voucher : Vouching (length items) table lists near wider) (listed : (p : ℕ) → p < length items → get_or lists p false ≡ list_of (row_at rows p)) (told : Told moment items at (is_open a b items table near) rows) where
   abbrev there : ℕ → Bool
   there p = is_open a b items table wider p && live items moment p
 
@@ -111,7 +111,7 @@ module _ (a b : ℕ) (items : List Item) (at : ℕ → ℕ) (table : List ℕ) (
   -- a CRL that is here and within its times stands in its row
   list-stands :
       (p : ℕ) → p < length items → eqb (item_at items p).kind 4 ≡ true → here_of a b (length items) table items p ≡ true
-      → current_of moment (item_at items p) ≡ true → get_or lists p 0 ≡ 1
+      → current_of moment (item_at items p) ≡ true → get_or lists p false ≡ true
   unfolding list_of
   list-stands p h four here current =
       let is_open : is_open a b items table near p ≡ true =
@@ -181,12 +181,12 @@ module _ (a b : ℕ) (items : List Item) (at : ℕ → ℕ) (table : List ℕ) (
 -- the tables of a proposal
 module _ (items : List Item) (at : ℕ → ℕ) (held : Row → List ℕ) (placed : Placed held items at) (table : List ℕ) (moment target : ℕ) (signer : List ℕ) where
   pub given-tables :
-      (c before near wider lists counting roles : List ℕ) (rows opened : List (List ℕ)) → length items ≤ 96 → target < length items
+      (c before near wider : List ℕ) (lists : List Bool) (counting roles : List ℕ) (rows opened : List (List ℕ)) → length items ≤ 96 → target < length items
       → (item_at items target).kind ≡ 3 → row_from signer ≡ row_of moment (item_at items target) (at target) → (get_or signer 0 0 ≡ 0 → ⊥)
       → InRange (length items) c → get_or c (length c - 1) 0 ≡ target
       → ((p : ℕ) → p < length items → get_or before p 0 ≡ waiting_of (item_at items p).kind) → Named c before near
       → Opens moment (get_or signer 1 0) (get_or signer 2 0) (length items) table items at (set (replicate 96 0) target 1) near (set (replicate 96 (replicate 17 0)) target signer) rows
-      → ((p : ℕ) → p < length items → get_or lists p 0 ≡ list_of (row_at rows p)) → Vouching (length items) table lists near wider
+      → ((p : ℕ) → p < length items → get_or lists p false ≡ list_of (row_at rows p)) → Vouching (length items) table lists near wider
       → Opens moment (get_or signer 1 0) (get_or signer 2 0) (length items) table items at near wider rows opened
       → Counted (length items) table opened counting → Roles held (length items) (replicate 96 0) opened counting (replicate 96 0) roles
       → Tabled items at table moment target c opened roles

@@ -1,4 +1,5 @@
 -- Items of one country: what passes has the letters of its country, and a good step stays in one.
+use Rattle.std.specs.Prelude.{Result, Ok, Err}
 use Prim.Native.Nat.{ℕ, ◌<◌}
 use mathlib.Core.Path.{◌≡◌, refl, sym, ap₂, ◌∙◌}
 use mathlib.Core.Bool.{Bool, true, false, cond, ◌||◌}
@@ -9,12 +10,10 @@ use lib.Dec.{eqb}
 use Rattle.der.specs.Forms.{paper}
 use Rattle.names.proofs.SameNames.{same-letters}
 use Rattle.certificate.specs.declared.Fields as certificates
-use Rattle.certificate.specs.declared.Judged.{Judged}
-use Rattle.certificate.specs.declared.Judged.TheVariants.{Passed, Refused}
+use Rattle.refusal.specs.declared.Refusal.{Refusal}
+use Rattle.certificate.specs.declared.Fields.{Fields}
 use Rattle.certificate.specs.Answer.{judged_of}
 use Rattle.crl.specs.declared.Fields as crls
-use Rattle.crl.specs.declared.Judged as list-answer
-use Rattle.crl.specs.declared.Judged.TheVariants as list-judged
 use Rattle.crl.specs.Answer as lists
 use Rattle.octets.proofs.Likeness.{alike_is}
 use Rattle.parts.proofs.Issuers.{certificate-country, crl-country, certificate-names}
@@ -38,10 +37,10 @@ home_same a b item kind bytes e f = rw (e, f)
 
 -- what a certificate that passes, and a CRL, says of the place it stands at
 abbrev pub CertificateAt : List Item → ℕ → certificates.Fields → Type 0
-CertificateAt items p f = judged_of (item_at items p).bytes (item_at items p).kind ≡ Passed f
+CertificateAt items p f = judged_of (item_at items p).bytes (item_at items p).kind ≡ Ok f
 
 abbrev pub CrlAt : List Item → ℕ → crls.Fields → Type 0
-CrlAt items p f = lists.judged_of paper (item_at items p).bytes ≡ list-judged.Passed f
+CrlAt items p f = lists.judged_of paper (item_at items p).bytes ≡ Ok f
 
 -- a test that holds is of a certificate, or CRL, that passes
 pub certificate-there :
@@ -51,10 +50,10 @@ unfolding certificate_at on_certificate
 certificate-there items p test e = go (judged_of (item_at items p).bytes (item_at items p).kind) refl e
   where
     go :
-        (j : Judged) → judged_of (item_at items p).bytes (item_at items p).kind ≡ j → on_certificate j test ≡ true
+        (j : Result Fields Refusal) → judged_of (item_at items p).bytes (item_at items p).kind ≡ j → on_certificate j test ≡ true
         → (f : certificates.Fields) × CertificateAt items p f × (test f ≡ true)
-    go (Refused why) k t = false-true t
-    go (Passed f) k t = (f, k, t)
+    go (Err why) k t = false-true t
+    go (Ok f) k t = (f, k, t)
 
 pub list-there :
     (items : List Item) (p : ℕ) → (test : crls.Fields → Bool) → list_at items p test ≡ true
@@ -63,10 +62,10 @@ unfolding list_at on_list
 list-there items p test e = go (lists.judged_of paper (item_at items p).bytes) refl e
   where
     go :
-        (j : list-answer.Judged) → lists.judged_of paper (item_at items p).bytes ≡ j → on_list j test ≡ true
+        (j : Result crls.Fields Refusal) → lists.judged_of paper (item_at items p).bytes ≡ j → on_list j test ≡ true
         → (f : crls.Fields) × CrlAt items p f × (test f ≡ true)
-    go (list-judged.Refused why) k t = false-true t
-    go (list-judged.Passed f) k t = (f, k, t)
+    go (Err why) k t = false-true t
+    go (Ok f) k t = (f, k, t)
 
 module _ (a b : ℕ) (items : List Item) where
   -- the country of what passes

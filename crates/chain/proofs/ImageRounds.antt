@@ -1,7 +1,7 @@
 -- The rounds over the items of an image: as many as its entries, each held where its entry says.
 use Prim.Native.Nat.{ℕ, ◌+◌, ◌-◌, ◌<◌, ◌≤◌}
 use mathlib.Core.Path.{◌≡◌, sym, ap, ◌∙◌}
-use mathlib.Core.Bool.{false}
+use mathlib.Core.Bool.{Bool, false}
 use mathlib.Core.List.{List}
 use mathlib.Core.Logic.{◌⊎◌}
 use native.Mathlib.Omega.{arith}
@@ -83,8 +83,8 @@ module _ (s table : List ℕ) (moment target n : ℕ) (same : n ≡ entry_count 
     pub round-answer :
         {f : Found} → n ≤ 96 → Answered (tables_graph (held_in s) n table rows roles) target f → (round ≡ 4) ⊎ ((f.length ≡ 0 → ⊥) × (f.length ≤ round + 2))
         → Answered (good_chains s table moment) target f
-    round-answer few found enough =
-        told (rounds.round-answer a b (items_in s) (starts_in s) (held_in s) (image-placed s) table moment target r (rw all at few) (rw all at found) enough)
+    round-answer few answer enough =
+        told (rounds.round-answer a b (items_in s) (starts_in s) (held_in s) (image-placed s) table moment target r (rw all at few) (rw all at answer) enough)
 
     pub no-last-step :
         {f : Found} → ((u : ℕ) → u < n → step_of (held_in s) n table rows roles u target ≡ false) → 1 ≤ round → NoChain f
@@ -96,9 +96,10 @@ module _ (s table : List ℕ) (moment target n : ℕ) (same : n ≡ entry_count 
       pub closed-answer :
           {f : Found} → n ≤ 96 → Answered (tables_graph (held_in s) n table rows roles) target f → ((p : ℕ) → p < n → get_or near p 0 ≡ get_or wider p 0)
           → Answered (good_chains s table moment) target f
-      closed-answer few found unchanged =
+      closed-answer few answer unchanged =
           told
-          (nexts.closed-answer a b (items_in s) (starts_in s) (held_in s) (image-placed s) table moment target r (rw all at w) (rw all at few) (rw all at found)
+          (nexts.closed-answer a b (items_in s) (starts_in s) (held_in s) (image-placed s) table moment target r
+          (rw all at w) (rw all at few) (rw all at answer)
           (rw all at unchanged))
 
       pub next-round :
@@ -112,12 +113,13 @@ module _ (s table : List ℕ) (moment target n : ℕ) (same : n ≡ entry_count 
   Weighed c rows roles = goal.Tabled (items_in s) (starts_in s) table moment target c rows roles
 
   pub given-tables :
-      (signer c kinds before near wider lists counting roles : List ℕ) (rows opened : List (List ℕ)) → n ≤ 96 → target < n → (entry_in s target).kind ≡ 3
+      (signer c kinds before near wider : List ℕ) (lists : List Bool) (counting roles : List ℕ) (rows opened : List (List ℕ))
+      → n ≤ 96 → target < n → (entry_in s target).kind ≡ 3
       → row_from signer ≡ row_of moment (item_at (items_in s) target) (starts_in s target) → (get_or signer 0 0 ≡ 0 → ⊥)
       → InRange n c → get_or c (length c - 1) 0 ≡ target
       → ((p : ℕ) → p < 96 → get_or kinds p 0 ≡ (entry_in s p).kind) → ((p : ℕ) → p < 96 → get_or before p 0 ≡ waiting_of (get_or kinds p 0)) → Named c before near
       → Opens moment (get_or signer 1 0) (get_or signer 2 0) n table (items_in s) (starts_in s) (set (replicate 96 0) target 1) near (set (replicate 96 (replicate 17 0)) target signer) rows
-      → ((p : ℕ) → p < n → get_or lists p 0 ≡ list_of (row_at rows p)) → Vouching n table lists near wider
+      → ((p : ℕ) → p < n → get_or lists p false ≡ list_of (row_at rows p)) → Vouching n table lists near wider
       → Opens moment (get_or signer 1 0) (get_or signer 2 0) n table (items_in s) (starts_in s) near wider rows opened
       → Counted n table opened counting → Roles (held_in s) n (replicate 96 0) opened counting (replicate 96 0) roles → Weighed c opened roles
   given-tables signer c kinds before near wider lists counting roles rows opened few h three is some range last kinds-are marks named opens listed voucher more counted known =

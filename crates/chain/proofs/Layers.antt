@@ -16,19 +16,18 @@ use Rattle.usable.specs.Table.{verdict_in}
 use Rattle.usable.proofs.Booleans.{false-true}
 
 -- a mark becomes 1, or stays
-marked-or-kept : (before verdict mark : ℕ) → (marked_of before verdict mark ≡ 1) ⊎ (marked_of before verdict mark ≡ mark)
+marked-or-kept : (mark : ℕ) → (marked_of mark ≡ 1) ⊎ (marked_of mark ≡ mark)
 unfolding marked_of
-marked-or-kept before verdict mark = go (eqb before 2) (eqb verdict 1)
+marked-or-kept mark = go (eqb mark 2)
   where
-    go : (a b : Bool) → (cond a (cond b 1 mark) mark ≡ 1) ⊎ (cond a (cond b 1 mark) mark ≡ mark)
-    go true true = inl refl
-    go true false = inr refl
-    go false b = inr refl
+    go : (a : Bool) → (cond a 1 mark ≡ 1) ⊎ (cond a 1 mark ≡ mark)
+    go true = inl refl
+    go false = inr refl
 
--- a link with verdict 1 is marked
-link-marked : {before verdict : ℕ} (mark : ℕ) → before ≡ 2 → verdict ≡ 1 → marked_of before verdict mark ≡ 1
+-- a link is marked
+link-marked : {mark : ℕ} → mark ≡ 2 → marked_of mark ≡ 1
 unfolding marked_of
-link-marked mark e f = rw (e, f)
+link-marked e = rw e
 
 module _ (n : ℕ) (table roles before more : List ℕ) where
   -- a link that has verdict 1 for a usable link or signer is near
@@ -126,14 +125,14 @@ no-verdict n table u v e not-one b = not-one (e ∙ eqb-true (get_or table (u * 
 -- a table in which all links are marked, and one of a layer more
 pub links-wider :
     (n : ℕ) (table : List ℕ) (round : ℕ) (roles before near : List ℕ)
-    → ((p : ℕ) → p < n → get_or near p 0 ≡ marked_of (get_or before p 0) 1 (get_or before p 0)) → Wider n table round roles before near
+    → ((p : ℕ) → p < n → get_or near p 0 ≡ marked_of (get_or before p 0)) → Wider n table round roles before near
 links-wider n table round roles before near is =
     record {
       layer = record {
-        kept = λ p h. rw (is p h) (marked-or-kept (get_or before p 0) 1 (get_or before p 0));
-        signers = λ u v hu hv a b t. is u hu ∙ link-marked (get_or before u 0) t refl;
+        kept = λ p h. rw (is p h) (marked-or-kept (get_or before p 0));
+        signers = λ u v hu hv a b t. is u hu ∙ link-marked t;
       };
-      links = λ last u h t. is u h ∙ link-marked (get_or before u 0) t refl;
+      links = λ last u h t. is u h ∙ link-marked t;
     }
 
 pub layer-wider :

@@ -1,3 +1,4 @@
+pub mod Payloads
 pub mod Homes
 pub mod HomeScope
 pub mod PlacesMean

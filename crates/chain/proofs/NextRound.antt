@@ -117,7 +117,7 @@ module _ (a b : ℕ) (items : List Item) (at : ℕ → ℕ) (held : Row → List
       {f : Found} → length items ≤ 96 → Answered (tables_graph held (length items) table rows roles) target f
       → ((p : ℕ) → p < length items → get_or near p 0 ≡ get_or wider p 0) → Answered (good_of items table moment) target f
   unfolding is_near
-  closed-answer few found unchanged = answer-by a b items at held placed table moment target r few found (λ u c o. inl (all o))
+  closed-answer few answer unchanged = answer-by a b items at held placed table moment target r few answer (λ u c o. inl (all o))
     where
       all : {u : ℕ} {c : List ℕ} → Onward (good_of items table moment) target u c → AllNear (is_near near) c
       all (ends m signer step) = more {v = target} r.end done

@@ -1,6 +1,6 @@
 -- The range of a proposal place by place, the places that it names, and what is decided of it.
 use Prim.Native.Nat.{ℕ, zero, suc, ◌+◌, ◌*◌, ◌<◌, ◌≤◌}
-use mathlib.Core.Path.{◌≡◌, refl, sym, ◌∙◌}
+use mathlib.Core.Path.{◌≡◌, refl, sym, ap, ◌∙◌}
 use mathlib.Core.Bool.{Bool, true, false, ◌&&◌, ◌||◌}
 use mathlib.Core.List.{List, [], ◌∷◌}
 use mathlib.Core.Logic.{◌⊎◌, inl, inr, ⊎_elim}
@@ -10,6 +10,7 @@ use borrow.Author.Tests.{ltb-true, lt-ltb, le-ltb, leb-true, le-leb, eqb-true, e
 use lib.Dec.{leb, ltb, eqb}
 use lib.ListN.{length, get_or, set, take, drop}
 use lib.Seq.{get_or-set_same, get_or-set_other}
+use Rattle.std.specs.List.{list_all}
 use Rattle.usable.proofs.Booleans.{false-true, first, second, both_true}
 use Rattle.usable.specs.Table.{verdict_in}
 use Rattle.usable.proofs.RowLaws.{line_read, line-past}
@@ -31,6 +32,11 @@ both_ways f g (yes a) = yes (f a)
 both_ways f g (no h) = no (λ b. h (g b))
 
 module _ (n : ℕ) where
+  pub inside_of : (c : List ℕ) → inside n c ≡ list_all (λ p. ltb p n) c
+  unfolding inside
+  inside_of [] = refl
+  inside_of (p ∷ c) = ap (λ t. ltb p n && t) (inside_of c)
+
   inside-told : (c : List ℕ) → inside n c ≡ true → (i : ℕ) → i < length c → get_or c i 0 < n
   unfolding inside
   inside-told [] e i h = absurd (omega arith)
@@ -110,19 +116,21 @@ marking-set {c} {before} {near} i m room =
     }
 
 -- the first anchors that wait are asked
-pub record Asking (n : ℕ) (table lists before near : List ℕ) (u : ℕ) : Type 0 where
+pub record Asking (n : ℕ) (table : List ℕ) (lists : List Bool) (before near : List ℕ) (u : ℕ) : Type 0 where
   pub kept : (p : ℕ) → (get_or near p 0 ≡ 1) ⊎ (get_or near p 0 ≡ get_or before p 0)
   pub heard :
-      (w : ℕ) → w < u → (v : ℕ) → v < n → get_or lists v 0 ≡ 1 → verdict_in n table w v ≡ true → get_or before w 0 ≡ 2 → get_or near w 0 ≡ 1
+      (w : ℕ) → w < u → (v : ℕ) → v < n → get_or lists v false ≡ true → verdict_in n table w v ≡ true → get_or before w 0 ≡ 2 → get_or near w 0 ≡ 1
 
-pub asking-start : (n : ℕ) (table lists before : List ℕ) → Asking n table lists before before 0
+pub asking-start : (n : ℕ) (table : List ℕ) (lists : List Bool) (before : List ℕ) → Asking n table lists before before 0
 asking-start n table lists before = record { kept = λ p. inr refl; heard = λ w h. absurd (omega arith) }
 
-pub asking-all : {n : ℕ} {table lists before near : List ℕ} {u : ℕ} → Asking n table lists before near u → n ≤ u → Vouching n table lists before near
+pub asking-all :
+    {n : ℕ} {table : List ℕ} {lists : List Bool} {before near : List ℕ} {u : ℕ} → Asking n table lists before near u
+    → n ≤ u → Vouching n table lists before near
 asking-all a all = record { kept = a.kept; heard = λ w v h. a.heard w (omega arith) v }
 
 -- one anchor more, which is heard or not
-module _ {n : ℕ} {table lists before near : List ℕ} (u : ℕ) (a : Asking n table lists before near u) where
+module _ {n : ℕ} {table : List ℕ} {lists : List Bool} {before near : List ℕ} (u : ℕ) (a : Asking n table lists before near u) where
   pub asking-set : u < length near → Asking n table lists before (set near u 1) (u + 1)
   asking-set room =
       record {
@@ -132,28 +140,28 @@ module _ {n : ℕ} {table lists before near : List ℕ} (u : ℕ) (a : Asking n 
       }
 
   pub asking-left :
-      (get_or before u 0 ≡ 2 → (v : ℕ) → v < n → get_or lists v 0 ≡ 1 → verdict_in n table u v ≡ true → ⊥) → Asking n table lists before near (u + 1)
+      (get_or before u 0 ≡ 2 → (v : ℕ) → v < n → get_or lists v false ≡ true → verdict_in n table u v ≡ true → ⊥) → Asking n table lists before near (u + 1)
   asking-left none = record { kept = a.kept; heard = below_more _ u a.heard (λ v k l e two. absurd (none two v k l e)) }
 
 -- of the octets before v none is 1 where a CRL stands
-abbrev pub Unheard : List ℕ → List ℕ → ℕ → Type 0
-Unheard line lists v = (w : ℕ) → w < v → get_or line w 0 ≡ 1 → get_or lists w 0 ≡ 1 → ⊥
+abbrev pub Unheard : List ℕ → List Bool → ℕ → Type 0
+Unheard line lists v = (w : ℕ) → w < v → get_or line w 0 ≡ 1 → get_or lists w false ≡ true → ⊥
 
 pub unheard-more :
-    (line lists : List ℕ) (heard : Bool) (v : ℕ) → (heard ≡ false → Unheard line lists v)
-    → (heard || (eqb (get_or line v 0) 1 && eqb (get_or lists v 0) 1)) ≡ false → Unheard line lists (v + 1)
+    (line : List ℕ) (lists : List Bool) (heard : Bool) (v : ℕ) → (heard ≡ false → Unheard line lists v)
+    → (heard || (eqb (get_or line v 0) 1 && get_or lists v false)) ≡ false → Unheard line lists (v + 1)
 unheard-more line lists heard v before = go heard before
   where
     go :
-        (b : Bool) → (b ≡ false → Unheard line lists v) → (b || (eqb (get_or line v 0) 1 && eqb (get_or lists v 0) 1)) ≡ false
+        (b : Bool) → (b ≡ false → Unheard line lists v) → (b || (eqb (get_or line v 0) 1 && get_or lists v false)) ≡ false
         → Unheard line lists (v + 1)
     go true h e = false-true (sym e)
     go false h e =
-        below_more _ v (h refl) (λ one list. false-true (sym e ∙ both_true _ _ (eq-eqb (get_or line v 0) 1 one) (eq-eqb (get_or lists v 0) 1 list)))
+        below_more _ v (h refl) (λ one list. false-true (sym e ∙ both_true _ _ (eq-eqb (get_or line v 0) 1 one) list))
 
 pub unheard-all :
-    (table : List ℕ) (n u : ℕ) (line lists : List ℕ) {v : ℕ} → line ≡ take n (drop (u * n) table) → length line ≤ v → Unheard line lists v
-    → (w : ℕ) → w < n → get_or lists w 0 ≡ 1 → verdict_in n table u w ≡ true → ⊥
+    (table : List ℕ) (n u : ℕ) (line : List ℕ) (lists : List Bool) {v : ℕ} → line ≡ take n (drop (u * n) table) → length line ≤ v → Unheard line lists v
+    → (w : ℕ) → w < n → get_or lists w false ≡ true → verdict_in n table u w ≡ true → ⊥
 unfolding verdict_in
 unheard-all table n u line lists is all none w h list e =
     let one : get_or table (u * n + w) 0 ≡ 1 = eqb-true (get_or table (u * n + w) 0) 1 e in

@@ -1,5 +1,6 @@
 -- The record of a place has the length and slots that a search found for it: where the place is a signer these are what the single
 -- question shows, and at any other place no chain ends, so they are 0 and 255s, as the refusal of that question has them.
+use Rattle.std.specs.Prelude.{Err}
 use Prim.Native.Nat.{ℕ, ◌*◌, ◌<◌, ◌≤◌}
 use mathlib.Core.Path.{◌≡◌, refl, sym, subst, ◌∙◌}
 use mathlib.Core.Bool.{Bool, true, false, ◌&&◌}
@@ -13,7 +14,6 @@ use Rattle.calendar.specs.Days.{real_moment}
 use Rattle.graph.specs.Answer as search
 use Rattle.graph.specs.Records as records
 use Rattle.graph.proofs.Targets.{all-places, chain-target}
-use Rattle.image.specs.declared.Opened.TheVariants as opened
 use Rattle.image.specs.Answer.{opened_of}
 use Rattle.image.specs.Index.{entry_count, entry_in, items_in}
 use Rattle.search.specs.Tables.{tables_graph}
@@ -22,7 +22,6 @@ use Rattle.usable.specs.Rows.{held_in, step_of, Counted, Roles}
 use Rattle.usable.specs.Steps.{has_kind}
 use Rattle.usable.specs.Table.{verdict_in, table_good}
 use Rattle.usable.specs.Usable.{usable}
-use Rattle.chain.specs.declared.asking.Asked.TheVariants as asked
 use Rattle.chain.specs.declared.Outcome.TheVariants.{Shown, Refused}
 use Rattle.chain.specs.Good.{chains}
 use Rattle.chain.specs.Answer.{on_image, asked_of, good_chains, refused, none, found}
@@ -31,6 +30,8 @@ use Rattle.chain.specs.Signers.{Recorded, Records}
 use Rattle.chain.specs.Whole.{AllOpen}
 use Rattle.chain.proofs.PlacesMean.{item-told}
 use Rattle.chain.proofs.WholeMeans.{whole-image}
+use Rattle.image.proofs.Payloads.{an_image}
+use Rattle.chain.proofs.Payloads.{a_question}
 
 -- what was recorded for the tables' graph is recorded for the image's
 pub whole-records :
@@ -68,12 +69,12 @@ module _ (s table : List ℕ) (moment n : ℕ) where
       first-of (eqb (item_at (items_in s) p).kind 3) (usable (items_in s) (verdict_in (entry_count s) table) moment p) e in
       rw (item-told s p h) at kind
 
-  module _ (same : n ≡ entry_count s) {day version : ℕ} (is : opened_of s ≡ opened.Image n day version) (good : table_good n table ≡ true) (real : real_moment 1950 2099 moment ≡ true) where
-    asked-signer : (p : ℕ) → p < n → eqb (entry_in s p).kind 3 ≡ true → asked_of s table moment p ≡ asked.Over n version
+  module _ (same : n ≡ entry_count s) {day version : ℕ} (is : opened_of s ≡ an_image n day version) (good : table_good n table ≡ true) (real : real_moment 1950 2099 moment ≡ true) where
+    asked-signer : (p : ℕ) → p < n → eqb (entry_in s p).kind 3 ≡ true → asked_of s table moment p ≡ a_question n version
     unfolding asked_of on_image
     asked-signer p h k = rw (is, good, real, lt-ltb _ _ h, k) refl
 
-    asked-other : (p : ℕ) → p < n → eqb (entry_in s p).kind 3 ≡ false → asked_of s table moment p ≡ asked.Refused refusal.Argument
+    asked-other : (p : ℕ) → p < n → eqb (entry_in s p).kind 3 ≡ false → asked_of s table moment p ≡ Err refusal.Argument
     unfolding asked_of on_image
     asked-other p h k = rw (is, good, real, lt-ltb _ _ h, k) refl
 

@@ -120,10 +120,10 @@ module _ (a b : ℕ) (items : List Item) (at : ℕ → ℕ) (held : Row → List
       → AllNear (is_near near) c ⊎ ((f.length ≡ 0 → ⊥) × (f.length ≤ length c)))
       → Answered (good_of items table moment) target f
   unfolding chains
-  answer-by {f} few found ways =
+  answer-by {f} few answer ways =
       answer-out
       (tables-part items at held placed table moment (home-scope a b items table moment near r.based) rows roles _ few r.told r.known (λ u v hu hv. refl))
-      within found
+      within answer
     where
       within : NearOrLonger (inside a b items table near) (good_of items table moment) target f
       within u c l anchor o =
@@ -135,8 +135,8 @@ module _ (a b : ℕ) (items : List Item) (at : ℕ → ℕ) (held : Row → List
   pub round-answer :
       {f : Found} → length items ≤ 96 → Answered (tables_graph held (length items) table rows roles) target f
       → (round ≡ 4) ⊎ ((f.length ≡ 0 → ⊥) × (f.length ≤ round + 2)) → Answered (good_of items table moment) target f
-  round-answer {f} few found enough =
-      answer-by few found (λ u c o. ⊎_elim (λ last. inl (r.reach o (inr last))) (λ k. short o k) enough)
+  round-answer {f} few answer enough =
+      answer-by few answer (λ u c o. ⊎_elim (λ last. inl (r.reach o (inr last))) (λ k. short o k) enough)
     where
       short :
           {u : ℕ} {c : List ℕ} → Onward (good_of items table moment) target u c → ((f.length ≡ 0 → ⊥) × (f.length ≤ round + 2))

@@ -1,5 +1,6 @@
 -- What the promise of `all_signers` settles: each record is the answer of the single question, since that has one answer; and as the
 -- records follow one another, no second output fits.
+use Rattle.std.specs.Prelude.{Result, Ok, Err}
 use Prim.Native.Nat.{ℕ, zero, suc, ◌+◌, ◌*◌, ◌<◌, ◌≤◌}
 use mathlib.Core.Path.{◌≡◌, refl, sym, ap, ◌∙◌}
 use mathlib.Core.List.{List, ◌∷◌, ◌++◌}
@@ -8,8 +9,6 @@ use lib.ListN.{take, drop, take-append-drop}
 use lib.Seq.{take-add}
 use Rattle.refusal.specs.declared.Refusal.{Refusal}
 use Rattle.chain.specs.declared.Answer.{Answer}
-use Rattle.chain.specs.declared.signers.Signers.{Signers}
-use Rattle.chain.specs.declared.signers.Signers.TheVariants.{Length, Refused}
 use Rattle.chain.specs.Answer.{Answered}
 use Rattle.chain.specs.Signers.{Recorded, Records, AllSigned, refused, told}
 use Rattle.chain.proofs.Theorems.{one_answer}
@@ -17,10 +16,10 @@ use Rattle.chain.proofs.Theorems.{one_answer}
 pair_same : {a b : ℕ} {x y : List ℕ} → a ≡ b → x ≡ y → a ∷ x ≡ b ∷ y
 pair_same e f = rw (e, f)
 
-not-both : {size : ℕ} {why : Refusal} → ◌≡◌ {A = Signers} (Length size) (Refused why) → ⊥
+not-both : {size : ℕ} {why : Refusal} → ◌≡◌ {A = (Result ℕ Refusal)} (Ok size) (Err why) → ⊥
 not-both e = let z : ◌≡◌ {A = ℕ} 0 1 = cc in omega arith
 
-same_size : {a b : ℕ} → ◌≡◌ {A = Signers} (Length a) (Length b) → a ≡ b
+same_size : {a b : ℕ} → ◌≡◌ {A = (Result ℕ Refusal)} (Ok a) (Ok b) → a ≡ b
 same_size e = cc
 
 module _ (s table : List ℕ) (moment : ℕ) where
@@ -37,7 +36,7 @@ module _ (s table : List ℕ) (moment : ℕ) where
 
   -- Record p of the output is the answer of `best_chain` for target p: its length, then its slots.
   pub record-is-answer :
-      {old out : List ℕ} {n : ℕ} → AllSigned s table moment old out (Length (97 * n)) → (p : ℕ) → p < n → (r : Answer) → Answered s table moment p r
+      {old out : List ℕ} {n : ℕ} → AllSigned s table moment old out (Ok (97 * n)) → (p : ℕ) → p < n → (r : Answer) → Answered s table moment p r
       → take 97 (drop (97 * p) out) ≡ r.length ∷ r.places
   record-is-answer (refused why e f same) p h r a = absurd (not-both f)
   record-is-answer {n = n} (told {n = m} e f recs) p h r a =
@@ -64,7 +63,7 @@ module _ (s table : List ℕ) (moment : ℕ) where
 
   -- No second answer and no second output fit.
   pub one-output :
-      {old out other : List ℕ} {r q : Signers} → AllSigned s table moment old out r → AllSigned s table moment old other q
+      {old out other : List ℕ} {r q : Result ℕ Refusal} → AllSigned s table moment old out r → AllSigned s table moment old other q
       → (r ≡ q) × (out ≡ other)
   one-output (refused why e f kept) (refused also g h stays) = (f ∙ sym e ∙ g ∙ sym h, kept ∙ sym stays)
   one-output (refused why e f kept) (told g h recs) = absurd (not-both (sym g ∙ e))

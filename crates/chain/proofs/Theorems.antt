@@ -1,5 +1,6 @@
 -- What the definition of good chains over items says, taken apart test by test; and what an answer settles, case by case of
 -- the answers.
+use Rattle.std.specs.Prelude.{Result, Ok, Err}
 use Prim.Native.Nat.{ℕ, zero, suc, ◌<◌, ◌≤◌, ◌-◌}
 use mathlib.Core.Path.{◌≡◌, refl, sym, ap, ◌∙◌}
 use mathlib.Core.Bool.{Bool, true, false, cond, ◌&&◌, ◌||◌, not}
@@ -18,16 +19,12 @@ use Rattle.calendar.specs.Days.{real_moment}
 use Rattle.graph.specs.Chains.{Chain, chain, NotLater, Best}
 use Rattle.graph.proofs.Theorems as graph
 use Rattle.image.specs.declared.Opened.{Opened}
-use Rattle.image.specs.declared.Opened.TheVariants as opened
 use Rattle.image.specs.Items.{Item}
 use Rattle.image.specs.Index.{entry_count, version_in, day_in, entry_in}
 use Rattle.image.specs.Rules.{rules}
 use Rattle.image.specs.Answer.{graded, opened_within, opened_of}
-use Rattle.chain.specs.declared.asking.Asked.TheVariants as asked
 use Rattle.chain.specs.declared.Answer.{Answer}
 use Rattle.chain.specs.declared.Outcome.TheVariants.{Shown, Refused}
-use Rattle.chain.specs.declared.proposal.Proposal.{Proposal}
-use Rattle.chain.specs.declared.proposal.Proposal.TheVariants as proposal
 use Rattle.usable.specs.Items.{item_at, some_below, some_place}
 use Rattle.usable.specs.Usable.{valid, usable_anchor, counts, covers, lists, speaks_of, usable}
 use Rattle.chain.specs.Good.{chains}
@@ -42,6 +39,8 @@ use Rattle.usable.proofs.Booleans.{false-true}
 use Rattle.chain.proofs.Demands.{demands, best-in-range}
 use Rattle.chain.proofs.Homes.{step-verdict}
 use Rattle.chain.proofs.Proposals.{range-good}
+use Rattle.image.proofs.Payloads.{an_image}
+use Rattle.chain.proofs.Payloads.{a_question, same_question}
 
 both : (p q : Bool) → (p && q) ≡ true → (p ≡ true) × (q ≡ true)
 both true q e = (refl, e)
@@ -128,21 +127,21 @@ module _ (items : List Item) (verdict : ℕ → ℕ → Bool) (moment : ℕ) whe
 abbrev pub FiveOrOne : Refusal → Type 0
 FiveOrOne why = ((k : ℕ) × (why ≡ refusal.Image k)) ⊎ (why ≡ refusal.Argument)
 
-image-refused : (s : List ℕ) (why : Refusal) → opened_of s ≡ opened.Refused why → FiveOrOne why
+image-refused : (s : List ℕ) (why : Refusal) → opened_of s ≡ Err why → FiveOrOne why
 unfolding opened_within graded
 image-refused s why e = go (first_broken 1 (rules 1 2 s)) (eqb (first_broken 1 (rules 1 2 s)) 0) e
   where
     go :
         (rule : ℕ) (b : Bool)
-        → cond b (opened.Image (entry_count s) (day_in s) (version_in s)) (opened.Refused (refusal.Image rule)) ≡ opened.Refused why → FiveOrOne why
+        → cond b (an_image (entry_count s) (day_in s) (version_in s)) (Err (refusal.Image rule)) ≡ Err why → FiveOrOne why
     go rule true f = absurd (let z : ◌≡◌ {A = ℕ} 0 1 = cc in omega arith)
     go rule false f = inl (rule, cc)
 
 tests-refused :
     (a b c d : Bool) (n version : ℕ) (why : Refusal)
-    → cond a (cond b (cond c (cond d (asked.Over n version) (asked.Refused refusal.Argument)) (asked.Refused refusal.Argument)) (asked.Refused refusal.Argument))
-    (asked.Refused refusal.Argument)
-    ≡ asked.Refused why → FiveOrOne why
+    → cond a (cond b (cond c (cond d (a_question n version) (Err refusal.Argument)) (Err refusal.Argument)) (Err refusal.Argument))
+    (Err refusal.Argument)
+    ≡ Err why → FiveOrOne why
 tests-refused true true true true n version why e = absurd (let z : ◌≡◌ {A = ℕ} 0 1 = cc in omega arith)
 tests-refused true true true false n version why e = inr (cc)
 tests-refused true true false d n version why e = inr (cc)
@@ -151,16 +150,16 @@ tests-refused false b c d n version why e = inr (cc)
 
 module _ (s table : List ℕ) (moment target : ℕ) where
   -- A question is refused with the image's 5, or with 1.
-  pub question-refused : (why : Refusal) → asked_of s table moment target ≡ asked.Refused why → FiveOrOne why
+  pub question-refused : (why : Refusal) → asked_of s table moment target ≡ Err why → FiveOrOne why
   unfolding asked_of on_image
   question-refused why e = go (opened_of s) refl e
     where
-      go : (o : Opened) → opened_of s ≡ o → on_image s table moment target o ≡ asked.Refused why → FiveOrOne why
-      go (opened.Refused w) h f = image-refused s why (h ∙ (cc))
-      go (opened.Image n day version) h f =
-          tests-refused (table_good n table) (real_moment 1950 2099 moment) (ltb target n) (eqb (entry_in s target).kind 3) n version why f
+      go : (o : Result Opened Refusal) → opened_of s ≡ o → on_image s table moment target o ≡ Err why → FiveOrOne why
+      go (Err w) h f = image-refused s why (h ∙ (cc))
+      go (Ok o) h f =
+          tests-refused (table_good o.entries table) (real_moment 1950 2099 moment) (ltb target o.entries) (eqb (entry_in s target).kind 3) o.entries o.version why f
 
-  question-not-7 : asked_of s table moment target ≡ asked.Refused refusal.Chain → ⊥
+  question-not-7 : asked_of s table moment target ≡ Err refusal.Chain → ⊥
   question-not-7 e = go (question-refused refusal.Chain e)
     where
       go : FiveOrOne refusal.Chain → ⊥
@@ -217,21 +216,21 @@ module _ (s table : List ℕ) (moment target : ℕ) where
     -- The answer is 7 only where the question is good and no good chain exists.
     pub none-sound :
         r.outcome ≡ Refused refusal.Chain
-        → ((n : ℕ) × (version : ℕ) × (asked_of s table moment target ≡ asked.Over n version)) × ((c : List ℕ) → Chain (good_chains s table moment) target c → ⊥)
+        → ((n : ℕ) × (version : ℕ) × (asked_of s table moment target ≡ a_question n version)) × ((c : List ℕ) → Chain (good_chains s table moment) target c → ⊥)
     none-sound e = go a
       where
         go :
             Answered s table moment target r
-            → ((n : ℕ) × (version : ℕ) × (asked_of s table moment target ≡ asked.Over n version))
+            → ((n : ℕ) × (version : ℕ) × (asked_of s table moment target ≡ a_question n version))
             × ((c : List ℕ) → Chain (good_chains s table moment) target c → ⊥)
         go (answers.refused why f w) =
-            absurd (let t = w.told in let same : why ≡ refusal.Chain = cc in question-not-7 (f ∙ ap asked.Refused same))
+            absurd (let t = w.told in let same : why ≡ refusal.Chain = cc in question-not-7 (f ∙ ap Err same))
         go (answers.none {n} {version} f h w) = ((n, version, f), h)
         go (answers.found c f h w) = absurd (let t = w.told in let z : ◌≡◌ {A = ℕ} 0 1 = cc in omega arith)
 
     -- And there it is always 7.
     pub none-complete :
-        (n version : ℕ) → asked_of s table moment target ≡ asked.Over n version → ((c : List ℕ) → Chain (good_chains s table moment) target c → ⊥)
+        (n version : ℕ) → asked_of s table moment target ≡ a_question n version → ((c : List ℕ) → Chain (good_chains s table moment) target c → ⊥)
         → r.outcome ≡ Refused refusal.Chain
     none-complete n version e empty = go a
       where
@@ -242,7 +241,7 @@ module _ (s table : List ℕ) (moment target : ℕ) where
 
     -- Where the question is good and a good chain exists, one is shown.
     pub answer-complete :
-        (n version : ℕ) (c : List ℕ) → asked_of s table moment target ≡ asked.Over n version → Chain (good_chains s table moment) target c
+        (n version : ℕ) (c : List ℕ) → asked_of s table moment target ≡ a_question n version → Chain (good_chains s table moment) target c
         → r.outcome ≡ Shown
     answer-complete n version c e good = go a
       where
@@ -254,15 +253,15 @@ module _ (s table : List ℕ) (moment target : ℕ) where
 module _ (s table : List ℕ) (moment target : ℕ) where
   -- a range is good or not
   apart :
-      (n m : ℕ) {version own : ℕ} (places : List ℕ) → asked_of s table moment target ≡ asked.Over n version
-      → asked_of s table moment target ≡ asked.Over m own
+      (n m : ℕ) {version own : ℕ} (places : List ℕ) → asked_of s table moment target ≡ a_question n version
+      → asked_of s table moment target ≡ a_question m own
       → range_good n places ≡ false → range_good m places ≡ true → ⊥
-  apart n m places e f a b = let same : n ≡ m = cc in false-true (sym a ∙ (rw (← same) at b))
+  apart n m places e f a b = let same : n ≡ m = (same_question (sym e ∙ f)).0 in false-true (sym a ∙ (rw (← same) at b))
 
   -- what is accepted is a good chain
   accepted-good :
-      (places : List ℕ) (p : Proposal) → Proposed s table moment target places p → p ≡ proposal.Accepted
-      → ((n : ℕ) × (version : ℕ) × (asked_of s table moment target ≡ asked.Over n version)) × Chain (good_chains s table moment) target places
+      (places : List ℕ) (p : Result (Unit {0}) Refusal) → Proposed s table moment target places p → p ≡ Ok tt
+      → ((n : ℕ) × (version : ℕ) × (asked_of s table moment target ≡ a_question n version)) × Chain (good_chains s table moment) target places
   accepted-good places p (proposed.refused why f w) e = absurd (let z : ◌≡◌ {A = ℕ} 0 1 = cc in omega arith)
   accepted-good places p (proposed.outside f b w) e = absurd (let z : ◌≡◌ {A = ℕ} 0 1 = cc in omega arith)
   accepted-good places p (proposed.accepted {n} {version} f b g w) e = ((n, version, f), g)
@@ -270,8 +269,9 @@ module _ (s table : List ℕ) (moment target : ℕ) where
 
   -- and a best chain is accepted
   best-accepted :
-      (n version : ℕ) (c : List ℕ) → asked_of s table moment target ≡ asked.Over n version → Best (good_chains s table moment) target c → (p : Proposal)
-      → Proposed s table moment target c p → p ≡ proposal.Accepted
+      (n version : ℕ) (c : List ℕ) → asked_of s table moment target ≡ a_question n version
+      → Best (good_chains s table moment) target c → (p : Result (Unit {0}) Refusal)
+      → Proposed s table moment target c p → p ≡ Ok tt
   best-accepted n version c e b p (proposed.refused why f w) = absurd (let z : ◌≡◌ {A = ℕ} 0 1 = cc in omega arith)
   best-accepted n version c e b p (proposed.outside {n = m} f a w) = absurd (apart m n c f e a (range-good n c (best-in-range s table moment target b e)))
   best-accepted n version c e b p (proposed.accepted f a g w) = w
@@ -279,9 +279,9 @@ module _ (s table : List ℕ) (moment target : ℕ) where
 
   -- No second answer fits a proposal.
   pub one-verdict :
-      (places : List ℕ) (p q : Proposal) → Proposed s table moment target places p → Proposed s table moment target places q → p ≡ q
+      (places : List ℕ) (p q : Result (Unit {0}) Refusal) → Proposed s table moment target places p → Proposed s table moment target places q → p ≡ q
   one-verdict places p q (proposed.refused why e w) (proposed.refused other f v) =
-      let same : why ≡ other = cc in w ∙ ap proposal.Refused same ∙ sym v
+      let same : why ≡ other = cc in w ∙ ap Err same ∙ sym v
   one-verdict places p q (proposed.refused why e w) (proposed.outside f b v) = absurd (let z : ◌≡◌ {A = ℕ} 0 1 = cc in omega arith)
   one-verdict places p q (proposed.refused why e w) (proposed.accepted f b g v) = absurd (let z : ◌≡◌ {A = ℕ} 0 1 = cc in omega arith)
   one-verdict places p q (proposed.refused why e w) (proposed.unfounded f b g v) = absurd (let z : ◌≡◌ {A = ℕ} 0 1 = cc in omega arith)
@@ -300,16 +300,16 @@ module _ (s table : List ℕ) (moment target : ℕ) where
 
   -- The chain that is shown is always accepted.
   pub shown-accepted :
-      (r : Answer) → Answered s table moment target r → r.outcome ≡ Shown → (p : Proposal)
-      → Proposed s table moment target (take r.length r.places) p → p ≡ proposal.Accepted
+      (r : Answer) → Answered s table moment target r → r.outcome ≡ Shown → (p : Result (Unit {0}) Refusal)
+      → Proposed s table moment target (take r.length r.places) p → p ≡ Ok tt
   shown-accepted r (answers.refused why f w) e p = absurd (let t = w.told in let z : ◌≡◌ {A = ℕ} 0 1 = cc in omega arith)
   shown-accepted r (answers.none f h w) e p = absurd (let t = w.told in let z : ◌≡◌ {A = ℕ} 0 1 = cc in omega arith)
   shown-accepted r (answers.found {n} {version} c f h w) e p = λ is.
       best-accepted n version c f h p (rw (w.many, w.slots, take-append_seam c (replicate (96 - length c) 255)) at is)
 
-  module _ (places : List ℕ) (p : Proposal) (is : Proposed s table moment target places p) where
+  module _ (places : List ℕ) (p : Result (Unit {0}) Refusal) (is : Proposed s table moment target places p) where
     -- Where a proposal is accepted a chain is shown that is no longer.
-    pub never-shorter : (r : Answer) → Answered s table moment target r → p ≡ proposal.Accepted → (r.outcome ≡ Shown) × (r.length ≤ length places)
+    pub never-shorter : (r : Answer) → Answered s table moment target r → p ≡ Ok tt → (r.outcome ≡ Shown) × (r.length ≤ length places)
     never-shorter r a e = go a (accepted-good places p is e)
       where
         least : (c : List ℕ) → (length c < length places) ⊎ ((length c ≡ length places) × NotLater c places) → length c ≤ length places
@@ -317,12 +317,12 @@ module _ (s table : List ℕ) (moment target : ℕ) where
         least c (inr k) = omega (arith, k.0)
 
         go :
-            Answered s table moment target r → ((n : ℕ) × (version : ℕ) × (asked_of s table moment target ≡ asked.Over n version)) × Chain (good_chains s table moment) target places
+            Answered s table moment target r → ((n : ℕ) × (version : ℕ) × (asked_of s table moment target ≡ a_question n version)) × Chain (good_chains s table moment) target places
             → (r.outcome ≡ Shown) × (r.length ≤ length places)
         go (answers.refused why f w) ((n, version, x), g) = absurd (let z : ◌≡◌ {A = ℕ} 0 1 = cc in omega arith)
         go (answers.none f h w) (x, g) = absurd (h places g)
         go (answers.found c f h w) (x, g) = (w.told, omega (arith, w.many, least c (h.least places g)))
 
     -- Where the answer is 7 no proposal is accepted.
-    pub none-accepted : (r : Answer) → Answered s table moment target r → r.outcome ≡ Refused refusal.Chain → p ≡ proposal.Accepted → ⊥
+    pub none-accepted : (r : Answer) → Answered s table moment target r → r.outcome ≡ Refused refusal.Chain → p ≡ Ok tt → ⊥
     none-accepted r a seven e = (none-sound s table moment target r a seven).1 places (accepted-good places p is e).1

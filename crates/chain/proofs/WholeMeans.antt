@@ -44,7 +44,8 @@ every-near (v ∷ c) = more refl (every-near c)
 
 module _ (items : List Item) (at : ℕ → ℕ) (held : Row → List ℕ) (placed : Placed held items at) (table : List ℕ) (moment target : ℕ) where
   whole-answer :
-      (rows : List (List ℕ)) (counting roles : List ℕ) (step : ℕ → ℕ → Bool) {f : Found} → length items ≤ 96 → AllOpen moment (length items) items at rows
+      (rows : List (List ℕ)) (counting roles : List ℕ) (step : ℕ → ℕ → Bool) {f : Found}
+      → length items ≤ 96 → AllOpen moment (length items) items at rows
       → Counted (length items) table rows counting → Roles held (length items) (replicate 96 0) rows counting (replicate 96 0) roles
       → ((u v : ℕ) → u < length items → v < length items → step u v ≡ step_of held (length items) table rows roles u v)
       → Answered (graph_by (length items) roles step) target f
@@ -59,7 +60,8 @@ module _ (items : List Item) (at : ℕ → ℕ) (held : Row → List ℕ) (place
 
 -- and so for the items of an image
 pub whole-image :
-    (s table : List ℕ) (moment target n : ℕ) → n ≡ entry_count s → (rows : List (List ℕ)) (counting roles : List ℕ) (step : ℕ → ℕ → Bool) {f : Found} → n ≤ 96
+    (s table : List ℕ) (moment target n : ℕ) → n ≡ entry_count s
+    → (rows : List (List ℕ)) (counting roles : List ℕ) (step : ℕ → ℕ → Bool) {f : Found} → n ≤ 96
     → AllOpen moment n (items_in s) (starts_in s) rows → Counted n table rows counting
     → Roles (held_in s) n (replicate 96 0) rows counting (replicate 96 0) roles
     → ((u v : ℕ) → u < n → v < n → step u v ≡ step_of (held_in s) n table rows roles u v) → Answered (graph_by n roles step) target f

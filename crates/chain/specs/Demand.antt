@@ -1,8 +1,7 @@
 -- What is demanded of a chain that is shown, clause by clause, over the good chains of an image's items. That every chain shown has
 -- it is proved (`demand-three` in `proofs/Theorems.antt`).
-use Rattle.std.specs.Prelude.{ℕ, ◌+◌, ◌<◌, ◌≤◌, ◌≡◌, true, List, length, get_or}
+use Rattle.std.specs.Prelude.{ℕ, ◌+◌, ◌<◌, ◌≤◌, ◌≡◌, true, List, length, get_or, Ok}
 use Rattle.certificate.specs.declared.Fields.{Fields}
-use Rattle.certificate.specs.declared.Judged.TheVariants.{Passed}
 use Rattle.certificate.specs.Answer.{judged_of}
 use Rattle.graph.specs.Chains.{Chain, NotLater}
 use Rattle.image.specs.Items.{Item}
@@ -18,7 +17,7 @@ pub record EnabledAnchor (items : List Item) (moment place : ℕ) : Type 0 where
   pub anchor : (item_at items place).kind ≡ 1
   pub enabled : (item_at items place).flags ≡ 1
   pub fields : Fields
-  pub passes : judged_of (item_at items place).bytes 1 ≡ Passed fields
+  pub passes : judged_of (item_at items place).bytes 1 ≡ Ok fields
   pub started : fields.start ≤ moment
   pub lasting : moment ≤ fields.end
 

@@ -21,15 +21,15 @@ pub record Named (c before near : List ℕ) : Type 0 where
   pub kept : (p : ℕ) → (get_or near p 0 ≡ 1) ⊎ (get_or near p 0 ≡ get_or before p 0)
   pub named : (i : ℕ) → i < length c → get_or near (get_or c i 0) 0 ≡ 1
 
--- 1 for a CRL that is open and within its times
-unfoldable pub list_of : Row → ℕ
-list_of row = cond (eqb row.standing 4) 1 0
+-- a CRL that is open and within its times
+unfoldable pub list_of : Row → Bool
+list_of row = eqb row.standing 4
 
 -- some slots are 1 now, among them each anchor that waits and has verdict 1 for one of the CRLs
-pub record Vouching (n : ℕ) (table lists before near : List ℕ) : Type 0 where
+pub record Vouching (n : ℕ) (table : List ℕ) (lists : List Bool) (before near : List ℕ) : Type 0 where
   pub kept : (p : ℕ) → (get_or near p 0 ≡ 1) ⊎ (get_or near p 0 ≡ get_or before p 0)
   pub heard :
-      (u v : ℕ) → u < n → v < n → get_or lists v 0 ≡ 1 → verdict_in n table u v ≡ true → get_or before u 0 ≡ 2 → get_or near u 0 ≡ 1
+      (u v : ℕ) → u < n → v < n → get_or lists v false ≡ true → verdict_in n table u v ≡ true → get_or before u 0 ≡ 2 → get_or near u 0 ≡ 1
 
 -- the role that is asked of a place before the last: the first an anchor, the others links
 unfoldable pub role_asked : ℕ → ℕ

@@ -15,9 +15,9 @@ first_of target place kind = cond (eqb place target) 1 (cond (eqb kind 2) 2 (con
 unfoldable pub waiting_of : ℕ → ℕ
 waiting_of kind = cond (eqb kind 4) 1 (cond (eqb kind 1) 2 0)
 
--- a link with verdict 1 is near
-unfoldable pub marked_of : ℕ → ℕ → ℕ → ℕ
-marked_of before verdict mark = cond (eqb before 2) (cond (eqb verdict 1) 1 mark) mark
+-- a link is near, and any other mark stays
+unfoldable pub marked_of : ℕ → ℕ
+marked_of mark = cond (eqb mark 2) 1 mark
 
 -- some slots are 1 now, among them each link that has verdict 1 for a usable link or signer
 pub record Near (n : ℕ) (table roles before near : List ℕ) : Type 0 where

@@ -19,16 +19,13 @@ pub(crate) fn direct_chain(
     requires { (places ≤ 96) × (target < places) }
     ensures { (result.length ≡ 0 → ⊥) → Direct (held_in image.now) places table.now rows.now roles target result }
 {
-    let mut u = 0;
-    while u < places {
-        if roles[u] == 1 {
-            if octet(table, u * places + target) == 1 {
-                if matched(image, rows, u, target, roles[target]) == 1 {
-                    return pair(u, target);
-                }
-            }
+    for u in 0..places {
+        if roles[u] == 1
+            && octet(table, u * places + target) == 1
+            && matched(image, rows, u, target, roles[target])
+        {
+            return pair(u, target);
         }
-        u += 1;
     }
     no_chain()
 }
@@ -58,22 +55,17 @@ pub(crate) fn begins(
     requires { places ≤ 96 }
     ensures { result ≡ true → (u : ℕ) × (v : ℕ) × (step_of (held_in image.now) places table.now rows.now roles u v ≡ true) }
 {
-    let mut u = 0;
-    while u < places {
+    for u in 0..places {
         if roles[u] == 1 {
-            let mut v = 0;
-            while v < places {
-                if roles[v] == 2 {
-                    if octet(table, u * places + v) == 1 {
-                        if matched(image, rows, u, v, 2) == 1 {
-                            return true;
-                        }
-                    }
+            for v in 0..places {
+                if roles[v] == 2
+                    && octet(table, u * places + v) == 1
+                    && matched(image, rows, u, v, 2)
+                {
+                    return true;
                 }
-                v += 1;
             }
         }
-        u += 1;
     }
     false
 }
@@ -90,16 +82,13 @@ pub(crate) fn led_to(
     requires { (places ≤ 96) × (target < places) }
     ensures { result ≡ false → (u : ℕ) → u < places → step_of (held_in image.now) places table.now rows.now roles u target ≡ false }
 {
-    let mut u = 0;
-    while u < places {
-        if leads(roles[u]) {
-            if octet(table, u * places + target) == 1 {
-                if matched(image, rows, u, target, roles[target]) == 1 {
-                    return true;
-                }
-            }
+    for u in 0..places {
+        if leads(roles[u])
+            && octet(table, u * places + target) == 1
+            && matched(image, rows, u, target, roles[target])
+        {
+            return true;
         }
-        u += 1;
     }
     false
 }

@@ -18,8 +18,8 @@ pub fn best_chain_by_rounds(image: &[u8], table: &[u8], moment: u64, target: u64
     ensures { Answered image.now table.now moment target result }
 {
     match question(image, table, moment, target) {
-        Asked::Refused(refusal) => refused(refusal),
-        Asked::Over { places, version } => shown(chain_over_all(
+        Err(refusal) => refused(refusal),
+        Ok(Asked { places, version }) => shown(chain_over_all(
             version,
             image,
             table,
@@ -63,19 +63,15 @@ fn matching_steps(
     ensures { Matched (held_in image.now) places table.now rows.now roles result }
 {
     let mut steps = [0u8; 9216];
-    let mut u = 0;
-    while u < places {
+    for u in 0..places {
         if leads(roles[u]) {
             let line = part(table, u * places, places);
-            let mut v = 0;
-            while v < line.len() {
-                if line[v] == 1 {
-                    steps[u * 96 + v] = matched(image, rows, u, v, roles[v]);
+            for v in 0..line.len() {
+                if line[v] == 1 && matched(image, rows, u, v, roles[v]) {
+                    steps[u * 96 + v] = 1;
                 }
-                v += 1;
             }
         }
-        u += 1;
     }
     steps
 }

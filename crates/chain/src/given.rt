@@ -12,13 +12,11 @@ pub(crate) fn roles_fit(roles: [u8; 96], places: &[u8]) -> bool
     ensures { Decides (RolesFit roles places.now) result }
 {
     let end = places.len() - 1;
-    let mut i = 0;
-    while i < end {
+    for i in 0..end {
         let place = places[i] as usize;
         if roles[place] != role_asked(i) {
             return false;
         }
-        i += 1;
     }
     true
 }
@@ -45,14 +43,12 @@ pub(crate) fn steps_fit(
     ensures { Decides (StepsFit (held_in image.now) count table.now rows.now places.now) result }
 {
     let last = places.len() - 1;
-    let mut i = 0;
-    while i < last {
+    for i in 0..last {
         let u = places[i] as usize;
         let v = places[i + 1] as usize;
         if !step_fits(image, table, count, rows, u, v) {
             return false;
         }
-        i += 1;
     }
     true
 }
@@ -69,8 +65,5 @@ fn step_fits(
     requires { (count ≤ 96) × (u < count) × (v < count) }
     ensures { result ≡ joined (held_in image.now) count table.now rows.now u v }
 {
-    if octet(table, u * count + v) != 1 {
-        return false;
-    }
-    matched(image, rows, u, v, 2) == 1
+    octet(table, u * count + v) == 1 && matched(image, rows, u, v, 2)
 }

@@ -19,10 +19,10 @@ ghost use Rattle.chain.specs.Answer.{Answered, Without, Shows};
 use asking::{Asked, question};
 pub use by_rounds::best_chain_by_rounds;
 use graph::Found;
-pub use proposal::{Proposal, propose};
+pub use proposal::propose;
 use refusal::Refusal;
 use rounds::chain_among;
-pub use signers::{Signers, all_signers};
+pub use signers::all_signers;
 
 // Whether a chain is shown, else why not.
 #[derive(Clone, Copy)]
@@ -44,8 +44,8 @@ pub fn best_chain(image: &[u8], table: &[u8], moment: u64, target: u64) -> Answe
     ensures { Answered image.now table.now moment target result }
 {
     match question(image, table, moment, target) {
-        Asked::Refused(refusal) => refused(refusal),
-        Asked::Over { places, version } => shown(chain_among(
+        Err(refusal) => refused(refusal),
+        Ok(Asked { places, version }) => shown(chain_among(
             version,
             image,
             table,

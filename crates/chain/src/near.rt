@@ -18,10 +18,8 @@ pub(crate) fn near_first(version: usize, image: &[u8], places: usize, target: us
 {
     let kinds = kinds_in(version, image);
     let mut near = [0u8; 96];
-    let mut place = 0;
-    while place < places {
+    for place in 0..places {
         near[place] = first(kinds[place], place, target);
-        place += 1;
     }
     near
 }
@@ -31,10 +29,8 @@ pub(crate) fn near_lists(kinds: [u8; 96]) -> [u8; 96]
     ensures { (p : ℕ) → p < 96 → get_or result p 0 ≡ waiting_of (get_or kinds p 0) }
 {
     let mut near = [0u8; 96];
-    let mut place = 0;
-    while place < 96 {
+    for place in 0..96 {
         near[place] = waiting(kinds[place]);
-        place += 1;
     }
     near
 }
@@ -85,13 +81,11 @@ pub(crate) fn near_next(
 
 fn with_links(places: usize, near: [u8; 96]) -> [u8; 96]
     requires { places ≤ 96 }
-    ensures { (p : ℕ) → p < places → get_or result p 0 ≡ marked_of (get_or near p 0) 1 (get_or near p 0) }
+    ensures { (p : ℕ) → p < places → get_or result p 0 ≡ marked_of (get_or near p 0) }
 {
     let mut more = [0u8; 96];
-    let mut place = 0;
-    while place < places {
-        more[place] = marked(near[place], 1, near[place]);
-        place += 1;
+    for place in 0..places {
+        more[place] = marked(near[place]);
     }
     more
 }
@@ -101,48 +95,24 @@ fn with_signers(table: &[u8], places: usize, near: [u8; 96], roles: [u8; 96]) ->
     ensures { Near places table.now roles near result }
 {
     let mut more = near;
-    let mut v = 0;
-    while v < places {
+    for v in 0..places {
         if led(roles[v]) {
-            let mut u = 0;
-            while u < places {
-                if near[u] == 2 {
-                    if octet(table, u * places + v) == 1 {
-                        more[u] = 1;
-                    }
+            for u in 0..places {
+                if near[u] == 2 && octet(table, u * places + v) == 1 {
+                    more[u] = 1;
                 }
-                u += 1;
             }
         }
-        v += 1;
     }
     more
 }
 
-// 1 for a link with verdict 1, and any other as it is now.
-fn marked(before: u8, verdict: u8, mark: u8) -> u8
-    ensures { result ≡ marked_of before verdict mark }
+// 1 for a link, and any other as it is.
+fn marked(mark: u8) -> u8
+    ensures { result ≡ marked_of mark }
 {
-    if before != 2 {
-        return mark;
-    }
-    if verdict == 1 {
+    if mark == 2 {
         return 1;
     }
     mark
-}
-
-// Whether a round opens no more than the one before.
-pub(crate) fn unchanged(places: usize, before: [u8; 96], near: [u8; 96]) -> bool
-    requires { places ≤ 96 }
-    ensures { result ≡ true → (p : ℕ) → p < places → get_or before p 0 ≡ get_or near p 0 }
-{
-    let mut place = 0;
-    while place < places {
-        if before[place] != near[place] {
-            return false;
-        }
-        place += 1;
-    }
-    true
 }

@@ -62,17 +62,14 @@ pub(crate) fn open_items(
     requires { (version ≡ version_in image.now) × (places ≡ entry_count image.now) × (places ≤ 96) × (length rows.old ≡ 96) }
     ensures { (length rows.new ≡ 96) × Opens moment first second places table.now (items_in image.now) (starts_in image.now) before near rows.old rows.new }
 {
-    let mut place = 0;
-    while place < places {
+    for place in 0..places {
         if fresh(before[place], near[place]) {
             let e = entry_of(version, image, place);
             let item = part(image, e.offset, e.length);
             if wanted(table, places, place, item, e.kind, first, second) {
-                let row = open_item(item, e.kind, e.flags, e.offset, moment);
-                rows[place] = row;
+                rows[place] = open_item(item, e.kind, e.flags, e.offset, moment);
             }
         }
-        place += 1;
     }
 }
 
@@ -80,13 +77,7 @@ pub(crate) fn open_items(
 fn fresh(before: u8, near: u8) -> bool
     ensures { result ≡ fresh_of before near }
 {
-    if near != 1 {
-        return false;
-    }
-    if before == 1 {
-        return false;
-    }
-    true
+    near == 1 && before != 1
 }
 
 // What is of another country stays shut, and an anchor from which no verdict leads on; of links and the target it is not asked.
@@ -102,16 +93,11 @@ fn wanted(
     requires { (places ≤ 96) × (place < places) }
     ensures { (items : List Item) → (item_at items place).kind ≡ kind → (item_at items place).bytes ≡ item.now → result ≡ wanted_of first second places table.now items place }
 {
-    if kind == 2 {
+    if kind == 2 || kind == 3 {
         return true;
     }
-    if kind == 3 {
-        return true;
-    }
-    if kind == 1 {
-        if !speaks_up(table, places, place) {
-            return false;
-        }
+    if kind == 1 && !speaks_up(table, places, place) {
+        return false;
     }
     of_country(item, kind, first, second)
 }
@@ -123,10 +109,8 @@ fn speaks_up(table: &[u8], places: usize, place: usize) -> bool
 {
     let line = part(table, place * places, places);
     let mut speaks = false;
-    let mut v = 0;
-    while v < line.len() {
-        speaks = speaks | (line[v] == 1);
-        v += 1;
+    for octet in line {
+        speaks = speaks | (*octet == 1);
     }
     speaks
 }

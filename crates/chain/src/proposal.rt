@@ -1,5 +1,5 @@
 // A chain that is proposed: it need not be the best one, only a good one.
-ghost use Rattle.std.specs.Prelude.{◌≡◌, true, false, cond, ℕ, ◌-◌, ◌≤◌, ◌<◌, eqb, length, get_or};
+ghost use Rattle.std.specs.Prelude.{◌≡◌, true, false, ℕ, ◌-◌, ◌≤◌, ◌<◌, length, get_or};
 ghost use Rattle.graph.specs.Chains.{Chain};
 ghost use Rattle.image.specs.Index.{entry_count, version_in, entry_in, items_in};
 ghost use Rattle.usable.specs.Items.{item_at};
@@ -19,49 +19,42 @@ use octets::part;
 use refusal::Refusal;
 use usable::{counting_lists, roles_of};
 
-#[derive(Clone, Copy)]
-pub enum Proposal {
-    Accepted,
-    Refused(Refusal),
-}
-
 // Refusals in order: those of the question (5, 1); 1 for the proposal's own range; 7 where it is no good chain to the target.
-pub fn propose(image: &[u8], table: &[u8], moment: u64, target: u64, places: &[u8]) -> Proposal
+pub fn propose(
+    image: &[u8],
+    table: &[u8],
+    moment: u64,
+    target: u64,
+    places: &[u8],
+) -> Result<(), Refusal>
     ensures { Proposed image.now table.now moment target places.now result }
 {
-    match question(image, table, moment, target) {
-        Asked::Refused(refusal) => Proposal::Refused(refusal),
-        Asked::Over {
-            places: count,
-            version,
-        } => {
-            if !range_good(count, places) {
-                return Proposal::Refused(Refusal::Argument);
-            }
-            if !good_chain(
-                version,
-                image,
-                table,
-                count,
-                moment,
-                target as usize,
-                places,
-            ) {
-                return Proposal::Refused(Refusal::Chain);
-            }
-            Proposal::Accepted
-        }
+    let Asked {
+        places: count,
+        version,
+    } = question(image, table, moment, target)?;
+    if !range_good(count, places) {
+        return Err(Refusal::Argument);
     }
+    if !good_chain(
+        version,
+        image,
+        table,
+        count,
+        moment,
+        target as usize,
+        places,
+    ) {
+        return Err(Refusal::Chain);
+    }
+    Ok(())
 }
 
 // 2 to 96 places, all in the image.
 fn range_good(count: usize, places: &[u8]) -> bool
     ensures { result ≡ range_good count places.now }
 {
-    if places.len() < 2 {
-        return false;
-    }
-    if 96 < places.len() {
+    if places.len() < 2 || 96 < places.len() {
         return false;
     }
     all_there(count, places)
@@ -70,14 +63,7 @@ fn range_good(count: usize, places: &[u8]) -> bool
 fn all_there(count: usize, places: &[u8]) -> bool
     ensures { result ≡ inside count places.now }
 {
-    let mut i = 0;
-    while i < places.len() {
-        if count <= places[i] as usize {
-            return false;
-        }
-        i += 1;
-    }
-    true
+    places.iter().all(|place| (*place as usize) < count)
 }
 
 // It ends at the target, which is opened first: where that cannot stand in a chain there is none.
@@ -148,68 +134,47 @@ fn near_named(near: [u8; 96], places: &[u8]) -> [u8; 96]
     ensures { Named places.now near result }
 {
     let mut more = near;
-    let mut i = 0;
-    while i < places.len() {
-        let place = places[i] as usize;
-        more[place] = 1;
-        i += 1;
+    for place in places {
+        more[*place as usize] = 1;
     }
     more
 }
 
 // The CRLs that are open.
-fn open_lists(places: usize, rows: &[[usize; 17]; 96]) -> [u8; 96]
+fn open_lists(places: usize, rows: &[[usize; 17]; 96]) -> [bool; 96]
     requires { places ≤ 96 }
-    ensures { (p : ℕ) → p < places → get_or result p 0 ≡ list_of (row_at rows.now p) }
+    ensures { (p : ℕ) → p < places → get_or result p false ≡ list_of (row_at rows.now p) }
 {
-    let mut lists = [0u8; 96];
-    let mut place = 0;
-    while place < places {
-        let cells = rows[place];
-        lists[place] = list_mark(cells[0]);
-        place += 1;
+    let mut lists = [false; 96];
+    for place in 0..places {
+        lists[place] = rows[place][0] == 4;
     }
     lists
 }
 
-fn list_mark(standing: usize) -> u8
-    ensures { result ≡ cond (eqb standing 4) 1 0 }
-{
-    if standing == 4 {
-        return 1;
-    }
-    0
-}
-
 // The anchors that wait and have verdict 1 for one of the CRLs are near too.
-fn near_vouching(table: &[u8], places: usize, near: [u8; 96], lists: [u8; 96]) -> [u8; 96]
+fn near_vouching(table: &[u8], places: usize, near: [u8; 96], lists: [bool; 96]) -> [u8; 96]
     requires { places ≤ 96 }
     ensures { Vouching places table.now lists near result }
 {
     let mut more = near;
-    let mut u = 0;
-    while u < places {
-        if near[u] == 2 {
-            if vouches(table, places, u, lists) {
-                more[u] = 1;
-            }
+    for u in 0..places {
+        if near[u] == 2 && vouches(table, places, u, lists) {
+            more[u] = 1;
         }
-        u += 1;
     }
     more
 }
 
 // Whether the place has verdict 1 for one of the CRLs, with no exit before the last octet of its line.
-fn vouches(table: &[u8], places: usize, u: usize, lists: [u8; 96]) -> bool
+fn vouches(table: &[u8], places: usize, u: usize, lists: [bool; 96]) -> bool
     requires { (places ≤ 96) × (u < places) }
-    ensures { result ≡ false → (v : ℕ) → v < places → get_or lists v 0 ≡ 1 → verdict_in places table.now u v ≡ true → ⊥ }
+    ensures { result ≡ false → (v : ℕ) → v < places → get_or lists v false ≡ true → verdict_in places table.now u v ≡ true → ⊥ }
 {
     let line = part(table, u * places, places);
     let mut heard = false;
-    let mut v = 0;
-    while v < line.len() {
-        heard = heard | ((line[v] == 1) & (lists[v] == 1));
-        v += 1;
+    for v in 0..line.len() {
+        heard = heard | ((line[v] == 1) & lists[v]);
     }
     heard
 }

@@ -8,7 +8,7 @@ ghost use Rattle.graph.specs.Answer as search;
 ghost use Rattle.image.specs.Index.{entry_count, version_in, entry_in, items_in};
 
 use crate::anchors::{begins, direct_chain, led_to};
-use crate::near::{LAST, near_first, near_next, unchanged};
+use crate::near::{LAST, near_first, near_next};
 use crate::opening::{open_first, open_items, open_place};
 use graph::{Found, no_chain};
 use search::chain_to;
@@ -63,15 +63,14 @@ fn chain_home(
         return no_chain();
     }
     let direct = direct_chain(image, table, places, &rows, roles, target);
-    let two = direct.length;
-    if two != 0 {
+    if direct.length != 0 {
         return direct;
     }
     let mut round = 0;
     loop {
         round += 1;
         let wider = near_next(table, places, round, near, roles);
-        if unchanged(places, near, wider) {
+        if near == wider {
             return chain_to(image, table, places, &rows, &roles, target);
         }
         open_items(
@@ -83,8 +82,7 @@ fn chain_home(
         }
         if worthwhile(image, table, places, round, &rows, known) {
             let found = chain_to(image, table, places, &rows, &known, target);
-            let length = found.length;
-            if enough(length, round) {
+            if enough(found.length, round) {
                 return found;
             }
         }
@@ -105,10 +103,7 @@ fn worthwhile(
     requires { places ≤ 96 }
     ensures { round ≡ 4 → result ≡ true }
 {
-    if round == LAST {
-        return true;
-    }
-    begins(image, table, places, rows, roles)
+    round == LAST || begins(image, table, places, rows, roles)
 }
 
 // Whether a chain of so many places settles a round: any in the last one, else one that is short enough.
@@ -116,11 +111,5 @@ fn enough(length: usize, round: usize) -> bool
     requires { round ≤ 4 }
     ensures { result ≡ enough_of round length }
 {
-    if round == LAST {
-        return true;
-    }
-    if length == 0 {
-        return false;
-    }
-    length <= round + 2
+    round == LAST || (length != 0 && length <= round + 2)
 }

@@ -12,40 +12,34 @@ use refusal::Refusal;
 use search::chains_to_all;
 use usable::{counting_lists, roles_of, table_good};
 
-// The octets that were written.
-#[derive(Clone, Copy)]
-pub enum Signers {
-    Length(usize),
-    Refused(Refusal),
-}
-
 // A record of 97 octets for each place: the length of the chain that `best_chain` answers for it and its 96 slots, 0 and all 255 where it
 // is refused. Refusals in order: the image's 5; 1 for the table, the moment; 9 where the output has no room for all records. The output
 // beyond them stays; on a refusal all of it stays.
-pub fn all_signers(image: &[u8], table: &[u8], moment: u64, out: &mut [u8]) -> Signers
+pub fn all_signers(
+    image: &[u8],
+    table: &[u8],
+    moment: u64,
+    out: &mut [u8],
+) -> Result<usize, Refusal>
     ensures { AllSigned image.now table.now moment out.old out.new result }
 {
-    match open(image) {
-        Opened::Refused(refusal) => Signers::Refused(refusal),
-        Opened::Image {
-            entries,
-            day: _,
-            version,
-        } => {
-            if !table_good(entries, table) {
-                return Signers::Refused(Refusal::Argument);
-            }
-            if !real_moment(moment) {
-                return Signers::Refused(Refusal::Argument);
-            }
-            let size = 97 * entries;
-            if out.len() < size {
-                return Signers::Refused(Refusal::Short);
-            }
-            record_signers(version, image, table, entries, moment, out);
-            Signers::Length(size)
-        }
+    let Opened {
+        entries,
+        version,
+        ..
+    } = open(image)?;
+    if !table_good(entries, table) {
+        return Err(Refusal::Argument);
     }
+    if !real_moment(moment) {
+        return Err(Refusal::Argument);
+    }
+    let size = 97 * entries;
+    if out.len() < size {
+        return Err(Refusal::Short);
+    }
+    record_signers(version, image, table, entries, moment, out);
+    Ok(size)
 }
 
 // Each item is opened once, and one search serves all places.

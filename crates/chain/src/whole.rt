@@ -17,10 +17,7 @@ pub(crate) fn open_all(
     requires { (version ≡ version_in image.now) × (places ≡ entry_count image.now) × (places ≤ 96) × (length rows.old ≡ 96) }
     ensures { (length rows.new ≡ 96) × AllOpen moment places (items_in image.now) (starts_in image.now) rows.new }
 {
-    let mut place = 0;
-    while place < places {
-        let row = open_place(version, image, moment, place);
-        rows[place] = row;
-        place += 1;
+    for place in 0..places {
+        rows[place] = open_place(version, image, moment, place);
     }
 }

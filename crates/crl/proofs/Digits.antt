@@ -1,4 +1,5 @@
 -- What the fast path for a time tells: digits in their ranges are a time.
+use Rattle.std.specs.Prelude.{Option, Some}
 use Prim.Native.Nat.{ℕ, zero, suc, ◌+◌, ◌*◌, ◌-◌, ◌/◌, ◌%◌, ◌<◌, ◌≤◌}
 use mathlib.Core.Bool.{true, false}
 use mathlib.Core.List.{List, [], ◌∷◌}
@@ -10,8 +11,6 @@ use lib.Dec.{eqb, ltb, leb}
 use lib.Bits.{bit_and}
 use lib.ListN.{length, get_or, take, drop}
 use lib.Seq.{get_or-take, get_or-drop}
-use Rattle.times.specs.declared.Time.{Time}
-use Rattle.times.specs.declared.Time.TheVariants.{Moment}
 use Rattle.times.specs.Pairs.{Digit, Pair}
 use Rattle.times.specs.Times.{figures, real_number, in_century, zulu, time_in}
 use Rattle.times.proofs.Moments.{one-real}
@@ -239,9 +238,9 @@ module _ (c : List ℕ) (u : Each Upper (clock_of c)) where
       }
 
 pair-told : (a b : ℕ) → Digit a → Digit b → Pair a b (value_of a b)
-pair-told a b da db = record { tens = λ h. da; ones = λ h. db; value = λ x y. refl }
+pair-told a b da db = record { tens = da; ones = db; value = refl }
 
-real-time : {t : Time} {m : ℕ} → Moment m ≡ t → is_time t ≡ true
+real-time : {t : Option ℕ} {m : ℕ} → Some m ≡ t → is_time t ≡ true
 unfolding is_time
 real-time e = rw (← e) refl
 
@@ -291,7 +290,7 @@ module _ (c : List ℕ) (long : length c ≡ 13) (u : UsualTime c) where
   pub utc-time : is_time (time_in 0x17 c) ≡ true
   unfolding time_in zulu year
   utc-time =
-      simp (eq-eqb _ _ long, eq-eqb _ _ u.last, short-read c (omega arith) (pair-told _ _ u.date.year-tens u.date.year-ones) year-few) in-century
+      simp (eq-eqb _ _ long, eq-eqb _ _ u.last, short-read c (omega arith) (pair-told _ _ u.date.year-tens u.date.year-ones)) in-century
 
 -- a GeneralizedTime, which has a century before the octets of a UTCTime
 module _ (c : List ℕ) (long : length c ≡ 15) (l : Later (get_or c 0 0) (get_or c 1 0) (get_or c 2 0)) (u : UsualTime (take 13 (drop 2 c))) where
@@ -334,7 +333,7 @@ module _ (c : List ℕ) (long : length c ≡ 15) (l : Later (get_or c 0 0) (get_
   full-time =
       let century-few : value_of (get_or c 0 0) (get_or c 1 0) ≤ 99 = omega (arith, l.first.high, l.second.high) in
       let rest-few : value_of (get_or c 2 0) (get_or c 3 0) ≤ 99 = omega (arith, tens.high, ones.high) in
-      simp (eq-eqb _ _ long, eq-eqb _ _ zulu-last, long-read c (omega arith) (pair-told _ _ l.first l.second) century-few (pair-told _ _ tens ones) rest-few)
+      simp (eq-eqb _ _ long, eq-eqb _ _ zulu-last, long-read c (omega arith) (pair-told _ _ l.first l.second) (pair-told _ _ tens ones))
       (rw (← late-enough last-ten (ten-left c 4 (omega arith)) full full-late) (any-year u last-ten (ten-left c 4 (omega arith)) at_last full full-few))
 
 -- the clock

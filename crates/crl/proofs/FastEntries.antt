@@ -1,5 +1,6 @@
 -- What short headers tell of an entry: a serial of another length or with another last octet is another, and a serial and a
 -- UTCTime can be the whole of it.
+use Rattle.std.specs.Prelude.{Some}
 use Prim.Native.Nat.{ℕ, ◌+◌, ◌*◌, ◌-◌, ◌<◌, ◌≤◌}
 use mathlib.Core.Bool.{true, false}
 use mathlib.Core.List.{List}
@@ -12,7 +13,6 @@ use lib.Seq.{length-take-le, get_or-take, get_or-drop}
 use Rattle.der.specs.Forms.{paper}
 use Rattle.der.specs.Heading.{identifier_good}
 use Rattle.elements.specs.declared.elements.Element.{Element}
-use Rattle.elements.specs.declared.elements.Found.TheVariants.{One}
 use Rattle.elements.specs.Elements.{found_at, found_tagged, on_found, members_of, contents_of}
 use Rattle.octets.specs.Alike.{alike}
 use Rattle.elements.specs.Short.{short_end}
@@ -20,7 +20,7 @@ use Rattle.octets.proofs.Likeness.{unequal-unlike, unlike-length}
 use Rattle.elements.proofs.Members.{tag-kept, found_within, members-more}
 use Rattle.elements.proofs.Shorts.{brief, short-there, short-told, short-found, short-within}
 use Rattle.times.specs.Times.{time_at, time_tag}
-use Rattle.crl.specs.declared.entries.Entry.TheVariants.{Bare, Extended}
+use Rattle.crl.proofs.Payloads.{an_entry}
 use Rattle.crl.specs.Entries.{entry_of, extended, shaped, timely, calm}
 use Rattle.crl.specs.Listed.{lists, some_lists}
 use Rattle.crl.specs.FastEntries.{stamp_at, Mild, Opening, Usual, Another}
@@ -30,13 +30,13 @@ pub record Short (s : List ℕ) (at end tag r : ℕ) : Type 0 where
   pub inside : end ≤ length s
   pub low : at + 2 ≤ r
   pub high : r ≤ end
-  pub found : found_at paper s at end ≡ One (brief tag at r)
+  pub found : found_at paper s at end ≡ Some (brief tag at r)
 
-pub short : {s : List ℕ} {at end r : ℕ} (tag : ℕ) → identifier_good tag ≡ true → r ≡ short_end s at end tag → 0 < r → Short s at end tag r
-short {s} {at} {end} tag good is some =
-    let t = short-told s at end tag (rw (sym is) some) in
-    let w = short-within s at end tag is some in
-    record { inside = t.inside; low = w.0; high = w.1; found = short-found s at end tag good some is }
+pub short : {s : List ℕ} {at end r : ℕ} (tag : ℕ) → identifier_good tag ≡ true → short_end s at end tag ≡ Some r → Short s at end tag r
+short {s} {at} {end} tag good is =
+    let t = short-told s at end tag is in
+    let w = short-within s at end tag is in
+    record { inside = t.inside; low = w.0; high = w.1; found = short-found s at end tag good is }
 
 module _
     {s : List ℕ} {at end next after : ℕ} (serial : List ℕ)
@@ -86,14 +86,14 @@ module _
     {s : List ℕ} {at end next time : ℕ} {t : Element}
     (entry : Short s at end 0x30 next)
     (first : Short s (at + 2) next 0x02 time)
-    (found : found_at paper s time next ≡ One t)
+    (found : found_at paper s time next ≡ Some t)
     (tag : time_tag t.tag ≡ true)
     (long : next ≡ at + 2 + get_or s (at + 1) 0) where
-  bare : t.end ≡ next → entry_of paper s (brief 0x30 at next) ≡ Bare (brief 0x02 (at + 2) time) t
+  bare : t.end ≡ next → entry_of paper s (brief 0x30 at next) ≡ an_entry (brief 0x02 (at + 2) time) t false
   unfolding entry_of found_tagged time_at on_found
   bare ends = simp (tag-kept 0x02 first.found refl, found, tag, eq-eqb t.end next ends)
 
-  milder : Mild s t.end next → entry_of paper s (brief 0x30 at next) ≡ Extended (brief 0x02 (at + 2) time) t false
+  milder : Mild s t.end next → entry_of paper s (brief 0x30 at next) ≡ an_entry (brief 0x02 (at + 2) time) t false
   unfolding entry_of extended found_tagged time_at on_found
   milder m =
       let more : t.end ≡ next → ⊥ = λ e. omega (arith, m.low, e) in
@@ -114,14 +114,13 @@ module _
 
 -- an element by the octets of its header
 module _ (s : List ℕ) (from end tag size r : ℕ) (few : size < 128) (is : r ≡ from + 2 + size) (fits : r ≤ end) (inside : end ≤ length s) where
-  pub header-end : get_or s from 0 ≡ tag → get_or s (from + 1) 0 ≡ size → r ≡ short_end s from end tag
+  pub header-end : get_or s from 0 ≡ tag → get_or s (from + 1) 0 ≡ size → short_end s from end tag ≡ Some r
   header-end first second =
-      is
-      ∙ ap (λ (n : ℕ). from + 2 + n) (sym second)
-      ∙ short-there s from end tag inside (omega (arith, is, fits)) first (omega (arith, second, few)) (omega (arith, second, is, fits))
+      short-there s from end tag inside (omega (arith, is, fits)) first (omega (arith, second, few)) (omega (arith, second, is, fits))
+      ∙ ap Some (ap (λ (n : ℕ). from + 2 + n) second ∙ sym is)
 
-  pub header-found : identifier_good tag ≡ true → get_or s from 0 ≡ tag → get_or s (from + 1) 0 ≡ size → found_at paper s from end ≡ One (brief tag from r)
-  header-found good first second = (short tag good (header-end first second) (omega (arith, is))).found
+  pub header-found : identifier_good tag ≡ true → get_or s from 0 ≡ tag → get_or s (from + 1) 0 ≡ size → found_at paper s from end ≡ Some (brief tag from r)
+  header-found good first second = (short tag good (header-end first second)).found
 
 own-size : (at n : ℕ) → at + 4 + n - at - 4 ≡ n
 own-size at n = omega arith
@@ -137,7 +136,7 @@ left-told size at end h e = omega (arith, h, leb-true size (end - at - 2) e)
 module _ {s : List ℕ} {at end : ℕ} (o : Opening s at end) where
   pub opened : Short s at end 0x30 (at + 2 + get_or s (at + 1) 0)
   unfolding identifier_good
-  opened = short 0x30 refl (short-there s at end 0x30 o.inside (omega (arith, o.fits)) o.tag o.brief o.fits) (omega arith)
+  opened = short 0x30 refl (short-there s at end 0x30 o.inside (omega (arith, o.fits)) o.tag o.brief o.fits)
 
   pub serial-first : get_or s (at + 3) 0 + 2 ≤ get_or s (at + 1) 0 → Short s (at + 2) (at + 2 + get_or s (at + 1) 0) 0x02 (at + 4 + get_or s (at + 3) 0)
   unfolding identifier_good
@@ -145,9 +144,8 @@ module _ {s : List ℕ} {at end : ℕ} (o : Opening s at end) where
       let three : get_or s (at + 2 + 1) 0 ≡ get_or s (at + 3) 0 = ap (λ (i : ℕ). get_or s i 0) (omega arith) in
       let ends : at + 4 + get_or s (at + 3) 0 ≡ at + 2 + 2 + get_or s (at + 2 + 1) 0 = omega (arith, three) in
       short 0x02 refl
-      (ends ∙ short-there s (at + 2) (at + 2 + get_or s (at + 1) 0) 0x02 (omega (arith, o.fits, o.inside)) (omega (arith, h)) o.first
-      (omega (arith, three, h, o.brief)) (omega (arith, three, h)))
-      (omega arith)
+      (short-there s (at + 2) (at + 2 + get_or s (at + 1) 0) 0x02 (omega (arith, o.fits, o.inside)) (omega (arith, h)) o.first
+      (omega (arith, three, h, o.brief)) (omega (arith, three, h)) ∙ ap Some (sym ends))
 
   -- with the time after the serial, which ends with the entry or stands before extensions
   module _
@@ -155,7 +153,7 @@ module _ {s : List ℕ} {at end : ℕ} (o : Opening s at end) where
       (first : get_or s (at + 4 + get_or s (at + 3) 0) 0 ≡ tag)
       (second : get_or s (at + 4 + get_or s (at + 3) 0 + 1) 0 ≡ octets) where
     stamp : at + 4 + get_or s (at + 3) 0 + 2 + octets ≤ at + 2 + get_or s (at + 1) 0
-        → found_at paper s (at + 4 + get_or s (at + 3) 0) (at + 2 + get_or s (at + 1) 0) ≡ One (stamp_at tag octets (at + 4 + get_or s (at + 3) 0))
+        → found_at paper s (at + 4 + get_or s (at + 3) 0) (at + 2 + get_or s (at + 1) 0) ≡ Some (stamp_at tag octets (at + 4 + get_or s (at + 3) 0))
     stamp h =
         let inside : at + 2 + get_or s (at + 1) 0 ≤ length s = omega (arith, o.fits, o.inside) in
         header-found s (at + 4 + get_or s (at + 3) 0) (at + 2 + get_or s (at + 1) 0) tag octets (at + 4 + get_or s (at + 3) 0 + 2 + octets) few refl h inside good first second

@@ -1,4 +1,5 @@
-pub mod Chains
+pub mod Payloads
+pub mod Runs
 pub mod Surveys
 pub mod OwnExtensions
 pub mod Pairs

@@ -1,12 +1,13 @@
 -- What is kept of the CRL's own extensions is what the rules ask of them.
+use Rattle.std.specs.Prelude.{Option, Some, None}
 use Prim.Native.Nat.{ℕ}
 use mathlib.Core.Bool.{false}
 use mathlib.Core.List.{List}
-use mathlib.Core.Path.{◌≡◌, refl, ap, ◌∙◌}
+use mathlib.Core.Path.{◌≡◌, ap}
 use Rattle.der.specs.Forms.{paper}
 use Rattle.elements.specs.declared.elements.Element.{Element}
 use Rattle.extensions.specs.declared.Extension.{Extension}
-use Rattle.extensions.specs.declared.Extension.TheVariants.{Is, Absent}
+use Rattle.std.specs.Option.{is_some}
 use Rattle.extensions.specs.declared.Held.{Held}
 use Rattle.extensions.specs.Extensions.{present, extensions_shaped, held_of, doubled_of, critical_of}
 use Rattle.crl.specs.declared.own.Own.{Own}
@@ -14,13 +15,10 @@ use Rattle.crl.specs.Own.{own_of}
 use Rattle.crl.specs.Rules.{key_there, number_there}
 
 -- a slot tells whether its extension is there
-pub there-told : {held : Held} (x : Extension) → held ≡ held_of x → held.there ≡ present x
+pub there-told : {held : Option Held} (x : Option Extension) → held ≡ held_of x → is_some held ≡ present x
 unfolding held_of present
-there-told x h = ap (λ (own : Held). own.there) h ∙ go x
-  where
-    go : (x : Extension) → (held_of x).there ≡ present x
-    go Absent = refl
-    go (Is oid critical value) = refl
+there-told None h = rw h
+there-told (Some x) h = rw h
 
 module _ {own : Own} (s : List ℕ) (e : Element) (h : own ≡ own_of paper s e) where
   pub own-shaped : own.shaped ≡ extensions_shaped paper s e

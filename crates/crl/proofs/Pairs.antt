@@ -1,5 +1,6 @@
 -- Two extensions with other OIDs, neither of them critical, have the shape, and no OID stands twice.
-use Prim.Native.Nat.{ℕ, ◌+◌, ◌<◌}
+use Rattle.std.specs.Prelude.{Some}
+use Prim.Native.Nat.{ℕ, ◌+◌}
 use mathlib.Core.Bool.{true, false}
 use mathlib.Core.List.{List, [], ◌∷◌}
 use mathlib.Core.Path.{◌≡◌, sym, ap, ◌∙◌}
@@ -34,11 +35,11 @@ use Rattle.crl.specs.Rules.{key_there, number_there}
 
 -- an extension by its headers and the octets of its OID
 pub known-octets :
-    (s : List ℕ) (from stop arc : ℕ) {end next : ℕ} → 0 < end → end ≡ short_end s from stop 0x30 → 0 < next → next ≡ short_end s (from + 2) end 0x06
-    → next ≡ from + 7 → get_or s (from + 4) 0 ≡ 0x55 → get_or s (from + 5) 0 ≡ 0x1D → get_or s (from + 6) 0 ≡ arc → end ≡ short_end s next end 0x04
+    (s : List ℕ) (from stop arc : ℕ) {end next : ℕ} → short_end s from stop 0x30 ≡ Some end → short_end s (from + 2) end 0x06 ≡ Some next
+    → next ≡ from + 7 → get_or s (from + 4) 0 ≡ 0x55 → get_or s (from + 5) 0 ≡ 0x1D → get_or s (from + 6) 0 ≡ arc → short_end s next end 0x04 ≡ Some end
     → Known paper s from stop arc end
-known-octets s from stop arc whole here some oid size a b c last =
-    let m = member-uncritical s from stop whole here some oid last in
+known-octets s from stop arc here oid size a b c last =
+    let m = member-uncritical s from stop here oid last in
     record {
       e = m.e;
       found = m.found;
@@ -46,7 +47,7 @@ known-octets s from stop arc whole here some oid size a b c last =
       oid = _;
       value = _;
       is = sym m.is;
-      own = three-octets s from stop whole here some oid size ∙ rw (a, b, c);
+      own = three-octets s from stop here oid size ∙ rw (a, b, c);
     }
 
 module _

@@ -1,4 +1,5 @@
 -- The entries are tried one after the other, so a serial is found just if one of them has it.
+use Rattle.std.specs.Prelude.{Option, Some, None}
 use Prim.Native.Nat.{ℕ}
 use mathlib.Core.Bool.{Bool, true, false, cond}
 use mathlib.Core.List.Memᴰ
@@ -8,8 +9,6 @@ use mathlib.Core.Path.{◌≡◌, refl, subst}
 use native.Mathlib.Omega.{arith}
 use Rattle.der.specs.Forms.{paper}
 use Rattle.elements.specs.declared.elements.Element.{Element}
-use Rattle.elements.specs.declared.elements.Found.{Found}
-use Rattle.elements.specs.declared.elements.Found.TheVariants.{One, Missing}
 use Rattle.elements.specs.Elements.{found_tagged, on_found, contents_of}
 use Rattle.octets.specs.Alike.{alike}
 use Rattle.octets.proofs.Likeness.{alike_is, is-alike}
@@ -17,15 +16,15 @@ use Rattle.crl.specs.Listed.{lists, some_lists}
 use Rattle.crl.specs.Meets.{InList}
 
 module _ (s serial : List ℕ) where
-  lists-own : (e : Element) → lists paper s serial e ≡ true → (own : Element) × (found_tagged paper s e.contents e.end 0x02 ≡ One own) × (contents_of s own ≡ serial)
+  lists-own : (e : Element) → lists paper s serial e ≡ true → (own : Element) × (found_tagged paper s e.contents e.end 0x02 ≡ Some own) × (contents_of s own ≡ serial)
   unfolding lists on_found
   lists-own e h = go (found_tagged paper s e.contents e.end 0x02) refl h
     where
-      go : (f : Found) → found_tagged paper s e.contents e.end 0x02 ≡ f → on_found f false (λ own. alike (contents_of s own) serial) ≡ true → (own : Element) × (found_tagged paper s e.contents e.end 0x02 ≡ One own) × (contents_of s own ≡ serial)
-      go Missing g h = absurd (let z : ◌≡◌ {A = ℕ} 0 1 = cc in omega arith)
-      go (One own) g h = (own, g, alike_is _ _ h)
+      go : (f : Option Element) → found_tagged paper s e.contents e.end 0x02 ≡ f → on_found f false (λ own. alike (contents_of s own) serial) ≡ true → (own : Element) × (found_tagged paper s e.contents e.end 0x02 ≡ Some own) × (contents_of s own ≡ serial)
+      go None g h = absurd (let z : ◌≡◌ {A = ℕ} 0 1 = cc in omega arith)
+      go (Some own) g h = (own, g, alike_is _ _ h)
 
-  own-lists : (e own : Element) → found_tagged paper s e.contents e.end 0x02 ≡ One own → contents_of s own ≡ serial → lists paper s serial e ≡ true
+  own-lists : (e own : Element) → found_tagged paper s e.contents e.end 0x02 ≡ Some own → contents_of s own ≡ serial → lists paper s serial e ≡ true
   unfolding lists on_found
   own-lists e own h g = rw h (is-alike _ _ g)
 

@@ -1,22 +1,21 @@
 -- The entries that are left, with what was found of those before them, come to what all of them come to.
+use Rattle.std.specs.Prelude.{Option, Some, None}
 use Prim.Native.Nat.{ℕ, zero, suc, ◌+◌, ◌-◌, ◌<◌, ◌≤◌}
-use mathlib.Core.Bool.{Bool, true, false, cond, ◌&&◌, and-true, and_assoc}
+use mathlib.Core.Bool.{Bool, true, false, cond, not, ◌&&◌, and-true, and_assoc}
 use mathlib.Core.List.{List, [], ◌∷◌}
 use mathlib.Core.Path.{◌≡◌, ap, sym, ◌∙◌}
 use native.Mathlib.Omega.{arith}
 use lib.ListN.{length, get_or}
 use Rattle.der.specs.Forms.{paper}
 use Rattle.elements.specs.declared.elements.Element.{Element}
-use Rattle.elements.specs.declared.elements.Found.{Found}
-use Rattle.elements.specs.declared.elements.Found.TheVariants.{One, Missing}
 use Rattle.elements.specs.Elements.{found_at, on_found, members_in, members_of}
 use Rattle.times.specs.Times.{time_of}
 use Rattle.elements.proofs.Members.{found_within, members-none, members-more}
 use Rattle.crl.specs.declared.entries.Survey.{Survey}
-use Rattle.crl.specs.declared.entries.Survey.TheVariants.{Entries, Shapeless}
-use Rattle.crl.specs.declared.entries.Taken.{Taken}
-use Rattle.crl.specs.FastEntries.{Usual, TakenAs}
+use Rattle.crl.specs.declared.entries.Entry.{Entry}
+use Rattle.crl.specs.FastEntries.{Usual}
 use Rattle.crl.specs.Entries.{entry_of, shaped, is_time, timely, calm, all_shaped, all_timely, all_calm, survey_of}
+use Rattle.crl.proofs.Payloads.{a_survey}
 
 -- there are no more members than octets
 members-in-few : (fuel : ℕ) (s : List ℕ) (from end : ℕ) → length (members_in paper fuel s from end) ≤ fuel
@@ -24,18 +23,18 @@ unfolding members_in on_found
 members-in-few zero s from end = omega arith
 members-in-few (suc fuel) s from end = go (λ at. members-in-few fuel s at end) (found_at paper s from end)
   where
-    go : ((at : ℕ) → length (members_in paper fuel s at end) ≤ fuel) → (f : Found) → length (on_found f [] (λ e. e ∷ members_in paper fuel s e.end end)) ≤ suc fuel
-    go less Missing = omega arith
-    go less (One e) = omega (arith, less e.end)
+    go : ((at : ℕ) → length (members_in paper fuel s at end) ≤ fuel) → (f : Option Element) → length (on_found f [] (λ e. e ∷ members_in paper fuel s e.end end)) ≤ suc fuel
+    go less None = omega arith
+    go less (Some e) = omega (arith, less e.end)
 
 pub members-few : (s : List ℕ) (from end : ℕ) → length (members_of paper s from end) ≤ length s
 unfolding members_of
 members-few s from end = members-in-few (length s) s from end
 
 -- the survey of the entries that are left, with the number, times and calm of those before them
-unfoldable pub survey_with : List ℕ → ℕ → Bool → Bool → List Element → Survey
+unfoldable pub survey_with : List ℕ → ℕ → Bool → Bool → List Element → Option Survey
 survey_with s count times quiet rest =
-    cond (all_shaped paper s rest) (Entries (count + length rest) (times && all_timely paper s rest) (quiet && all_calm paper s rest)) Shapeless
+    cond (all_shaped paper s rest) (a_survey (count + length rest) (times && all_timely paper s rest) (quiet && all_calm paper s rest)) None
 
 pub survey-starts : (s : List ℕ) (from end : ℕ) → survey_of paper s from end ≡ survey_with s 0 true true (members_of paper s from end)
 unfolding survey_of survey_with
@@ -50,14 +49,14 @@ pub record Adds (s : List ℕ) (e : Element) (times quiet times' quiet' : Bool) 
   pub calmed : quiet' ≡ (quiet && calm (entry_of paper s e))
 
 module _ (s : List ℕ) (count : ℕ) (times quiet : Bool) (at end : ℕ) where
-  pub survey-done : found_at paper s at end ≡ Missing → survey_with s count times quiet (members_of paper s at end) ≡ Entries count times quiet
+  pub survey-done : found_at paper s at end ≡ None → survey_with s count times quiet (members_of paper s at end) ≡ a_survey count times quiet
   unfolding survey_with all_shaped all_timely all_calm
   survey-done h =
       let none : count + length {A = Element} [] ≡ count = omega arith in
       rw (members-none s at end h, none, and-true times, and-true quiet)
 
-  module _ {e : Element} (h : found_at paper s at end ≡ One e) where
-    pub survey-bad : shaped (entry_of paper s e) ≡ false → survey_with s count times quiet (members_of paper s at end) ≡ Shapeless
+  module _ {e : Element} (h : found_at paper s at end ≡ Some e) where
+    pub survey-bad : shaped (entry_of paper s e) ≡ false → survey_with s count times quiet (members_of paper s at end) ≡ None
     unfolding survey_with all_shaped
     survey-bad g = rw (members-more s at end h, g)
 
@@ -93,19 +92,18 @@ module _ {s : List ℕ} {at end : ℕ} {time : Element} (u : Usual s at end time
       rw u.ends at (survey-on s count times quiet at end u.found adds)
 
 -- and so does any other
-module _ {s : List ℕ} {at end : ℕ} {t : Taken} (k : TakenAs s at end t) where
-  pub taken_more : length (members_of paper s at end) ≡ suc (length (members_of paper s t.next end))
-  taken_more = rw k.ends at (ap length (members-more s at end k.found))
+module _ (s : List ℕ) (at end : ℕ) {e : Element} (h : found_at paper s at end ≡ Some e) where
+  pub entry-more : length (members_of paper s at end) ≡ suc (length (members_of paper s e.end end))
+  entry-more = ap length (members-more s at end h)
 
-  pub taken-less : end - t.next < end - at
-  taken-less = omega (arith, k.ends, found_within s at end k.found)
+  pub entry-less : end - e.end < end - at
+  entry-less = omega (arith, found_within s at end h)
 
-  pub taken-bad : (count : ℕ) (times quiet : Bool) → t.shaped ≡ false → survey_with s count times quiet (members_of paper s at end) ≡ Shapeless
-  taken-bad count times quiet bad = survey-bad s count times quiet at end k.found (sym k.fit ∙ bad)
+  pub entry-bad : (count : ℕ) (times quiet : Bool) → entry_of paper s e ≡ None → survey_with s count times quiet (members_of paper s at end) ≡ None
+  unfolding shaped
+  entry-bad count times quiet bad = survey-bad s count times quiet at end h (rw bad)
 
-  pub taken-on : (count : ℕ) (times quiet : Bool) → t.shaped ≡ true
-      → survey_with s count times quiet (members_of paper s at end) ≡ survey_with s (count + 1) (times && t.timely) (quiet && t.calm) (members_of paper s t.next end)
-  taken-on count times quiet good =
-      let adds : Adds s k.entry times quiet (times && t.timely) (quiet && t.calm) =
-      record { fit = sym k.fit ∙ good; timed = ap (λ (b : Bool). times && b) k.timed; calmed = ap (λ (b : Bool). quiet && b) k.calmed } in
-      rw k.ends at (survey-on s count times quiet at end k.found adds)
+  pub entry-on : (count : ℕ) (times quiet : Bool) {x : Entry} {time : Bool} → entry_of paper s e ≡ Some x → time ≡ is_time (time_of s x.time)
+      → survey_with s count times quiet (members_of paper s at end) ≡ survey_with s (count + 1) (times && time) (quiet && not x.marked) (members_of paper s e.end end)
+  unfolding shaped timely calm
+  entry-on count times quiet good told = survey-on s count times quiet at end h (record { fit = rw good; timed = rw (good, told); calmed = rw good })

@@ -1,12 +1,10 @@
 -- What is told of an entry, by the fast path and by the other. No public promise cites this.
-use Rattle.std.specs.Prelude.{ℕ, ◌+◌, ◌-◌, ◌<◌, ◌≤◌, true, false, List, ◌≡◌, length, get_or}
+use Rattle.std.specs.Prelude.{ℕ, ◌+◌, ◌-◌, ◌<◌, ◌≤◌, true, false, List, ◌≡◌, length, get_or, Some}
 use Rattle.der.specs.Forms.{paper}
 use Rattle.elements.specs.declared.elements.Element.{Element}
-use Rattle.elements.specs.declared.elements.Found.TheVariants.{One, Missing}
 use Rattle.elements.specs.Elements.{found_at, members_of}
 use Rattle.extensions.specs.Extensions.{extensions_shaped, critical_of}
 use Rattle.times.specs.Times.{time_of}
-use Rattle.crl.specs.declared.entries.Taken.{Taken}
 use Rattle.crl.specs.Entries.{entry_of, shaped, is_time, timely, calm}
 use Rattle.crl.specs.Listed.{lists, some_lists}
 
@@ -30,7 +28,7 @@ sequence_at from end = record { tag = 0x30; at = from; contents = from + 2; end 
 -- such a SEQUENCE stands there, and holds extensions none of which is critical
 pub record Mild (s : List ℕ) (from end : ℕ) : Type 0 where
   pub low : from + 2 ≤ end
-  pub found : found_at paper s from end ≡ One (sequence_at from end)
+  pub found : found_at paper s from end ≡ Some (sequence_at from end)
   pub fit : extensions_shaped paper s (sequence_at from end) ≡ true
   pub calm : critical_of paper s (sequence_at from end) false ≡ false
 
@@ -45,30 +43,16 @@ pub record Reason (c : List ℕ) : Type 0 where
 pub record Usual (s : List ℕ) (at end : ℕ) (time : Element) : Type 0 where
   pub room : time.end ≤ length s
   pub entry : Element
-  pub found : found_at paper s at end ≡ One entry
+  pub found : found_at paper s at end ≡ Some entry
   pub ends : entry.end ≡ at + 2 + get_or s (at + 1) 0
   pub fit : shaped (entry_of paper s entry) ≡ true
   pub timed : timely s (entry_of paper s entry) ≡ is_time (time_of s time)
   pub calmed : calm (entry_of paper s entry) ≡ true
 
--- an element stands at `at`, and this is what is to be said of it as an entry
-pub record TakenAs (s : List ℕ) (at end : ℕ) (t : Taken) : Type 0 where
-  pub entry : Element
-  pub found : found_at paper s at end ≡ One entry
-  pub ends : entry.end ≡ t.next
-  pub fit : t.shaped ≡ shaped (entry_of paper s entry)
-  pub timed : t.timely ≡ timely s (entry_of paper s entry)
-  pub calmed : t.calm ≡ calm (entry_of paper s entry)
-
--- what is taken at `at`: an element, or none
-pub record Takes (s : List ℕ) (at end : ℕ) (t : Taken) : Type 0 where
-  pub some : t.found ≡ true → TakenAs s at end t
-  pub none : t.found ≡ false → found_at paper s at end ≡ Missing
-
 -- the entry that stands at `at` ends at r, and has another serial
 pub record Another (s : List ℕ) (at end : ℕ) (serial : List ℕ) (r : ℕ) : Type 0 where
   pub entry : Element
-  pub found : found_at paper s at end ≡ One entry
+  pub found : found_at paper s at end ≡ Some entry
   pub ends : entry.end ≡ r
   pub other : lists paper s serial entry ≡ false
 

@@ -1,18 +1,14 @@
 -- What the answers say of a CRL: the rules that it meets, the first that it breaks, and where a serial is listed.
-use Rattle.std.specs.Prelude.{ℕ, Bool, true, false, ◌≡◌}
+use Rattle.std.specs.Prelude.{ℕ, Bool, true, false, ◌≡◌, Option, Some, None, Ok, Err}
 use mathlib.Core.List.{List, [], ◌∷◌, Memᴰ}
 use Rattle.refusal.specs.declared.Refusal.{Refusal}
 use Rattle.refusal.specs.declared.Refusal.TheVariants.{Profile}
 use Rattle.refusal.specs.Rules.{Smallest}
-use Rattle.der.specs.declared.walking.Walked.TheVariants as walked
 use Rattle.der.specs.Forms.{Forms}
 use Rattle.der.specs.Walk.{walk_of}
 use Rattle.elements.specs.declared.elements.Element.{Element}
-use Rattle.elements.specs.declared.elements.Found.TheVariants.{One}
 use Rattle.elements.specs.Elements.{found_tagged, contents_of}
 use Rattle.crl.specs.declared.shapes.Layout.{Layout}
-use Rattle.crl.specs.declared.shapes.Shape.{Shape}
-use Rattle.crl.specs.declared.shapes.Shape.TheVariants.{Parts, Broken}
 use Rattle.crl.specs.declared.Fields.{Fields}
 use Rattle.crl.specs.Answer.{fields_of}
 use Rattle.crl.specs.Rules.{readings_of, rule2, rule3, rule4, rule5, rule6, rule7, rule8, rules2to8}
@@ -21,7 +17,7 @@ use Rattle.crl.specs.Shape.{layout_of}
 -- rules 1 to 8, of a CRL that has the parts `l`
 pub record Meets (forms : Forms) (s : List ℕ) (l : Layout) : Type 0 where
   -- 1: the shape
-  pub shape : layout_of forms s ≡ Parts l
+  pub shape : layout_of forms s ≡ Some l
   -- 2: version number 1
   pub version : rule2 s l ≡ true
   -- 3: algorithms equal
@@ -40,15 +36,15 @@ pub record Meets (forms : Forms) (s : List ℕ) (l : Layout) : Type 0 where
 -- the walk passes, each rule is met, and the fields are those of the parts
 pub record Passes (forms : Forms) (s : List ℕ) (f : Fields) : Type 0 where
   pub count : ℕ
-  pub walks : walk_of forms s ≡ walked.Passed count
+  pub walks : walk_of forms s ≡ Ok count
   pub parts : Layout
   pub meets : Meets forms s parts
   pub fields : f ≡ fields_of parts (readings_of s parts)
 
 -- rules 1 to 8; where the shape is broken there is nothing that the others could read
-unfoldable pub rules_in : Forms → List ℕ → Shape → List Bool
-rules_in forms s Broken = false ∷ []
-rules_in forms s (Parts l) = true ∷ rules2to8 forms s l (readings_of s l)
+unfoldable pub rules_in : Forms → List ℕ → Option Layout → List Bool
+rules_in forms s None = false ∷ []
+rules_in forms s (Some l) = true ∷ rules2to8 forms s l (readings_of s l)
 
 unfoldable pub rules1to8 : Forms → List ℕ → List Bool
 rules1to8 forms s = rules_in forms s (layout_of forms s)
@@ -56,12 +52,12 @@ rules1to8 forms s = rules_in forms s (layout_of forms s)
 -- an item that is walked, and of whose rules k is the smallest broken
 pub record Breaks (forms : Forms) (s : List ℕ) (k : ℕ) : Type 0 where
   pub count : ℕ
-  pub walks : walk_of forms s ≡ walked.Passed count
+  pub walks : walk_of forms s ≡ Ok count
   pub smallest : Smallest 1 (rules1to8 forms s) k
 
 -- what an item is refused for: what the walk refuses, 4 for a rule
 pub data RefusedFor (forms : Forms) (s : List ℕ) : Refusal → Type 0 where
-  by-walk : {refusal : Refusal} → walk_of forms s ≡ walked.Refused refusal → RefusedFor forms s refusal
+  by-walk : {refusal : Refusal} → walk_of forms s ≡ Err refusal → RefusedFor forms s refusal
   by-rule : {k : ℕ} → Breaks forms s k → RefusedFor forms s (Profile k)
 
 -- one of the entries has an INTEGER first whose contents are the serial
@@ -69,5 +65,5 @@ pub record InList (forms : Forms) (s : List ℕ) (serial : List ℕ) (entries : 
   pub entry : Element
   pub own : Element
   pub member : Memᴰ entry entries
-  pub first : found_tagged forms s entry.contents entry.end 0x02 ≡ One own
+  pub first : found_tagged forms s entry.contents entry.end 0x02 ≡ Some own
   pub same : contents_of s own ≡ serial

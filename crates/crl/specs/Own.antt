@@ -1,10 +1,8 @@
 -- What is told of a CRL's own extensions. No public promise cites this.
-use Rattle.std.specs.Prelude.{ℕ, true, false, List, [], ◌∷◌, ◌≡◌}
+use Rattle.std.specs.Prelude.{ℕ, true, false, List, [], ◌∷◌, ◌≡◌, Some}
 use Rattle.der.specs.Forms.{Forms}
 use Rattle.elements.specs.declared.elements.Element.{Element}
-use Rattle.elements.specs.declared.elements.Found.TheVariants.{One}
 use Rattle.elements.specs.Elements.{found_at, contents_of}
-use Rattle.extensions.specs.declared.Extension.TheVariants.{Is}
 use Rattle.extensions.specs.Extensions.{extension_of, extensions_shaped, doubled_of, critical_of}
 use Rattle.crl.specs.declared.own.Own.{Own}
 use Rattle.crl.specs.Rules.{key_there, number_there}
@@ -26,9 +24,9 @@ own_usual = record { shaped = true; marked = false; doubled = false; keyed = tru
 -- the extension 2.5.29.arc, not critical, starts at `from` and ends at r
 pub record Known (forms : Forms) (s : List ℕ) (from stop arc r : ℕ) : Type 0 where
   pub e : Element
-  pub found : found_at forms s from stop ≡ One e
+  pub found : found_at forms s from stop ≡ Some e
   pub ends : r ≡ e.end
   pub oid : Element
   pub value : Element
-  pub is : extension_of forms s e ≡ Is oid false value
+  pub is : extension_of forms s e ≡ Some (record { oid = oid; critical = false; value = value })
   pub own : contents_of s oid ≡ 0x55 ∷ 0x1D ∷ arc ∷ []

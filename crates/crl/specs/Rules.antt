@@ -1,8 +1,9 @@
 -- Rules 2 to 8 of the CRL profile, each over the parts that rule 1 found.
-use Rattle.std.specs.Prelude.{ℕ, Bool, true, false, ◌&&◌, not, List, [], ◌∷◌, eqb}
+use Rattle.std.specs.Prelude.{ℕ, suc, Bool, true, false, cond, ◌&&◌, not, List, [], ◌∷◌, eqb, Option, Some, None, Result, Ok, Err}
+use Rattle.refusal.specs.declared.Refusal.{Refusal}
+use Rattle.refusal.specs.declared.Refusal.TheVariants.{Profile}
 use Rattle.der.specs.Forms.{Forms}
 use Rattle.names.specs.declared.Letters.{Letters}
-use Rattle.names.specs.declared.Letters.TheVariants.{Two, Unfit}
 use Rattle.octets.specs.Alike.{alike}
 use Rattle.elements.specs.declared.elements.Element.{Element}
 use Rattle.elements.specs.Elements.{whole_of, contents_of}
@@ -26,9 +27,9 @@ unfoldable pub rule3 : List ℕ → Layout → Bool
 rule3 s l = alike (whole_of s l.inner) (whole_of s l.outer)
 
 -- 4: issuer country: once, as PrintableString of two letters
-unfoldable pub two_letters : Letters → Bool
-two_letters Unfit = false
-two_letters (Two a b) = true
+unfoldable pub two_letters : Option Letters → Bool
+two_letters None = false
+two_letters (Some l) = true
 
 unfoldable pub rule4 : Readings → Bool
 rule4 r = two_letters r.country
@@ -59,3 +60,8 @@ rule8 forms s l = not (critical_of forms s l.extensions false) && l.calm
 
 unfoldable pub rules2to8 : Forms → List ℕ → Layout → Readings → List Bool
 rules2to8 forms s l r = rule2 s l ∷ rule3 s l ∷ rule4 r ∷ rule5 l r ∷ rule6 l ∷ rule7 forms s l ∷ rule8 forms s l ∷ []
+
+-- refused for the first that is broken, of rules numbered from `rule` on
+unfoldable pub told : ℕ → List Bool → Result (Unit {0}) Refusal
+told rule [] = Ok tt
+told rule (holds ∷ rest) = cond holds (told (suc rule) rest) (Err (Profile rule))

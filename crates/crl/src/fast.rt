@@ -22,25 +22,7 @@ pub(crate) fn usual_full(c: &[u8]) -> bool
 fn later(a: u8, b: u8, c: u8) -> bool
     ensures { result ≡ true → Later a b c }
 {
-    if a < 50 {
-        return false;
-    }
-    if 57 < a {
-        return false;
-    }
-    if b < 48 {
-        return false;
-    }
-    if 57 < b {
-        return false;
-    }
-    if 50 < a {
-        return true;
-    }
-    if 48 < b {
-        return true;
-    }
-    53 <= c
+    matches!(a, 50..=57) && matches!(b, 48..=57) && (50 < a || 48 < b || 53 <= c)
 }
 
 // Whether 13 octets are a UTCTime with a day that every year has; false where it does not tell. Minute and second are
@@ -96,10 +78,7 @@ fn usual_date(c: &[u8]) -> bool
 fn late(month: u64, day: u64, hour: u64) -> bool
     ensures { result ≡ true → (day ≤ month_length 1 month) × (hour ≤ 23) }
 {
-    if 23 < hour {
-        return false;
-    }
-    day <= month_length(1, month)
+    hour <= 23 && day <= month_length(1, month)
 }
 
 // Four octets as one number, the first lowest.

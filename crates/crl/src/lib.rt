@@ -18,16 +18,16 @@ ghost use Rattle.der.specs.Forms.{paper};
 ghost use Rattle.crl.specs.Age.{age_of};
 ghost use Rattle.crl.specs.Answer.{fields_of, profile_of, judged_of};
 
-use calendar::{Difference, day_difference, real_day};
+use calendar::{day_difference, real_day};
 pub use countries::country;
-use der::{Walked, walk};
+use der::walk;
 pub use listing::listed;
 use names::{first_letter, second_letter};
 use octets::between;
 use own::own_of;
 use refusal::Refusal;
-use rules::{Readings, readings_of, rules_2_to_8};
-use shapes::{Layout, Shape, parts_of};
+use rules::{Readings, readings_of, rule, rules_2_to_8};
+use shapes::{Layout, parts_of};
 use times::moment;
 
 // Both updates as YYYYMMDDHHMMSS, the issuer's letters, the number of entries, offset and length of the issuer with its
@@ -45,52 +45,35 @@ pub struct Fields {
     pub entries_end: usize,
 }
 
-#[derive(Clone, Copy)]
-pub enum Judged {
-    Passed(Fields),
-    Refused(Refusal),
-}
-
-pub fn judge(item: &[u8]) -> Judged
+#[tactic(auto, unfolding(crate::specs::Answer::judged_of, crate::specs::Answer::on_walk))]
+pub fn judge(item: &[u8]) -> Result<Fields, Refusal>
     ensures { result ≡ judged_of paper item.now }
 {
-    if let Walked::Refused(refusal) = walk(item) {
-        return Judged::Refused(refusal);
-    }
+    walk(item)?;
     profile(item)
 }
 
 // The rules in order, and the fields where all of them hold.
-fn profile(item: &[u8]) -> Judged
+fn profile(item: &[u8]) -> Result<Fields, Refusal>
     ensures { result ≡ profile_of paper item.now }
 {
-    let Shape::Parts(l) = parts_of(item) else {
-        return Judged::Refused(Refusal::Profile { rule: 1 });
-    };
-    let extensions = l.extensions;
-    let own = own_of(item, extensions);
-    if !own.shaped {
-        return Judged::Refused(Refusal::Profile { rule: 1 });
-    }
+    let l = parts_of(item).ok_or(Refusal::Profile { rule: 1 })?;
+    let own = own_of(item, l.extensions);
+    rule(1, own.shaped)?;
     let r = readings_of(item, l);
-    let rule = rules_2_to_8(item, l, r, own);
-    if rule != 0 {
-        return Judged::Refused(Refusal::Profile { rule });
-    }
-    Judged::Passed(fields_of(l, r))
+    rules_2_to_8(item, l, r, own)?;
+    Ok(fields_of(l, r))
 }
 
+#[tactic(auto, unfolding(crate::specs::Answer::fields_of))]
 fn fields_of(l: Layout, r: Readings) -> Fields
     ensures { result ≡ fields_of l r }
 {
-    let current = r.current;
-    let coming = r.coming;
-    let country = r.country;
     Fields {
-        this_update: moment(current),
-        next_update: moment(coming),
-        first: first_letter(country),
-        second: second_letter(country),
+        this_update: moment(r.current),
+        next_update: moment(r.coming),
+        first: first_letter(r.country),
+        second: second_letter(r.country),
         entries: l.count,
         issuer_at: l.issuer.at,
         issuer_len: between(l.issuer.at, l.issuer.end),
@@ -100,17 +83,13 @@ fn fields_of(l: Layout, r: Readings) -> Fields
 }
 
 // The days from the CRL's this-update day to a day.
-pub fn age(item: &[u8], day: u64) -> Difference
+#[tactic(auto, unfolding(crate::specs::Age::age_of, crate::specs::Age::aged_by))]
+pub fn age(item: &[u8], day: u64) -> Result<i64, Refusal>
     ensures { result ≡ age_of item.now day }
 {
     if !real_day(day) {
-        return Difference::Refused(Refusal::Argument);
+        return Err(Refusal::Argument);
     }
-    match judge(item) {
-        Judged::Refused(refusal) => Difference::Refused(refusal),
-        Judged::Passed(fields) => {
-            let moment = fields.this_update;
-            day_difference(moment / 1000000, day)
-        }
-    }
+    let fields = judge(item)?;
+    day_difference(fields.this_update / 1000000, day)
 }

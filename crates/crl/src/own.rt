@@ -31,14 +31,11 @@ pub(crate) fn own_of(item: &[u8], extensions: Element) -> Own
         };
     }
     let seen = one_pass(item, extensions);
-    let slots = seen.slots;
-    let authority = slots[21];
-    let number = slots[6];
     Own {
         shaped: seen.shaped,
         marked: seen.marked,
         doubled: seen.doubled,
-        keyed: authority.there,
-        numbered: number.there,
+        keyed: seen.slots[21].is_some(),
+        numbered: seen.slots[6].is_some(),
     }
 }

@@ -3,7 +3,7 @@ ghost use Rattle.std.specs.Prelude.{◌≡◌, true, ◌+◌, ◌≤◌, ◌<◌
 ghost use Rattle.crl.specs.FastEntries.{Mild, Reason};
 
 use crate::fast::four;
-use elements::{Element, short_end};
+use elements::{Element, fills};
 use extensions::outline_of;
 
 // Whether a SEQUENCE with a length in the short form goes from `from` to `end`, and holds extensions none of which is
@@ -20,7 +20,7 @@ pub(crate) fn calm_list(item: &[u8], from: usize, end: usize) -> bool
     if end == from + 2 {
         return four(item[from], item[from + 1], 0, 0) == 0x0030;
     }
-    if short_end(item, from, end, 0x30) != end {
+    if !fills(item, from, end, 0x30) {
         return false;
     }
     let list = Element {
@@ -30,10 +30,7 @@ pub(crate) fn calm_list(item: &[u8], from: usize, end: usize) -> bool
         end,
     };
     let seen = outline_of(item, list);
-    if seen.marked {
-        return false;
-    }
-    seen.shaped
+    !seen.marked && seen.shaped
 }
 
 // Whether 14 octets are a list of one extension, 2.5.29.21, with a value of three octets.

@@ -4,8 +4,8 @@ ghost use Rattle.der.specs.Forms.{paper};
 ghost use Rattle.crl.specs.Shape.{front_of, last_of, listing_of, parts_of};
 
 use crate::entries::{Survey, survey_of};
-use elements::{Element, Envelope, Found, element_tagged, envelope_of, only_member};
-use names::{Name, Seen, name_of};
+use elements::{Element, Envelope, element_tagged, envelope_of, only_member};
+use names::{Seen, name_of};
 use times::time_at;
 
 // Whether the entry list is there, where its contents start and end, and the offset after it.
@@ -34,59 +34,39 @@ pub struct Layout {
     pub calm: bool,
 }
 
-#[derive(Clone, Copy)]
-pub enum Shape {
-    Parts(Layout),
-    Broken,
-}
-
 // The first members of the tbs.
 #[derive(Clone, Copy)]
-pub enum Front {
-    Opens {
-        version: Element,
-        inner: Element,
-        issuer: Element,
-        current: Element,
-        coming: Element,
-    },
-    Frontless,
+pub struct Front {
+    pub version: Element,
+    pub inner: Element,
+    pub issuer: Element,
+    pub current: Element,
+    pub coming: Element,
 }
 
 // All of rule 1 but the shape of the extensions.
-pub(crate) fn parts_of(item: &[u8]) -> Shape
+#[tactic(auto, unfolding(crate::specs::Shape::parts_of, crate::specs::Shape::on_front, crate::specs::Shape::on_survey, elements::specs::Elements::on_found, elements::specs::Envelope::on_envelope, names::specs::Names::on_name))]
+pub(crate) fn parts_of(item: &[u8]) -> Option<Layout>
     ensures { result ≡ parts_of paper item.now }
 {
-    let Envelope::Parts { tbs, algorithm } = envelope_of(item) else {
-        return Shape::Broken;
-    };
+    let Envelope { tbs, algorithm } = envelope_of(item)?;
     let end = tbs.end;
-    let Front::Opens {
+    let Front {
         version,
         inner,
         issuer,
         current,
         coming,
-    } = front_of(item, tbs)
-    else {
-        return Shape::Broken;
-    };
-    let Name::Holds(country) = name_of(item, issuer) else {
-        return Shape::Broken;
-    };
+    } = front_of(item, tbs)?;
+    let country = name_of(item, issuer)?;
     let listing = listing_of(coming.end, element_tagged(item, coming.end, end, 0x30));
-    let Found::One(extensions) = last_of(item, listing.after, end) else {
-        return Shape::Broken;
-    };
-    let Survey::Entries {
+    let extensions = last_of(item, listing.after, end)?;
+    let Survey {
         count,
         timely,
         calm,
-    } = survey_of(item, listing.from, listing.end)
-    else {
-        return Shape::Broken;
-    };
-    Shape::Parts(Layout {
+    } = survey_of(item, listing.from, listing.end)?;
+    Some(Layout {
         version,
         inner,
         outer: algorithm,
@@ -103,59 +83,49 @@ pub(crate) fn parts_of(item: &[u8]) -> Shape
 }
 
 // INTEGER, algorithm, issuer, time, time.
-fn front_of(item: &[u8], tbs: Element) -> Front
+#[tactic(auto, unfolding(crate::specs::Shape::front_of, elements::specs::Elements::on_found))]
+fn front_of(item: &[u8], tbs: Element) -> Option<Front>
     ensures { result ≡ front_of paper item.now tbs }
 {
     let end = tbs.end;
-    let Found::One(version) = element_tagged(item, tbs.contents, end, 0x02) else {
-        return Front::Frontless;
-    };
-    let Found::One(inner) = element_tagged(item, version.end, end, 0x30) else {
-        return Front::Frontless;
-    };
-    let Found::One(issuer) = element_tagged(item, inner.end, end, 0x30) else {
-        return Front::Frontless;
-    };
-    let Found::One(current) = time_at(item, issuer.end, end) else {
-        return Front::Frontless;
-    };
-    let Found::One(coming) = time_at(item, current.end, end) else {
-        return Front::Frontless;
-    };
-    Front::Opens {
+    let version = element_tagged(item, tbs.contents, end, 0x02)?;
+    let inner = element_tagged(item, version.end, end, 0x30)?;
+    let issuer = element_tagged(item, inner.end, end, 0x30)?;
+    let current = time_at(item, issuer.end, end)?;
+    let coming = time_at(item, current.end, end)?;
+    Some(Front {
         version,
         inner,
         issuer,
         current,
         coming,
-    }
+    })
 }
 
 // A0 around one SEQUENCE, which ends the tbs.
-fn last_of(item: &[u8], from: usize, end: usize) -> Found
+#[tactic(auto, unfolding(crate::specs::Shape::last_of, elements::specs::Elements::on_found))]
+fn last_of(item: &[u8], from: usize, end: usize) -> Option<Element>
     ensures { result ≡ last_of paper item.now from end }
 {
-    let Found::One(last) = element_tagged(item, from, end, 0xa0) else {
-        return Found::Missing;
-    };
+    let last = element_tagged(item, from, end, 0xa0)?;
     if last.end != end {
-        return Found::Missing;
+        return None;
     }
     only_member(item, last, 0x30)
 }
 
 // Where the entry list stands, if it is there.
-fn listing_of(from: usize, found: Found) -> Listing
+fn listing_of(from: usize, found: Option<Element>) -> Listing
     ensures { result ≡ listing_of from found }
 {
     match found {
-        Found::Missing => Listing {
+        None => Listing {
             there: false,
             from: 0,
             end: 0,
             after: from,
         },
-        Found::One(e) => Listing {
+        Some(e) => Listing {
             there: true,
             from: e.contents,
             end: e.end,

@@ -6,7 +6,7 @@ ghost use Rattle.crl.specs.FastEntries.{stamp_at};
 
 use crate::fast::{usual_full, usual_utc};
 use elements::Element;
-use times::{Time, time_of};
+use times::time_of;
 
 // Whether the UTCTime of 13 octets at an offset is a time.
 pub(crate) fn is_utc(item: &[u8], at: usize) -> bool
@@ -46,11 +46,9 @@ pub(crate) fn is_full(item: &[u8], at: usize) -> bool
     is_time(item, e)
 }
 
+#[tactic(auto, unfolding(crate::specs::Entries::is_time))]
 pub(crate) fn is_time(item: &[u8], time: Element) -> bool
     ensures { result ≡ is_time (time_of item.now time) }
 {
-    match time_of(item, time) {
-        Time::Moment(_) => true,
-        Time::Untimely => false,
-    }
+    time_of(item, time).is_some()
 }

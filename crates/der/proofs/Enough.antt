@@ -1,4 +1,5 @@
 -- What an element and a list come to at every fuel that is enough: each law of the walk at a fuel that has one to spend.
+use Rattle.std.specs.Prelude.{None, Result, Ok, Err}
 use mathlib.Core.Path.{◌≡◌, refl, sym, subst, ap, ◌∙◌}
 use mathlib.Core.Bool.{Bool, true, false}
 use mathlib.Core.List.{List, []}
@@ -9,11 +10,7 @@ use lib.Seq.{take_all, drop-drop}
 use native.Mathlib.Nat.{add-zero, add_assoc}
 use Rattle.refusal.specs.declared.Refusal.{Refusal}
 use Rattle.refusal.specs.declared.Refusal.TheVariants.{Der, Limit}
-use Rattle.der.specs.declared.heading.Heading.TheVariants.{Header, Bad}
 use Rattle.der.specs.declared.walking.Read.{Read}
-use Rattle.der.specs.declared.walking.Read.TheVariants.{Past, Fault}
-use Rattle.der.specs.declared.walking.Walked.{Walked}
-use Rattle.der.specs.declared.walking.Walked.TheVariants.{Passed, Refused}
 use Rattle.der.specs.Forms.{Forms}
 use Rattle.der.specs.Heading.{heading_of, constructed}
 use Rattle.der.specs.Contents.{contents_good}
@@ -26,11 +23,13 @@ use Rattle.der.proofs.Ascending.{smaller-none}
 use Rattle.der.proofs.Laws.{element-bad, element-deep, element-many, element-fallen, element-node}
 use Rattle.der.proofs.Laws.{element-leaf, element-spoilt, list_done, list-more, list-fault}
 use Rattle.der.proofs.Bounds.{heading-within, element-within}
+use Rattle.der.proofs.Payloads.{a_heading}
+use Rattle.der.proofs.Payloads.{a_read}
 
-abbrev pub ElementIs : Forms → List ℕ → List ℕ → ℕ → ℕ → ℕ → Read → Type 0
+abbrev pub ElementIs : Forms → List ℕ → List ℕ → ℕ → ℕ → ℕ → Result Read Refusal → Type 0
 ElementIs forms prior s base depth count r = (fuel : ℕ) → 2 * length s + 1 ≤ fuel → r ≡ element_at fuel forms prior s base depth count
 
-abbrev pub ListIs : Forms → Bool → List ℕ → ℕ → ℕ → ℕ → Walked → Type 0
+abbrev pub ListIs : Forms → Bool → List ℕ → ℕ → ℕ → ℕ → Result ℕ Refusal → Type 0
 ListIs forms set s base depth count w = (fuel : ℕ) → 2 * length s + 2 ≤ fuel → w ≡ list_at fuel forms set [] s base depth count
 
 back : (skip size : ℕ) → skip + size - skip ≡ size
@@ -41,31 +40,31 @@ spend P m f zero h = absurd (omega arith)
 spend P m f (suc fuel) h = f fuel (omega arith)
 
 module _ (forms : Forms) (s : List ℕ) (base depth count : ℕ) where
-  pub bad-is : heading_of forms s ≡ Bad → ElementIs forms [] s base depth count (Fault (Der base))
+  pub bad-is : heading_of forms s ≡ None → ElementIs forms [] s base depth count (Err (Der base))
   bad-is e = spend _ (2 * length s) λ fuel h. sym (element-bad forms fuel [] s base depth count e)
 
-  module _ {tag skip size : ℕ} (e : heading_of forms s ≡ Header tag skip size) where
-    pub deep_is : forms.depth < depth → ElementIs forms [] s base depth count (Fault (Limit base))
+  module _ {tag skip size : ℕ} (e : heading_of forms s ≡ a_heading tag skip size) where
+    pub deep_is : forms.depth < depth → ElementIs forms [] s base depth count (Err (Limit base))
     deep_is h = spend _ (2 * length s) λ fuel _. sym (element-deep forms fuel [] s base depth count tag skip size e h)
 
     module _ (shallow : depth ≤ forms.depth) where
-      pub many_is : forms.elements ≤ count → ElementIs forms [] s base depth count (Fault (Limit base))
+      pub many_is : forms.elements ≤ count → ElementIs forms [] s base depth count (Err (Limit base))
       many_is h = spend _ (2 * length s) λ fuel _. sym (element-many forms fuel [] s base depth count tag skip size e shallow h)
 
       module _ (few : count < forms.elements) where
         pub leaf-is : constructed (get_or s 0 0) ≡ false → contents_good tag (take (skip + size - skip) (drop skip s)) ≡ true
-            → ElementIs forms [] s base depth count (Past (skip + size) (count + 1))
+            → ElementIs forms [] s base depth count (a_read (skip + size) (count + 1))
         leaf-is h g = spend _ (2 * length s) λ fuel _.
             sym (element-leaf forms fuel [] s base depth count tag skip size e shallow few (smaller-none _) h
             (subst (λ n. contents_good tag (take n (drop skip s)) ≡ true) (back skip size) g))
 
         pub spoilt-is : constructed (get_or s 0 0) ≡ false → contents_good tag (take (skip + size - skip) (drop skip s)) ≡ false
-            → ElementIs forms [] s base depth count (Fault (Der base))
+            → ElementIs forms [] s base depth count (Err (Der base))
         spoilt-is h g = spend _ (2 * length s) λ fuel _.
             sym (element-spoilt forms fuel [] s base depth count tag skip size e shallow few (smaller-none _) h
             (subst (λ n. contents_good tag (take n (drop skip s)) ≡ false) (back skip size) g))
 
-        pub node-is : {set : Bool} {w : Walked} → is_set tag ≡ set → constructed (get_or s 0 0) ≡ true
+        pub node-is : {set : Bool} {w : Result ℕ Refusal} → is_set tag ≡ set → constructed (get_or s 0 0) ≡ true
             → ListIs forms set (take (skip + size - skip) (drop skip s)) (base + skip) (depth + 1) (count + 1) w
             → ElementIs forms [] s base depth count (filled (skip + size) w)
         node-is {set} {w} kind h f = spend _ (2 * length s) λ fuel enough.
@@ -86,10 +85,10 @@ module _ (forms : Forms) (prior s : List ℕ) (depth count : ℕ) where
   same_by f base zero = refl
   same_by f base (suc fuel) = f base fuel
 
-  pub stands-bad : heading_of forms s ≡ Bad → Stands forms prior s depth count
+  pub stands-bad : heading_of forms s ≡ None → Stands forms prior s depth count
   stands-bad e = same_by λ base fuel. element-bad forms fuel [] s base depth count e ∙ sym (element-bad forms fuel prior s base depth count e)
 
-  module _ {tag skip size : ℕ} (e : heading_of forms s ≡ Header tag skip size) where
+  module _ {tag skip size : ℕ} (e : heading_of forms s ≡ a_heading tag skip size) where
     pub stands-deep : forms.depth < depth → Stands forms prior s depth count
     stands-deep h = same_by λ base fuel.
         element-deep forms fuel [] s base depth count tag skip size e h ∙ sym (element-deep forms fuel prior s base depth count tag skip size e h)
@@ -127,7 +126,7 @@ module _ (forms : Forms) (set : Bool) (s : List ℕ) (base depth count : ℕ) wh
     abbrev member : List ℕ
     member = handed set (stretch s prior at)
 
-    go_on : (P : Walked → Type 0)
+    go_on : (P : Result ℕ Refusal → Type 0)
         → ((rest : ℕ) → 2 * (length s - at) + 1 ≤ rest → P (list_at (suc rest) forms set member (drop at s) (base + at) deep read))
         → (fuel : ℕ) → 2 * length s + 2 ≤ fuel → P (list_at fuel forms set [] s base depth count)
     go_on P g fuel enough = go (f fuel enough).0 (f fuel enough).1 (f fuel enough).2
@@ -138,10 +137,10 @@ module _ (forms : Forms) (set : Bool) (s : List ℕ) (base depth count : ℕ) wh
         go zero h e = absurd (omega arith)
         go (suc rest) h e = subst P (sym e) (g rest (omega arith))
 
-    pub left-none : length s ≤ at → ListIs forms set s base depth count (Passed read)
+    pub left-none : length s ≤ at → ListIs forms set s base depth count (Ok read)
     left-none h =
         let empty : length (drop at s) ≡ 0 = omega (arith, length-drop at s) in
-        go_on (λ w. Passed read ≡ w) λ rest enough. sym (list_done forms rest set member (drop at s) (base + at) deep read empty)
+        go_on (λ w. Ok read ≡ w) λ rest enough. sym (list_done forms rest set member (drop at s) (base + at) deep read empty)
 
     module _ (more : at < length s) where
       whole : take (length s - at) (drop at s) ≡ drop at s
@@ -150,16 +149,16 @@ module _ (forms : Forms) (set : Bool) (s : List ℕ) (base depth count : ℕ) wh
       some : length (drop at s) ≡ 0 → ⊥
       some e = omega (arith, length-drop at s)
 
-      element-left : {r : Read} → ElementIs forms member (take (length s - at) (drop at s)) (base + at) deep read r
+      element-left : {r : Result Read Refusal} → ElementIs forms member (take (length s - at) (drop at s)) (base + at) deep read r
           → (rest : ℕ) → 2 * (length s - at) + 1 ≤ rest → element_at rest forms member (drop at s) (base + at) deep read ≡ r
       element-left {r} g rest h = sym (subst (λ (l : List ℕ). ElementIs forms member l (base + at) deep read r) whole g rest (omega (arith, length-drop at s)))
 
-      pub left-fault : {refusal : Refusal} → ElementIs forms member (take (length s - at) (drop at s)) (base + at) deep read (Fault refusal)
-          → ListIs forms set s base depth count (Refused refusal)
-      left-fault {refusal} g = go_on (λ w. Refused refusal ≡ w) λ rest enough.
+      pub left-fault : {refusal : Refusal} → ElementIs forms member (take (length s - at) (drop at s)) (base + at) deep read (Err refusal)
+          → ListIs forms set s base depth count (Err refusal)
+      left-fault {refusal} g = go_on (λ w. Err refusal ≡ w) λ rest enough.
           sym (list-fault forms rest set member (drop at s) (base + at) deep read some refusal (element-left g rest enough))
 
-      module _ {used n : ℕ} (g : ElementIs forms member (take (length s - at) (drop at s)) (base + at) deep read (Past used n)) where
+      module _ {used n : ℕ} (g : ElementIs forms member (take (length s - at) (drop at s)) (base + at) deep read (a_read used n)) where
         pub read-within : (2 ≤ used) × (at + used ≤ length s) × (n ≤ forms.elements)
         read-within =
             let e = element-left g (2 * (length s - at) + 1) (omega arith) in

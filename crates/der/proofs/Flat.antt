@@ -1,4 +1,5 @@
 -- Elements with a length in the short form: leaves, lists of them, and the element that such a list fills.
+use Rattle.std.specs.Prelude.{Ok}
 use Prim.Native.Nat.{ℕ, ◌+◌, ◌-◌, ◌*◌, ◌≤◌, ◌<◌}
 use mathlib.Core.Path.{◌≡◌, refl, sym, subst, ◌∙◌}
 use mathlib.Core.Bool.{Bool, true, false}
@@ -7,8 +8,6 @@ use native.Mathlib.Omega.{arith}
 use borrow.Author.Tests.{eq-eqb}
 use lib.ListN.{length, get_or, take, drop}
 use lib.Seq.{get_or-take, get_or-drop}
-use Rattle.der.specs.declared.heading.Heading.TheVariants.{Header}
-use Rattle.der.specs.declared.walking.Walked.TheVariants.{Passed}
 use Rattle.der.specs.Forms.{Forms}
 use Rattle.der.specs.Heading.{identifier_good, heading_of, constructed}
 use Rattle.der.specs.Contents.{boolean_good, integer_good, bit_string_good, oid_good, contents_good}
@@ -19,6 +18,7 @@ use Rattle.der.proofs.Laws.{short-header}
 use Rattle.der.proofs.Bounds.{element-within}
 use Rattle.der.proofs.Enough.{ListIs, leaf-is, node-is}
 use Rattle.der.proofs.Parts.{part_length, part-drop, part-inner, passes_none, passes-more, passes-one}
+use Rattle.der.proofs.Payloads.{a_heading}
 
 module _ {tag : ℕ} {c : List ℕ} where
   pub leaf-boolean : tag ≡ 1 → boolean_good c ≡ true → Leaf tag c
@@ -56,11 +56,11 @@ module _ (forms : Forms) (s : List ℕ) (i e : ℕ) (two : i + 2 ≤ e) (inside 
 
   module _ {after : ℕ} (ends : after ≡ i + 2 + get_or s (i + 1) 0) (fits : after ≤ e) (short : get_or s (i + 1) 0 < 128)
       (known : identifier_good (get_or s i 0) ≡ true) where
-    heads : heading_of forms (stretch s i e) ≡ Header (get_or s i 0) 2 (get_or s (i + 1) 0)
+    heads : heading_of forms (stretch s i e) ≡ a_heading (get_or s i 0) 2 (get_or s (i + 1) 0)
     heads =
         let size : get_or (stretch s i e) 1 0 ≡ get_or s (i + 1) 0 = get_d_part s i e 1 (omega arith) in
-        subst (λ n. heading_of forms (stretch s i e) ≡ Header n 2 (get_or s (i + 1) 0)) front
-        (subst (λ n. heading_of forms (stretch s i e) ≡ Header (get_or (stretch s i e) 0 0) 2 n) size
+        subst (λ n. heading_of forms (stretch s i e) ≡ a_heading n 2 (get_or s (i + 1) 0)) front
+        (subst (λ n. heading_of forms (stretch s i e) ≡ a_heading (get_or (stretch s i e) 0 0) 2 n) size
         (short-header forms (stretch s i e) (omega (arith, long)) (rw front known) (rw size short) (rw size (omega (arith, long)))))
 
     same : stretch s (i + 2) after ≡ take (2 + get_or s (i + 1) 0 - 2) (drop 2 (stretch s i e))
@@ -79,7 +79,7 @@ module _ (forms : Forms) (s : List ℕ) (i e : ℕ) (two : i + 2 ≤ e) (inside 
       unfolding filled
       node-reads {set} {m} kind node f base =
           node-is forms (stretch s i e) base depth count heads shallow few kind (rw front node)
-          (subst (λ (l : List ℕ). ListIs forms set l (base + 2) (depth + 1) (count + 1) (Passed m)) same (f (base + 2)))
+          (subst (λ (l : List ℕ). ListIs forms set l (base + 2) (depth + 1) (count + 1) (Ok m)) same (f (base + 2)))
 
   -- one element more
   pub reads_on : (depth count r m n : ℕ) → Reads forms (stretch s i e) depth count (r - i) m → Fills forms false (stretch s r e) depth m n

@@ -1,4 +1,5 @@
 -- The length octets of the long forms as numbers: one octet, two octets, three octets; and what a length in the long form comes to.
+use Rattle.std.specs.Prelude.{None}
 use mathlib.Core.Path.{◌≡◌, refl, ◌∙◌}
 use mathlib.Core.List.{List}
 use Prim.Native.Nat.{ℕ, ◌+◌, ◌*◌, ◌<◌, ◌≤◌}
@@ -10,7 +11,6 @@ use Rattle.octets.specs.Octets.{number}
 use Rattle.octets.proofs.Weights.{number-next}
 use Rattle.der.specs.Heading.{within, smallest, long}
 use Rattle.der.specs.Forms.{Forms}
-use Rattle.der.specs.declared.heading.Heading.TheVariants.{Bad}
 
 module _ (s : List ℕ) (at : ℕ) where
   pub one-octet : at + 1 ≤ length s → number (take 1 (drop at s)) ≡ get_or s at 0
@@ -32,23 +32,23 @@ module _ (s : List ℕ) (at : ℕ) where
 
 module _ (forms : Forms) (s : List ℕ) (tag at k : ℕ) where
   -- no count of octets but those that the forms have
-  pub long-none : k ≡ 0 → Bad ≡ long forms s tag at k
+  pub long-none : k ≡ 0 → None ≡ long forms s tag at k
   unfolding long
   long-none e = rw e refl
 
-  pub long-many : forms.length_octets < k → Bad ≡ long forms s tag at k
+  pub long-many : forms.length_octets < k → None ≡ long forms s tag at k
   unfolding long
   long-many h =
       let some : 1 ≤ k = omega arith in
       simp (le-leb _ _ some, lt-leb _ _ h)
 
   module _ (some : 1 ≤ k) (told : k ≤ forms.length_octets) where
-    pub long-cut : length s < at + k → Bad ≡ long forms s tag at k
+    pub long-cut : length s < at + k → None ≡ long forms s tag at k
     unfolding long
     long-cut h = simp (le-leb _ _ some, le-leb _ _ told, lt-leb _ _ h)
 
     module _ (there : at + k ≤ length s) {n : ℕ} (e : number (take k (drop at s)) ≡ n) where
-      pub long-small : n < smallest k → Bad ≡ long forms s tag at k
+      pub long-small : n < smallest k → None ≡ long forms s tag at k
       unfolding long
       long-small h = simp (le-leb _ _ some, le-leb _ _ told, le-leb _ _ there, e, lt-leb _ _ h)
 

@@ -1,3 +1,4 @@
+pub mod Payloads
 pub mod Ascending
 pub mod Laws
 pub mod Bounds

@@ -7,18 +7,18 @@ use mathlib.Core.List.{List, [], ◌∷◌}
 use native.Mathlib.Omega.{arith}
 use lib.ListN.{length, take, drop, length-take, length-drop}
 use lib.Seq.{take-take, drop-drop}
-use Rattle.der.specs.declared.walking.Read.TheVariants.{Past}
 use Rattle.der.specs.Forms.{Forms}
 use Rattle.der.specs.Order.{handed}
 use Rattle.der.specs.Fast.{stretch, Fills}
 use Rattle.der.proofs.Laws.{list_done, list-more}
 use Rattle.der.proofs.Enough.{ElementIs}
+use Rattle.der.proofs.Payloads.{a_read}
 
 pub passes_none : (forms : Forms) (set : Bool) (s : List ℕ) (depth count : ℕ) → length s ≡ 0 → Fills forms set s depth count count
 passes_none forms set s depth count h base zero enough = absurd (omega arith)
 passes_none forms set s depth count h base (suc fuel) enough = sym (list_done forms fuel set [] s base depth count h)
 
-module _ (forms : Forms) (s : List ℕ) (depth count : ℕ) {used m : ℕ} (f : (base : ℕ) → ElementIs forms [] s base depth count (Past used m))
+module _ (forms : Forms) (s : List ℕ) (depth count : ℕ) {used m : ℕ} (f : (base : ℕ) → ElementIs forms [] s base depth count (a_read used m))
     (some : 0 < length s) where
   pub passes-more : {n : ℕ} → 2 ≤ used → used ≤ length s → Fills forms false (drop used s) depth m n → Fills forms false s depth count n
   unfolding handed

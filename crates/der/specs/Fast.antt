@@ -1,8 +1,6 @@
 -- What the fast paths of the walk promise, of a stretch of octets that they read without telling a fault. No public promise
 -- cites this.
-use Rattle.std.specs.Prelude.{ℕ, ◌+◌, ◌-◌, ◌*◌, ◌≤◌, Bool, true, false, List, [], ◌≡◌, length, get_or, take, drop}
-use Rattle.der.specs.declared.walking.Read.TheVariants.{Past}
-use Rattle.der.specs.declared.walking.Walked.TheVariants.{Passed}
+use Rattle.std.specs.Prelude.{ℕ, ◌+◌, ◌-◌, ◌*◌, ◌≤◌, Bool, true, false, List, [], ◌≡◌, length, get_or, take, drop, Ok}
 use Rattle.der.specs.Forms.{Forms}
 use Rattle.der.specs.Heading.{identifier_good, constructed}
 use Rattle.der.specs.Contents.{contents_good}
@@ -15,11 +13,11 @@ stretch s i e = take (e - i) (drop i s)
 
 -- the element at the front of s is read, and takes `used` octets
 abbrev pub Reads : Forms → List ℕ → ℕ → ℕ → ℕ → ℕ → Type 0
-Reads forms s depth count used m = (base fuel : ℕ) → 2 * length s + 1 ≤ fuel → Past used m ≡ element_at fuel forms [] s base depth count
+Reads forms s depth count used m = (base fuel : ℕ) → 2 * length s + 1 ≤ fuel → Ok (record { used = used; count = m }) ≡ element_at fuel forms [] s base depth count
 
 -- the elements that fill s are read, `set` where they are the members of a SET
 abbrev pub Fills : Forms → Bool → List ℕ → ℕ → ℕ → ℕ → Type 0
-Fills forms set s depth count m = (base fuel : ℕ) → 2 * length s + 2 ≤ fuel → Passed m ≡ list_at fuel forms set [] s base depth count
+Fills forms set s depth count m = (base fuel : ℕ) → 2 * length s + 2 ≤ fuel → Ok m ≡ list_at fuel forms set [] s base depth count
 
 -- the header of a SEQUENCE that ends at e
 pub record Last (s : List ℕ) (i e : ℕ) : Type 0 where

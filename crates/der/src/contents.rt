@@ -15,16 +15,11 @@ pub(crate) fn contents_good(tag: usize, c: &[u8]) -> bool
     }
 }
 
+#[tactic(auto, unfolding(crate::specs::Contents::boolean_good))]
 pub(crate) fn boolean_good(c: &[u8]) -> bool
     ensures { result ≡ boolean_good c.now }
 {
-    if c.len() != 1 {
-        return false;
-    }
-    if c[0] == 0 {
-        return true;
-    }
-    c[0] == 0xff
+    c.len() == 1 && (c[0] == 0 || c[0] == 0xff)
 }
 
 pub(crate) fn integer_good(c: &[u8]) -> bool
@@ -33,28 +28,20 @@ pub(crate) fn integer_good(c: &[u8]) -> bool
     if c.len() < 2 {
         return c.len() == 1;
     }
-    let first = c[0];
-    if 0 < first {
-        if first < 0xff {
-            return true;
-        }
+    match c[0] {
+        0 => 0x80 <= c[1],
+        0xff => c[1] < 0x80,
+        _ => true,
     }
-    if first < 0x80 {
-        return 0x80 <= c[1];
-    }
-    c[1] < 0x80
 }
 
 pub(crate) fn bit_string_good(c: &[u8]) -> bool
     ensures { result ≡ bit_string_good c.now }
 {
-    if c.len() == 0 {
+    if c.len() == 0 || 7 < c[0] {
         return false;
     }
     let unused = c[0];
-    if 7 < unused {
-        return false;
-    }
     if c.len() == 1 {
         return unused == 0;
     }
@@ -73,14 +60,10 @@ pub(crate) fn oid_good(c: &[u8]) -> bool
     if c[0] == 0x80 {
         return false;
     }
-    let mut i = 1;
-    while i < c.len() {
-        if c[i] == 0x80 {
-            if c[i - 1] < 0x80 {
-                return false;
-            }
+    for i in 1..c.len() {
+        if c[i] == 0x80 && c[i - 1] < 0x80 {
+            return false;
         }
-        i += 1;
     }
     c[c.len() - 1] < 0x80
 }
@@ -89,13 +72,7 @@ pub(crate) fn oid_good(c: &[u8]) -> bool
 fn three_low(c: &[u8]) -> bool
     ensures { result ≡ true → oid_good c.now ≡ true }
 {
-    if c.len() != 3 {
-        return false;
-    }
-    if 0x80 <= c[0] {
-        return false;
-    }
-    if 0x80 <= c[1] {
+    if c.len() != 3 || 0x80 <= c[0] || 0x80 <= c[1] {
         return false;
     }
     c[2] < 0x80

@@ -1,32 +1,30 @@
-// The identifier and length octets of an element. `digits` is the most octets that a length in the long form may have after its
-// first, `wide` tells whether a tag may have two octets: the same at every call of a walk.
+// The identifier and length octets of an element.
 ghost use Rattle.std.specs.Prelude.{◌≡◌, ◌+◌, ◌-◌, ◌≤◌, ◌<◌, length, get_or};
 ghost use Rattle.der.specs.Forms.{Forms};
-ghost use Rattle.der.specs.Heading.{identifier_good, within, long, sized, wide_heading, heading_of};
+ghost use Rattle.der.specs.Heading.{identifier_good, wide_good, within, long, smallest, sized, wide_heading, heading_of};
+ghost use Rattle.octets.specs.Octets.{number};
+
+use crate::limits::Limits;
 
 // The element at the front of some octets: its identifier, the octets of its header and of its contents.
 #[derive(Clone, Copy)]
-pub enum Heading {
-    Header {
-        tag: usize,
-        skip: usize,
-        size: usize,
-    },
-    Bad,
+pub struct Heading {
+    pub tag: usize,
+    pub skip: usize,
+    pub size: usize,
 }
 
-pub(crate) fn header(digits: usize, wide: bool, s: &[u8]) -> Heading
-    requires { digits ≤ 3 }
-    ensures { (forms : Forms) → forms.length_octets ≡ digits → forms.wide_tags ≡ wide → result ≡ heading_of forms s.now }
+pub(crate) fn header(limits: Limits, s: &[u8]) -> Option<Heading>
+    ensures { (forms : Forms) → forms.length_octets ≡ limits.digits → forms.wide_tags ≡ limits.wide → result ≡ heading_of forms s.now }
 {
     if s.len() < 2 {
-        return Heading::Bad;
+        return None;
     }
     let tag = s[0] as usize;
     if identifier(tag) {
-        return length_at(digits, s, tag, 1);
+        return length_at(limits, s, tag, 1);
     }
-    wide_tagged(digits, wide, s)
+    wide_tagged(limits, s)
 }
 
 // Bit n tells whether n is a good identifier of the universal class.
@@ -42,123 +40,84 @@ pub(crate) fn identifier(tag: usize) -> bool
 }
 
 // A tag of two octets.
-fn wide_tagged(digits: usize, wide: bool, s: &[u8]) -> Heading
-    requires { (digits ≤ 3) × (2 ≤ length s.now) }
-    ensures { (forms : Forms) → forms.length_octets ≡ digits → forms.wide_tags ≡ wide → result ≡ wide_heading forms s.now }
+fn wide_tagged(limits: Limits, s: &[u8]) -> Option<Heading>
+    requires { 2 ≤ length s.now }
+    ensures { (forms : Forms) → forms.length_octets ≡ limits.digits → forms.wide_tags ≡ limits.wide → result ≡ wide_heading forms s.now }
 {
-    if !wide {
-        return Heading::Bad;
-    }
     let first = s[0] as usize;
     let second = s[1] as usize;
-    if first % 32 != 31 {
-        return Heading::Bad;
+    if !limits.wide || !wide_good(first, second) || s.len() < 3 {
+        return None;
     }
-    if first == 63 {
-        return Heading::Bad;
-    }
-    if second < 31 {
-        return Heading::Bad;
-    }
-    if 127 < second {
-        return Heading::Bad;
-    }
-    if s.len() < 3 {
-        return Heading::Bad;
-    }
-    length_at(digits, s, first * 256 + second, 2)
+    length_at(limits, s, first * 256 + second, 2)
+}
+
+#[tactic(auto, unfolding(crate::specs::Heading::wide_good))]
+fn wide_good(first: usize, second: usize) -> bool
+    ensures { result ≡ wide_good first second }
+{
+    first % 32 == 31 && first != 63 && 31 <= second && second <= 127
 }
 
 // The header by its length octets, the first of them at `at`.
-fn length_at(digits: usize, s: &[u8], tag: usize, at: usize) -> Heading
-    requires { (digits ≤ 3) × (at ≤ 2) × (at < length s.now) }
-    ensures { (forms : Forms) → forms.length_octets ≡ digits → result ≡ sized forms s.now tag at }
+fn length_at(limits: Limits, s: &[u8], tag: usize, at: usize) -> Option<Heading>
+    requires { (at ≤ 2) × (at < length s.now) }
+    ensures { (forms : Forms) → forms.length_octets ≡ limits.digits → result ≡ sized forms s.now tag at }
 {
     let first = s[at] as usize;
     if first < 128 {
         return ending(s, tag, at + 1, first);
     }
-    long_length(digits, s, tag, at + 1, first)
+    long_length(limits, s, tag, at + 1, first)
 }
 
 // The header by a length in the long form: `first` is the first length octet, the others are from `at` on.
-fn long_length(digits: usize, s: &[u8], tag: usize, at: usize, first: usize) -> Heading
-    requires { (digits ≤ 3) × (at ≤ 3) × (at ≤ length s.now) × (128 ≤ first) }
-    ensures { (forms : Forms) → forms.length_octets ≡ digits → result ≡ long forms s.now tag at (first - 128) }
+fn long_length(limits: Limits, s: &[u8], tag: usize, at: usize, first: usize) -> Option<Heading>
+    requires { (at ≤ 3) × (at ≤ length s.now) × (128 ≤ first) }
+    ensures { (forms : Forms) → forms.length_octets ≡ limits.digits → result ≡ long forms s.now tag at (first - 128) }
 {
-    if first == 0x81 {
-        if digits < 1 {
-            return Heading::Bad;
-        }
-        return one_octet(s, tag, at);
+    let count = first - 128;
+    if count == 0 || limits.digits < count || s.len() < at + count {
+        return None;
     }
-    if first == 0x82 {
-        if digits < 2 {
-            return Heading::Bad;
-        }
-        return two_octets(s, tag, at);
+    let size = number(&s[at..at + count]);
+    if size < least(count) {
+        return None;
     }
-    if first == 0x83 {
-        if digits < 3 {
-            return Heading::Bad;
-        }
-        return three_octets(s, tag, at);
-    }
-    Heading::Bad
+    ending(s, tag, at + count, size)
 }
 
-// A length of 128 to 255.
-fn one_octet(s: &[u8], tag: usize, at: usize) -> Heading
-    requires { (at ≤ 3) × (at ≤ length s.now) }
-    ensures { (forms : Forms) → 1 ≤ forms.length_octets → result ≡ long forms s.now tag at 1 }
+// The number that at most three octets write.
+fn number(c: &[u8]) -> usize
+    requires { length c.now ≤ 3 }
+    ensures { result ≡ number c.now }
 {
-    if s.len() < at + 1 {
-        return Heading::Bad;
+    let mut n = 0;
+    for &octet in c {
+        n = n * 256 + octet as usize;
     }
-    let size = s[at] as usize;
-    if size < 128 {
-        return Heading::Bad;
-    }
-    ending(s, tag, at + 1, size)
+    n
 }
 
-// A length of 256 to 65,535.
-fn two_octets(s: &[u8], tag: usize, at: usize) -> Heading
-    requires { (at ≤ 3) × (at ≤ length s.now) }
-    ensures { (forms : Forms) → 2 ≤ forms.length_octets → result ≡ long forms s.now tag at 2 }
+// The smallest length that needs so many octets.
+fn least(count: usize) -> usize
+    requires { (1 ≤ count) × (count ≤ 3) }
+    ensures { result ≡ smallest count }
 {
-    if s.len() < at + 2 {
-        return Heading::Bad;
+    match count {
+        1 => 128,
+        2 => 256,
+        _ => 65536,
     }
-    let size = s[at] as usize * 256 + s[at + 1] as usize;
-    if size < 256 {
-        return Heading::Bad;
-    }
-    ending(s, tag, at + 2, size)
-}
-
-// A length of 65,536 to 16,777,215.
-fn three_octets(s: &[u8], tag: usize, at: usize) -> Heading
-    requires { (at ≤ 3) × (at ≤ length s.now) }
-    ensures { (forms : Forms) → 3 ≤ forms.length_octets → result ≡ long forms s.now tag at 3 }
-{
-    if s.len() < at + 3 {
-        return Heading::Bad;
-    }
-    let size = (s[at] as usize * 256 + s[at + 1] as usize) * 256 + s[at + 2] as usize;
-    if size < 65536 {
-        return Heading::Bad;
-    }
-    ending(s, tag, at + 3, size)
 }
 
 // The header, unless its contents end beyond the octets at hand.
-fn ending(s: &[u8], tag: usize, skip: usize, size: usize) -> Heading
+fn ending(s: &[u8], tag: usize, skip: usize, size: usize) -> Option<Heading>
     requires { skip ≤ length s.now }
     ensures { result ≡ within s.now tag skip size }
 {
     if size <= s.len() - skip {
-        return Heading::Header { tag, skip, size };
+        return Some(Heading { tag, skip, size });
     }
-    Heading::Bad
+    None
 }

@@ -4,6 +4,7 @@
 mod contents;
 mod fast;
 mod heading;
+mod limits;
 mod numbers;
 mod onward;
 mod order;
@@ -11,6 +12,6 @@ mod place;
 mod stepping;
 mod walking;
 
-pub use numbers::{Number, integer};
+pub use numbers::integer;
 pub use stepping::{Step, member};
-pub use walking::{Walked, walk};
+pub use walking::walk;

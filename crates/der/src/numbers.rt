@@ -5,32 +5,23 @@ ghost use Rattle.octets.specs.Octets.{twos};
 ghost use Rattle.der.specs.Integer.{integer_of};
 
 use crate::heading::{Heading, header};
-use crate::walking::{Walked, walk};
+use crate::limits::PAPER;
+use crate::walking::walk;
 use refusal::Refusal;
 
-#[derive(Clone, Copy)]
-pub enum Number {
-    Value(i64),
-    Refused(Refusal),
-}
-
-pub fn integer(item: &[u8]) -> Number
+pub fn integer(item: &[u8]) -> Result<i64, Refusal>
     ensures { result ≡ integer_of paper item.now }
 {
-    if let Walked::Refused(refusal) = walk(item) {
-        return Number::Refused(refusal);
-    }
-    let Heading::Header { tag, skip, size } = header(2, false, item) else {
-        return Number::Refused(Refusal::Argument);
-    };
+    walk(item)?;
+    let Heading { tag, skip, size } = header(PAPER, item).ok_or(Refusal::Argument)?;
     if tag != 2 {
-        return Number::Refused(Refusal::Argument);
+        return Err(Refusal::Argument);
     }
     if 8 < size {
-        return Number::Refused(Refusal::Wide);
+        return Err(Refusal::Wide);
     }
     let end = skip + size;
-    Number::Value(signed(&item[skip..end]))
+    Ok(signed(&item[skip..end]))
 }
 
 // The two's complement number of at most eight octets: `most` is the largest number that as many octets write.
@@ -44,11 +35,9 @@ fn signed(c: &[u8]) -> i64
     let first = c[0];
     let mut value: u64 = 0;
     let mut most: u64 = 0;
-    let mut i = 0;
-    while i < c.len() {
-        value = value * 256 + c[i] as u64;
+    for &octet in c {
+        value = value * 256 + octet as u64;
         most = most * 256 + 255;
-        i += 1;
     }
     if first < 128 {
         return value as i64;

@@ -7,168 +7,122 @@ ghost use Rattle.der.specs.Walk.{element_at, list_at, walk_of, counted};
 use crate::contents::contents_good;
 use crate::fast::fast_path;
 use crate::heading::{Heading, header};
+use crate::limits::{Limits, PAPER};
 use crate::onward::onward;
 use crate::order::fallen;
+use crate::place::Place;
 use refusal::Refusal;
-
-// The count of elements read, at most 4,096, or the first fault.
-#[derive(Clone, Copy)]
-pub enum Walked {
-    Passed { count: usize },
-    Refused(Refusal),
-}
 
 // An element that was read: the octets that it takes, and the count of elements after it.
 #[derive(Clone, Copy)]
-pub enum Read {
-    Past { used: usize, count: usize },
-    Fault(Refusal),
+pub struct Read {
+    pub used: usize,
+    pub count: usize,
 }
 
-pub fn walk(item: &[u8]) -> Walked
+pub fn walk(item: &[u8]) -> Result<usize, Refusal>
     ensures answer { result ≡ walk_of paper item.now }
     ensures limited { counted result ≤ 4096 }
 {
     if 16384 < item.len() {
-        return Walked::Refused(Refusal::Limit { at: 0 });
+        return Err(Refusal::Limit { at: 0 });
     }
-    match element(2, false, 4096, item, 0, 16, 0) {
-        Read::Fault(refusal) => Walked::Refused(refusal),
-        Read::Past { used, count } => {
-            if used == item.len() {
-                Walked::Passed { count }
-            } else {
-                Walked::Refused(Refusal::Der { at: used })
-            }
-        }
+    let start = Place {
+        at: 0,
+        left: 16,
+        count: 0,
+    };
+    let Read { used, count } = element(PAPER, item, start)?;
+    if used == item.len() {
+        Ok(count)
+    } else {
+        Err(Refusal::Der { at: used })
     }
 }
 
-// The element at the front of `s`, whose first octet is number `base` of the item. `left` levels of depth are left: at 0 no element
-// may stand here. `digits`, `wide` and `most`, the limit of elements, are the forms that the walk goes by, numbers and not a struct: the
-// compiler folds them where they are the same at every outer call.
+// The element at the front of `s`, which stands at `place` in the item: where no levels of depth are left, no element may.
 #[cycle(element_list_set_list)]
-fn element(
-    digits: usize,
-    wide: bool,
-    most: usize,
-    s: &[u8],
-    base: usize,
-    left: usize,
-    count: usize,
-) -> Read
-    requires { (digits ≤ 3) × (most < 2 ^ 32) × (base + length s.now < 2 ^ 32) × (count ≤ most) }
-    ensures { (forms : Forms) → Given digits wide most left forms → (fuel : ℕ) → 2 * length s.now + 1 ≤ fuel → result ≡ element_at fuel forms [] s.now base (forms.depth + 1 - left) count }
+fn element(limits: Limits, s: &[u8], place: Place) -> Result<Read, Refusal>
+    requires { (place.at + length s.now < 2 ^ 32) × (place.count ≤ limits.most) }
+    ensures { (forms : Forms) → Given limits place.left forms → (fuel : ℕ) → 2 * length s.now + 1 ≤ fuel
+        → result ≡ element_at fuel forms [] s.now place.at (forms.depth + 1 - place.left) place.count }
 {
-    let Heading::Header { tag, skip, size } = header(digits, wide, s) else {
-        return Read::Fault(Refusal::Der { at: base });
-    };
-    if left == 0 {
-        return Read::Fault(Refusal::Limit { at: base });
-    }
-    if most <= count {
-        return Read::Fault(Refusal::Limit { at: base });
+    let Place { at, left, count } = place;
+    let Heading { tag, skip, size } = header(limits, s).ok_or(Refusal::Der { at })?;
+    if left == 0 || limits.most <= count {
+        return Err(Refusal::Limit { at });
     }
     let end = skip + size;
     if s[0] / 32 % 2 == 1 {
-        return match list(
-            digits,
-            wide,
-            most,
-            tag == 49,
-            &s[skip..end],
-            base + skip,
-            left - 1,
-            count + 1,
-        ) {
-            Walked::Refused(refusal) => Read::Fault(refusal),
-            Walked::Passed { count } => Read::Past { used: end, count },
-        };
-    }
-    if contents_good(tag, &s[skip..end]) {
-        return Read::Past {
-            used: end,
+        let members = Place {
+            at: at + skip,
+            left: left - 1,
             count: count + 1,
         };
+        let count = list(limits, tag == 49, &s[skip..end], members)?;
+        return Ok(Read { used: end, count });
     }
-    Read::Fault(Refusal::Der { at: base })
+    if contents_good(tag, &s[skip..end]) {
+        let count = count + 1;
+        return Ok(Read { used: end, count });
+    }
+    Err(Refusal::Der { at })
 }
 
-// The elements that fill `s`, `set` where they are the members of a SET.
+// The elements that fill `s`, which starts at `start` in the item, `set` where they are the members of a SET.
 #[cycle(element_list_set_list)]
-fn list(
-    digits: usize,
-    wide: bool,
-    most: usize,
-    set: bool,
-    s: &[u8],
-    base: usize,
-    left: usize,
-    count: usize,
-) -> Walked
-    requires { (digits ≤ 3) × (most < 2 ^ 32) × (base + length s.now < 2 ^ 32) × (count ≤ most) }
-    ensures { (forms : Forms) → Given digits wide most left forms → (fuel : ℕ) → 2 * length s.now + 2 ≤ fuel → result ≡ list_at fuel forms set [] s.now base (forms.depth + 1 - left) count }
+fn list(limits: Limits, set: bool, s: &[u8], start: Place) -> Result<usize, Refusal>
+    requires { (start.at + length s.now < 2 ^ 32) × (start.count ≤ limits.most) }
+    ensures { (forms : Forms) → Given limits start.left forms → (fuel : ℕ) → 2 * length s.now + 2 ≤ fuel
+        → result ≡ list_at fuel forms set [] s.now start.at (forms.depth + 1 - start.left) start.count }
 {
     if set {
-        return set_list(digits, wide, most, s, base, left, count);
+        return set_list(limits, s, start);
     }
-    let mut at = 0;
-    let mut deep = left;
-    let mut read = count;
-    while at < s.len() {
-        let more = fast_path(s, at, deep, most, read);
-        if 0 < more {
-            at = at + 2 + s[at + 1] as usize;
-            read = more;
-            continue;
-        }
-        let on = onward(digits, wide, most, s, at, deep, read);
-        if 0 < on.at {
-            at = on.at;
-            deep = on.left;
-            read = on.count;
-            continue;
-        }
-        match element(digits, wide, most, &s[at..], base + at, deep, read) {
-            Read::Fault(refusal) => return Walked::Refused(refusal),
-            Read::Past { used, count } => {
-                at += used;
-                read = count;
-            }
+    let mut place = Place { at: 0, ..start };
+    while place.at < s.len() {
+        if let Some(read) = fast_path(s, limits.most, place) {
+            place.at += 2 + s[place.at + 1] as usize;
+            place.count = read;
+        } else if let Some(next) = onward(limits, s, place) {
+            place = next;
+        } else {
+            let next = Place {
+                at: start.at + place.at,
+                ..place
+            };
+            let Read { used, count } = element(limits, &s[place.at..], next)?;
+            place.at += used;
+            place.count = count;
         }
     }
-    Walked::Passed { count: read }
+    Ok(place.count)
 }
 
 // The members of a SET that fill `s`, each held against the one before it.
 #[cycle(element_list_set_list)]
-fn set_list(
-    digits: usize,
-    wide: bool,
-    most: usize,
-    s: &[u8],
-    base: usize,
-    left: usize,
-    count: usize,
-) -> Walked
-    requires { (digits ≤ 3) × (most < 2 ^ 32) × (base + length s.now < 2 ^ 32) × (count ≤ most) }
-    ensures { (forms : Forms) → Given digits wide most left forms → (fuel : ℕ) → 2 * length s.now + 2 ≤ fuel → result ≡ list_at fuel forms true [] s.now base (forms.depth + 1 - left) count }
+fn set_list(limits: Limits, s: &[u8], start: Place) -> Result<usize, Refusal>
+    requires { (start.at + length s.now < 2 ^ 32) × (start.count ≤ limits.most) }
+    ensures { (forms : Forms) → Given limits start.left forms → (fuel : ℕ) → 2 * length s.now + 2 ≤ fuel
+        → result ≡ list_at fuel forms true [] s.now start.at (forms.depth + 1 - start.left) start.count }
 {
+    let left = start.left;
     let mut prior = 0;
     let mut at = 0;
-    let mut read = count;
+    let mut read = start.count;
     while s.len() > at {
-        if fallen(digits, wide, most, s, prior, at, left, read) {
-            return Walked::Refused(Refusal::Der { at: base + at });
+        if fallen(limits, &s[prior..at], &s[at..], left, read) {
+            return Err(Refusal::Der { at: start.at + at });
         }
-        match element(digits, wide, most, &s[at..], base + at, left, read) {
-            Read::Fault(refusal) => return Walked::Refused(refusal),
-            Read::Past { used, count } => {
-                prior = at;
-                at += used;
-                read = count;
-            }
-        }
+        let member = Place {
+            at: start.at + at,
+            left,
+            count: read,
+        };
+        let Read { used, count } = element(limits, &s[at..], member)?;
+        prior = at;
+        at += used;
+        read = count;
     }
-    Walked::Passed { count: read }
+    Ok(read)
 }

@@ -1,3 +1,4 @@
+pub mod Payloads
 pub mod Members
 pub mod Enclosed
 pub mod Shorts

@@ -1,4 +1,5 @@
 -- The tag of an element is its first octet: where that is another, no element with the tag is found.
+use Rattle.std.specs.Prelude.{Option, Some, None}
 use Prim.Native.Nat.{ℕ, ◌+◌, ◌-◌, ◌≤◌}
 use mathlib.Core.Path.{◌≡◌, refl, sym, ap, ◌∙◌}
 use mathlib.Core.Bool.{◌&&◌}
@@ -9,19 +10,17 @@ use lib.Dec.{leb, ltb}
 use lib.ListN.{length, get_or, take, drop, length-drop}
 use lib.Seq.{length-take-le, get_or-take, get_or-drop}
 use Rattle.der.specs.declared.heading.Heading.{Heading}
-use Rattle.der.specs.declared.heading.Heading.TheVariants.{Header, Bad}
 use Rattle.der.specs.declared.stepping.Step.{Step}
 use Rattle.der.specs.Forms.{paper}
 use Rattle.der.specs.Heading.{identifier_good, within, long, smallest, sized, wide_heading, heading_of}
 use Rattle.octets.specs.Octets.{number}
 use Rattle.der.specs.Member.{placed, member_of}
 use Rattle.der.proofs.Bounds.{cond-by, heading-within}
-use Rattle.elements.specs.declared.elements.Found.TheVariants.{Missing}
 use Rattle.elements.specs.Elements.{stepped, found_at, with_tag}
 
-unfoldable Tagged : ℕ → Heading → Type 0
-Tagged first (Header tag skip size) = tag ≡ first
-Tagged first Bad = first ≡ first
+unfoldable Tagged : ℕ → Option Heading → Type 0
+Tagged first (Some h) = h.tag ≡ first
+Tagged first None = first ≡ first
 
 within-tagged : (s : List ℕ) (tag skip size : ℕ) → Tagged tag (within s tag skip size)
 unfolding within Tagged
@@ -36,7 +35,7 @@ sized-tagged s tag at =
     (λ e. cond-by Is (leb (smallest k) n) (λ d. within-tagged s tag (at + 1 + k) n) (λ d. refl))
     (λ e. refl)))
   where
-    Is : Heading → Type 0
+    Is : Option Heading → Type 0
     Is = Tagged tag
 
     k : ℕ
@@ -52,27 +51,27 @@ heading-tagged s =
     cond-by Is (ltb (length s) 2) (λ h. refl)
     (λ h. cond-by Is (identifier_good (get_or s 0 0)) (λ g. sized-tagged s (get_or s 0 0) 1) (λ g. refl))
   where
-    Is : Heading → Type 0
+    Is : Option Heading → Type 0
     Is = Tagged (get_or s 0 0)
 
-pub found-other : (s : List ℕ) (from end tag : ℕ) → (get_or s from 0 ≡ tag → ⊥) → with_tag tag (found_at paper s from end) ≡ Missing
+pub found-other : (s : List ℕ) (from end tag : ℕ) → (get_or s from 0 ≡ tag → ⊥) → with_tag tag (found_at paper s from end) ≡ None
 unfolding found_at stepped member_of placed with_tag Tagged
 found-other s from end tag other =
     cond-by Lost (leb from end)
     (λ h. cond-by Lost (leb end (length s)) (λ g. go (leb-true _ _ h) (leb-true _ _ g) (heading_of paper part) refl (heading-tagged part)) (λ g. refl))
     (λ h. refl)
   where
-    Lost : Step → Type 0
-    Lost step = with_tag tag (stepped from step) ≡ Missing
+    Lost : Option Step → Type 0
+    Lost step = with_tag tag (stepped from step) ≡ None
 
     part : List ℕ
     part = take (end - from) (drop from s)
 
-    go : from ≤ end → end ≤ length s → (heading : Heading) → heading_of paper part ≡ heading → Tagged (get_or part 0 0) heading → Lost (placed from heading)
-    go h g Bad e t = refl
-    go h g (Header found skip size) e is =
+    go : from ≤ end → end ≤ length s → (heading : Option Heading) → heading_of paper part ≡ heading → Tagged (get_or part 0 0) heading → Lost (placed from heading)
+    go h g None e t = refl
+    go h g (Some h1) e is =
         let long : length part ≡ end - from = length-take-le _ _ (rw length-drop (omega arith)) in
-        let inside : (2 ≤ skip) × (skip + size ≤ length part) = heading-within paper part found skip size e in
+        let inside : (2 ≤ h1.skip) × (h1.skip + h1.size ≤ length part) = heading-within paper part h1.tag h1.skip h1.size e in
         let zero : from + 0 ≡ from = omega arith in
         let first : get_or part 0 0 ≡ get_or s from 0 = get_or-take (end - from) (drop from s) 0 0 (omega (arith, long, inside)) ∙ get_or-drop from s 0 0 ∙ ap (λ (n : ℕ). get_or s n 0) zero in
         rw (ne_eqb _ _ (λ q. other (sym first ∙ (sym is ∙ q))))

@@ -1,33 +1,30 @@
 -- The elements that stand in a stretch of a walked item, from one offset to another.
-use Rattle.std.specs.Prelude.{ℕ, zero, suc, ◌-◌, cond, List, [], ◌∷◌, eqb, length, take, drop}
+use Rattle.std.specs.Prelude.{ℕ, zero, suc, ◌-◌, cond, List, [], ◌∷◌, eqb, length, take, drop, Option, Some, None}
 use Rattle.der.specs.declared.stepping.Step.{Step}
-use Rattle.der.specs.declared.stepping.Step.TheVariants.{At, Nothing}
 use Rattle.der.specs.Forms.{Forms}
 use Rattle.der.specs.Member.{member_of}
 use Rattle.elements.specs.declared.elements.Element.{Element}
-use Rattle.elements.specs.declared.elements.Found.{Found}
-use Rattle.elements.specs.declared.elements.Found.TheVariants.{One, Missing}
 
-unfoldable pub stepped : ℕ → Step → Found
-stepped from (At tag contents end) = One (record { tag = tag; at = from; contents = contents; end = end })
-stepped from Nothing = Missing
+unfoldable pub stepped : ℕ → Option Step → Option Element
+stepped from (Some m) = Some (record { tag = m.tag; at = from; contents = m.contents; end = m.end })
+stepped from None = None
 
 -- the element that starts at `from`, before `end`
-unfoldable pub found_at : Forms → List ℕ → ℕ → ℕ → Found
+unfoldable pub found_at : Forms → List ℕ → ℕ → ℕ → Option Element
 found_at forms s from end = stepped from (member_of forms s from end)
 
-unfoldable pub with_tag : ℕ → Found → Found
-with_tag tag (One e) = cond (eqb e.tag tag) (One e) Missing
-with_tag tag Missing = Missing
+unfoldable pub with_tag : ℕ → Option Element → Option Element
+with_tag tag (Some e) = cond (eqb e.tag tag) (Some e) None
+with_tag tag None = None
 
 -- the same, if it has the tag
-unfoldable pub found_tagged : Forms → List ℕ → ℕ → ℕ → ℕ → Found
+unfoldable pub found_tagged : Forms → List ℕ → ℕ → ℕ → ℕ → Option Element
 found_tagged forms s from end tag = with_tag tag (found_at forms s from end)
 
 -- what is to be said where an element is missing, and of one that is there
-unfoldable pub on_found : {A : Type 0} → Found → A → (Element → A) → A
-on_found Missing missing next = missing
-on_found (One e) missing next = next e
+unfoldable pub on_found : {A : Type 0} → Option Element → A → (Element → A) → A
+on_found None missing next = missing
+on_found (Some e) missing next = next e
 
 unfoldable pub members_in : Forms → ℕ → List ℕ → ℕ → ℕ → List Element
 members_in forms zero s from end = []

@@ -18,81 +18,55 @@ pub struct Element {
     pub end: usize,
 }
 
-#[derive(Clone, Copy)]
-pub enum Found {
-    One(Element),
-    Missing,
-}
-
 // The element that starts at `from`, before `end`.
-pub fn element_at(item: &[u8], from: usize, end: usize) -> Found
+pub fn element_at(item: &[u8], from: usize, end: usize) -> Option<Element>
     ensures { result ≡ found_at paper item.now from end }
 {
-    match member(item, from, end) {
-        Step::At { tag, contents, end } => Found::One(Element {
-            tag,
-            at: from,
-            contents,
-            end,
-        }),
-        Step::Nothing => Found::Missing,
-    }
+    let Step { tag, contents, end } = member(item, from, end)?;
+    Some(Element {
+        tag,
+        at: from,
+        contents,
+        end,
+    })
 }
 
 // The same, if it has the tag. Most headers are short: the fast path.
-pub fn element_tagged(item: &[u8], from: usize, end: usize, tag: usize) -> Found
+pub fn element_tagged(item: &[u8], from: usize, end: usize, tag: usize) -> Option<Element>
     ensures { result ≡ found_tagged paper item.now from end tag }
 {
-    let next = short_end(item, from, end, tag);
-    if 0 < next {
-        if usual(tag) {
-            return Found::One(Element {
-                tag,
-                at: from,
-                contents: from + 2,
-                end: next,
-            });
-        }
+    match short_end(item, from, end, tag) {
+        Some(next) if usual(tag) => Some(Element {
+            tag,
+            at: from,
+            contents: from + 2,
+            end: next,
+        }),
+        _ => any_tagged(item, from, end, tag),
     }
-    any_tagged(item, from, end, tag)
 }
 
 // Tags that the profiles ask for; each is a good identifier.
+#[tactic(auto, using(std::proofs::lemmas::Bool::Decides::nat_tests), unfolding(der::specs::Heading::identifier_good))]
 fn usual(tag: usize) -> bool
     ensures { result ≡ true → identifier_good tag ≡ true }
 {
-    match tag {
-        0x02 => true,
-        0x03 => true,
-        0x04 => true,
-        0x06 => true,
-        0x17 => true,
-        0x30 => true,
-        0x31 => true,
-        0x80 => true,
-        0xa0 => true,
-        0xa3 => true,
-        _ => false,
-    }
+    matches!(
+        tag,
+        0x02 | 0x03 | 0x04 | 0x06 | 0x17 | 0x30 | 0x31 | 0x80 | 0xa0 | 0xa3
+    )
 }
 
 // The same with a header of any kind, which is not read where the first octet is another. It costs less than the fast path and then
 // this, so it is asked for what mostly has a long header.
-pub fn any_tagged(item: &[u8], from: usize, end: usize, tag: usize) -> Found
+pub fn any_tagged(item: &[u8], from: usize, end: usize, tag: usize) -> Option<Element>
     ensures { result ≡ found_tagged paper item.now from end tag }
 {
-    if from < item.len() {
-        if item[from] as usize != tag {
-            return Found::Missing;
-        }
+    if from < item.len() && item[from] as usize != tag {
+        return None;
     }
-    let Found::One(e) = element_at(item, from, end) else {
-        return Found::Missing;
-    };
-    if e.tag == tag {
-        return Found::One(e);
-    }
-    Found::Missing
+    let e = element_at(item, from, end)?;
+    (e.tag == tag).then_some(e)
 }
 
 // The octets of an element, its header among them.

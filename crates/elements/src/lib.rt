@@ -6,9 +6,7 @@ mod envelopes;
 mod short;
 mod steps;
 
-pub use elements::{
-    Element, Found, any_tagged, contents, element_at, element_tagged, holds, twins,
-};
+pub use elements::{Element, any_tagged, contents, element_at, element_tagged, holds, twins};
 pub use envelopes::{Envelope, envelope_of};
-pub use short::short_end;
+pub use short::{fills, short_end};
 pub use steps::{only_member, past};

@@ -1,30 +1,29 @@
 // Elements with a header of two octets, found without reading more.
-ghost use Rattle.std.specs.Prelude.{◌≡◌};
+ghost use Rattle.std.specs.Prelude.{◌≡◌, true, Some};
 ghost use Rattle.elements.specs.Short.{short_end};
 
-// Where the element at `from` ends, before `end`, if it has the tag and a length in the short form; else 0.
-pub fn short_end(item: &[u8], from: usize, end: usize, tag: usize) -> usize
+// Where the element at `from` ends, before `end`, if it has the tag and a length in the short form.
+pub fn short_end(item: &[u8], from: usize, end: usize, tag: usize) -> Option<usize>
     ensures { result ≡ short_end item.now from end tag }
 {
-    if item.len() < end {
-        return 0;
-    }
-    if end <= from {
-        return 0;
-    }
-    let left = end - from;
-    if left < 2 {
-        return 0;
-    }
-    if item[from] as usize != tag {
-        return 0;
+    let left = end.saturating_sub(from);
+    if item.len() < end || left < 2 || item[from] as usize != tag {
+        return None;
     }
     let size = item[from + 1] as usize;
-    if 128 <= size {
-        return 0;
+    if 128 <= size || left - 2 < size {
+        return None;
     }
-    if left - 2 < size {
-        return 0;
+    Some(from + 2 + size)
+}
+
+// Whether that element ends at `end`.
+pub fn fills(item: &[u8], from: usize, end: usize, tag: usize) -> bool
+    ensures whole { result ≡ true → short_end item.now from end tag ≡ Some end }
+    ensures only { short_end item.now from end tag ≡ Some end → result ≡ true }
+{
+    match short_end(item, from, end, tag) {
+        Some(last) => last == end,
+        None => false,
     }
-    from + 2 + size
 }

@@ -1,3 +1,4 @@
+pub mod Payloads
 pub mod Oids
 pub mod Places
 pub mod Slots

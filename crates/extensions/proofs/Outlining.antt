@@ -1,4 +1,5 @@
 -- What a pass over extensions knows of their shape and of those that are critical, where the extensions from `at` on are left.
+use Rattle.std.specs.Prelude.{Some, None}
 use mathlib.Core.Path.{◌≡◌, refl, sym, subst, ◌∙◌}
 use mathlib.Core.Bool.{Bool, true, false, cond, ◌&&◌, ◌||◌}
 use mathlib.Core.List.{List}
@@ -6,7 +7,6 @@ use Prim.Native.Nat.{ℕ}
 use lib.Dec.{eqb}
 use Rattle.der.specs.Forms.{paper}
 use Rattle.elements.specs.declared.elements.Element.{Element}
-use Rattle.elements.specs.declared.elements.Found.TheVariants.{One, Missing}
 use Rattle.elements.specs.Elements.{found_at, members_of, inside}
 use Rattle.elements.proofs.Members.{members-none, members-more}
 use Rattle.extensions.specs.Fast.{Plain}
@@ -40,7 +40,7 @@ module _ (s : List ℕ) (x : Element) where
   mark-start allow = record { is = refl }
 
 module _ {s : List ℕ} {x : Element} {at : ℕ} where
-  module _ (f : found_at paper s at x.end ≡ Missing) where
+  module _ (f : found_at paper s at x.end ≡ None) where
     pub shape-end : {shaped : Bool} → Shaping s x shaped at → shaped ≡ extensions_shaped paper s x
     unfolding all_shaped
     shape-end {shaped} p = sym (p.is ∙ rw (members-none s at x.end f) (and-true shaped))
@@ -49,7 +49,7 @@ module _ {s : List ℕ} {x : Element} {at : ℕ} where
     unfolding some_critical
     mark-end {allow} {flag} p = sym (p.is ∙ rw (members-none s at x.end f) (or-false flag))
 
-  module _ {e : Element} {next : ℕ} (f : found_at paper s at x.end ≡ One e) (ends : next ≡ e.end) where
+  module _ {e : Element} {next : ℕ} (f : found_at paper s at x.end ≡ Some e) (ends : next ≡ e.end) where
     pub shape_on : {shaped there : Bool} → Shaping s x shaped at → there ≡ present (extension_of paper s e) → Shaping s x (shaped && there) next
     unfolding all_shaped
     shape_on {shaped} {there} p h =

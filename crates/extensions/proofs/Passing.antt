@@ -1,4 +1,5 @@
 -- What the pass knows where the extensions from `at` on are left.
+use Rattle.std.specs.Prelude.{Option, Some, None}
 use mathlib.Core.Path.{◌≡◌, refl, sym, ap, ◌∙◌}
 use mathlib.Core.Bool.{Bool, true, false, ◌&&◌, ◌||◌, not}
 use mathlib.Core.List.{List}
@@ -9,9 +10,8 @@ use lib.Dec.{eqb}
 use lib.ListN.{get_or, set, replicate}
 use Rattle.der.specs.Forms.{paper}
 use Rattle.elements.specs.declared.elements.Element.{Element}
-use Rattle.elements.specs.declared.elements.Found.TheVariants.{One, Missing}
 use Rattle.extensions.specs.declared.Extension.{Extension}
-use Rattle.extensions.specs.declared.Extension.TheVariants.{Is, Absent}
+use Rattle.std.specs.Option.{is_some}
 use Rattle.extensions.specs.declared.Held.{Held}
 use Rattle.elements.specs.Elements.{found_at, inside}
 use Rattle.extensions.specs.Extensions.{extension_of, present, extensions_shaped, doubled_of, refused_critical, critical_of, oid_of, held_of, lookup_of, Slotted, Placed}
@@ -20,7 +20,7 @@ use Rattle.extensions.proofs.Outlining.{Shaping, Marking, shape-start, mark-star
 use Rattle.extensions.proofs.Slots.{has_there, held-there, Open, open-start, open_none, open-set, open-left}
 use Rattle.extensions.proofs.Strangers.{Apart, apart-start, apart_none, apart-few, apart-again, apart-new, apart-stranger, apart-absent}
 
-pub record Far (s : List ℕ) (x : Element) (shaped marked critical twice unsure : Bool) (slots : List Held) (marks : List Bool) (at : ℕ) : Type 0 where
+pub record Far (s : List ℕ) (x : Element) (shaped marked critical twice unsure : Bool) (slots : List (Option Held)) (marks : List Bool) (at : ℕ) : Type 0 where
   pub shape : Shaping s x shaped at
   pub mild : Marking s x false marked at
   pub harsh : Marking s x true critical at
@@ -29,7 +29,7 @@ pub record Far (s : List ℕ) (x : Element) (shaped marked critical twice unsure
 
 pub far-start :
     (s : List ℕ) (x : Element)
-    → Far s x (eqb x.tag 0x30) false false false false (replicate 23 (held_of Absent)) (replicate 64 false) x.contents
+    → Far s x (eqb x.tag 0x30) false false false false (replicate 23 (held_of None)) (replicate 64 false) x.contents
 far-start s x =
     record {
       shape = shape-start s x;
@@ -40,9 +40,9 @@ far-start s x =
     }
 
 module _
-    {s : List ℕ} {x : Element} {shaped marked critical twice unsure : Bool} {slots : List Held} {marks : List Bool} {at : ℕ}
+    {s : List ℕ} {x : Element} {shaped marked critical twice unsure : Bool} {slots : List (Option Held)} {marks : List Bool} {at : ℕ}
     (p : Far s x shaped marked critical twice unsure slots marks at) where
-  module _ (f : found_at paper s at x.end ≡ Missing) where
+  module _ (f : found_at paper s at x.end ≡ None) where
     pub end-shape : shaped ≡ extensions_shaped paper s x
     end-shape = shape-end f p.shape
 
@@ -69,12 +69,12 @@ module _
     unfolding doubled_of inside
     end-twice t = t ∙ sym (p.apart.told t)
 
-  module _ {e : Element} {slot next : ℕ} {mark told : Bool} (f : found_at paper s at x.end ≡ One e) (ends : next ≡ e.end) (h : Slotted s (extension_of paper s e) slot) (m : mark ≡ refused_critical s false (extension_of paper s e)) (u : told ≡ refused_critical s true (extension_of paper s e)) where
-    abbrev Next : Bool → Bool → List Held → List Bool → Type 0
+  module _ {e : Element} {slot next : ℕ} {mark told : Bool} (f : found_at paper s at x.end ≡ Some e) (ends : next ≡ e.end) (h : Slotted s (extension_of paper s e) slot) (m : mark ≡ refused_critical s false (extension_of paper s e)) (u : told ≡ refused_critical s true (extension_of paper s e)) where
+    abbrev Next : Bool → Bool → List (Option Held) → List Bool → Type 0
     Next twice unsure slots marks = Far s x (shaped && not (eqb slot 24)) (marked || mark) (critical || told) twice unsure slots marks next
 
     far-next :
-        {after : List Held} {noted : List Bool} {doubled doubt : Bool} → Open s x.contents x.end after e.end
+        {after : List (Option Held)} {noted : List Bool} {doubled doubt : Bool} → Open s x.contents x.end after e.end
         → Apart s x.contents x.end after doubled doubt noted e.end → Next doubled doubt after noted
     far-next o a =
         record {
@@ -86,14 +86,14 @@ module _
         }
 
     pub far-new :
-        {held : Held} → held ≡ held_of (extension_of paper s e) → slot < 23 → (get_or slots slot (held_of Absent)).there ≡ false
+        {held : Option Held} → held ≡ held_of (extension_of paper s e) → slot < 23 → is_some (get_or slots slot (held_of None)) ≡ false
         → Next twice unsure (set slots slot held) marks
     far-new {held} new l g = far-next (open-set p.table f h new l g) (apart-new p.apart f h l held there p.table.long g)
       where
-        there : held.there ≡ true
-        there = ap (λ (f : Held). f.there) new ∙ held-there (extension_of paper s e) (has_there s (oid_of slot) (extension_of paper s e) (sym (h.each slot l) ∙ eq-eqb slot slot refl))
+        there : is_some held ≡ true
+        there = ap (λ (f : Option Held). is_some f) new ∙ held-there (extension_of paper s e) (has_there s (oid_of slot) (extension_of paper s e) (sym (h.each slot l) ∙ eq-eqb slot slot refl))
 
-    pub far-again : slot < 23 → (get_or slots slot (held_of Absent)).there ≡ true → Next true unsure slots marks
+    pub far-again : slot < 23 → is_some (get_or slots slot (held_of None)) ≡ true → Next true unsure slots marks
     far-again l n = far-next (open-left p.table f h (λ r. n)) (apart-again p.apart f h l n)
 
     pub far-stranger :
@@ -107,6 +107,6 @@ module _
         far-next (open-left p.table f h (λ r. absurd (omega arith)))
         (apart-absent p.apart f h (omega arith) (absent (extension_of paper s e) (h.there ∙ rw (eq-eqb slot 24 q))))
       where
-        absent : (y : Extension) → present y ≡ false → y ≡ Absent
-        absent Absent z = refl
-        absent (Is oid critical value) z = cc
+        absent : (y : Option Extension) → present y ≡ false → y ≡ None
+        absent None z = refl
+        absent (Some x) z = cc

@@ -1,4 +1,5 @@
 -- The slots of OIDs, and the table of them: what a vacant slot will hold is among the extensions left.
+use Rattle.std.specs.Prelude.{Option, Some, None}
 use mathlib.Core.Path.{◌≡◌, refl, sym, ap, ◌∙◌}
 use mathlib.Core.Bool.{Bool, true, false, cond, ◌&&◌, ◌||◌, not}
 use mathlib.Core.List.{List, [], ◌∷◌}
@@ -10,15 +11,15 @@ use lib.ListN.{length, get_or, set, replicate, get_or-replicate, length-set}
 use lib.Seq.{get_or-set_same, get_or-set_other}
 use Rattle.der.specs.Forms.{paper}
 use Rattle.elements.specs.declared.elements.Element.{Element}
-use Rattle.elements.specs.declared.elements.Found.TheVariants.{One, Missing}
 use Rattle.extensions.specs.declared.Extension.{Extension}
-use Rattle.extensions.specs.declared.Extension.TheVariants.{Is, Absent}
+use Rattle.std.specs.Option.{is_some}
 use Rattle.extensions.specs.declared.Held.{Held}
 use Rattle.octets.specs.Alike.{alike}
 use Rattle.elements.specs.Elements.{found_at, members_of}
 use Rattle.octets.proofs.Likeness.{alike_is, is-alike, unequal-unlike}
 use Rattle.elements.proofs.Members.{members-none, members-more}
 use Rattle.extensions.specs.Extensions.{extension_of, present, has_oid, first_with, oid_of, held_of, usual, refused_critical, Slotted}
+use Rattle.extensions.proofs.Payloads.{an_extension}
 
 -- a test of two numbers is any other that says the same
 same_test : (m n : ℕ) (x : Bool) → (m ≡ n → x ≡ true) → (x ≡ true → m ≡ n) → eqb m n ≡ x
@@ -81,70 +82,75 @@ module _ (c : List ℕ) (k : ℕ) (l : k < 23) where
       (λ m f. let z : true ≡ false = sym (is-alike _ _ f) ∙ h in let y : ◌≡◌ {A = ℕ} 0 1 = cc in absurd (omega arith))
 
 -- whether an extension is critical that may not be, by its slot
-module _ {s : List ℕ} {oid value : Element} {critical : Bool} {slot : ℕ} (h : Slotted s (Is oid critical value) slot) where
-  pub harsh-slot : refused_critical s true (Is oid critical value) ≡ (critical && not (eqb slot 1 || eqb slot 5))
+module _ {s : List ℕ} {oid value : Element} {critical : Bool} {slot : ℕ} (h : Slotted s (an_extension oid critical value) slot) where
+  pub harsh-slot : refused_critical s true (an_extension oid critical value) ≡ (critical && not (eqb slot 1 || eqb slot 5))
   unfolding refused_critical usual has_oid oid_of
   harsh-slot = rw (← h.each 1 (omega arith), ← h.each 5 (omega arith))
 
 -- A slot while the extensions from some offset on are left: it is vacant, and the first of all is the first of those, or it
 -- holds the first of all.
-pub data Slot (all rest : Extension) (held : Held) : Type 0 where
-  vacant : held ≡ held_of Absent → all ≡ rest → Slot all rest held
+pub data Slot (all rest : Option Extension) (held : Option Held) : Type 0 where
+  vacant : held ≡ held_of None → all ≡ rest → Slot all rest held
   taken : held ≡ held_of all → present all ≡ true → Slot all rest held
 
-module _ {all rest : Extension} {held : Held} where
-  slot-moved : {next : Extension} → rest ≡ next → Slot all rest held → Slot all next held
+module _ {all rest : Option Extension} {held : Option Held} where
+  slot-moved : {next : Option Extension} → rest ≡ next → Slot all rest held → Slot all next held
   slot-moved q (vacant h e) = vacant h (e ∙ q)
   slot-moved q (taken h e) = taken h e
 
-  slot-end : rest ≡ Absent → Slot all rest held → held ≡ held_of all
+  slot-end : rest ≡ None → Slot all rest held → held ≡ held_of all
   slot-end q (vacant h e) = h ∙ ap held_of (sym (e ∙ q))
   slot-end q (taken h e) = h
 
-  slot-free : held.there ≡ false → Slot all rest held → all ≡ rest
+  slot-free : is_some held ≡ false → Slot all rest held → all ≡ rest
   unfolding held_of present
   slot-free n (vacant h e) = e
   slot-free n (taken h e) = absurd (go all h e)
     where
-      go : (x : Extension) → held ≡ held_of x → present x ≡ true → ⊥
-      go Absent p q = let z : ◌≡◌ {A = ℕ} 0 1 = cc in omega arith
-      go (Is oid critical value) p q = let z : true ≡ false = sym (ap (λ (f : Held). f.there) p) ∙ n in let y : ◌≡◌ {A = ℕ} 0 1 = cc in omega arith
+      go : (x : Option Extension) → held ≡ held_of x → present x ≡ true → ⊥
+      go None p q = let z : ◌≡◌ {A = ℕ} 0 1 = cc in omega arith
+      go (Some x) p q = let z : true ≡ false = sym (ap (λ (f : Option Held). is_some f) p) ∙ n in let y : ◌≡◌ {A = ℕ} 0 1 = cc in omega arith
 
-  slot-full : {next : Extension} → held.there ≡ true → Slot all rest held → Slot all next held
+  slot-full : {next : Option Extension} → is_some held ≡ true → Slot all rest held → Slot all next held
   unfolding held_of
-  slot-full n (vacant h e) = let z : true ≡ false = sym n ∙ ap (λ (f : Held). f.there) h in let y : ◌≡◌ {A = ℕ} 0 1 = cc in absurd (omega arith)
+  slot-full n (vacant h e) = let z : true ≡ false = sym n ∙ ap (λ (f : Option Held). is_some f) h in let y : ◌≡◌ {A = ℕ} 0 1 = cc in absurd (omega arith)
   slot-full n (taken h e) = taken h e
 
 -- the table while the extensions from `at` on are left
-pub record Open (s : List ℕ) (from end : ℕ) (slots : List Held) (at : ℕ) : Type 0 where
+pub record Open (s : List ℕ) (from end : ℕ) (slots : List (Option Held)) (at : ℕ) : Type 0 where
   pub long : length slots ≡ 23
-  pub each : (k : ℕ) → k < 23 → Slot (first_with paper s (oid_of k) (members_of paper s from end)) (first_with paper s (oid_of k) (members_of paper s at end)) (get_or slots k (held_of Absent))
+  pub each : (k : ℕ) → k < 23 → Slot (first_with paper s (oid_of k) (members_of paper s from end)) (first_with paper s (oid_of k) (members_of paper s at end)) (get_or slots k (held_of None))
 
-pub open-start : (s : List ℕ) (from end : ℕ) → Open s from end (replicate 23 (held_of Absent)) from
-open-start s from end = record { long = refl; each = λ k l. vacant (get_or-replicate 23 k (held_of Absent) (held_of Absent) l) refl }
+pub open-start : (s : List ℕ) (from end : ℕ) → Open s from end (replicate 23 (held_of None)) from
+open-start s from end = record { long = refl; each = λ k l. vacant (get_or-replicate 23 k (held_of None) (held_of None) l) refl }
 
-pub has_there : (s oid : List ℕ) (x : Extension) → has_oid s oid x ≡ true → present x ≡ true
+pub has_there : (s oid : List ℕ) (x : Option Extension) → has_oid s oid x ≡ true → present x ≡ true
 unfolding has_oid present
-has_there s oid Absent h = h
-has_there s oid (Is own critical value) h = refl
+has_there s oid None h = h
+has_there s oid (Some x) h = refl
 
-pub held-there : (x : Extension) → present x ≡ true → (held_of x).there ≡ true
+pub held-there : (x : Option Extension) → present x ≡ true → is_some (held_of x) ≡ true
 unfolding present held_of
-held-there Absent h = h
-held-there (Is own critical value) h = refl
+held-there None h = h
+held-there (Some x) h = refl
+
+pub some-present : (x : Option Extension) → is_some x ≡ present x
+unfolding present
+some-present None = refl
+some-present (Some x) = refl
 
 -- what is held says whether it is there
-pub there-present : {held : Held} (x : Extension) → held ≡ held_of x → held.there ≡ present x
+pub there-present : {held : Option Held} (x : Option Extension) → held ≡ held_of x → is_some held ≡ present x
 unfolding held_of present
-there-present Absent h = rw h
-there-present (Is oid critical value) h = rw h
+there-present None h = rw h
+there-present (Some x) h = rw h
 
-module _ {s : List ℕ} {from end at : ℕ} {slots : List Held} (o : Open s from end slots at) where
-  pub open_none : found_at paper s at end ≡ Missing → (k : ℕ) → k < 23 → get_or slots k (held_of Absent) ≡ held_of (first_with paper s (oid_of k) (members_of paper s from end))
+module _ {s : List ℕ} {from end at : ℕ} {slots : List (Option Held)} (o : Open s from end slots at) where
+  pub open_none : found_at paper s at end ≡ None → (k : ℕ) → k < 23 → get_or slots k (held_of None) ≡ held_of (first_with paper s (oid_of k) (members_of paper s from end))
   unfolding first_with
   open_none h k l = slot-end (rw (members-none s at end h)) (o.each k l)
 
-  module _ {e : Element} {slot : ℕ} (f : found_at paper s at end ≡ One e) (h : Slotted s (extension_of paper s e) slot) where
+  module _ {e : Element} {slot : ℕ} (f : found_at paper s at end ≡ Some e) (h : Slotted s (extension_of paper s e) slot) where
     next : (k : ℕ) → k < 23 → (slot ≡ k → ⊥) → first_with paper s (oid_of k) (members_of paper s at end) ≡ first_with paper s (oid_of k) (members_of paper s e.end end)
     unfolding first_with
     next k l n = rw (members-more s at end f, ← h.each k l, ne_eqb slot k n)
@@ -153,25 +159,25 @@ module _ {s : List ℕ} {from end at : ℕ} {slots : List Held} (o : Open s from
     unfolding first_with
     here l = rw (members-more s at end f, ← h.each slot l, eq-eqb slot slot refl)
 
-    pub open-set : {held : Held} → held ≡ held_of (extension_of paper s e) → slot < 23 → (get_or slots slot (held_of Absent)).there ≡ false → Open s from end (set slots slot held) e.end
+    pub open-set : {held : Option Held} → held ≡ held_of (extension_of paper s e) → slot < 23 → is_some (get_or slots slot (held_of None)) ≡ false → Open s from end (set slots slot held) e.end
     open-set {held} new room n = record { long = rw length-set o.long; each = λ k l. go k l (eqb slot k) refl }
       where
         first : first_with paper s (oid_of slot) (members_of paper s from end) ≡ extension_of paper s e
         first = slot-free n (o.each slot room) ∙ here room
 
-        own : Slot (first_with paper s (oid_of slot) (members_of paper s from end)) (first_with paper s (oid_of slot) (members_of paper s e.end end)) (get_or (set slots slot held) slot (held_of Absent))
+        own : Slot (first_with paper s (oid_of slot) (members_of paper s from end)) (first_with paper s (oid_of slot) (members_of paper s e.end end)) (get_or (set slots slot held) slot (held_of None))
         own =
             let fits : slot < length slots = omega (arith, o.long) in
-            taken (get_or-set_same slots slot held (held_of Absent) fits ∙ new ∙ ap held_of (sym first))
+            taken (get_or-set_same slots slot held (held_of None) fits ∙ new ∙ ap held_of (sym first))
             (ap present first ∙ has_there s (oid_of slot) (extension_of paper s e) (sym (h.each slot room) ∙ eq-eqb slot slot refl))
 
-        go : (k : ℕ) → k < 23 → (t : Bool) → eqb slot k ≡ t → Slot (first_with paper s (oid_of k) (members_of paper s from end)) (first_with paper s (oid_of k) (members_of paper s e.end end)) (get_or (set slots slot held) k (held_of Absent))
+        go : (k : ℕ) → k < 23 → (t : Bool) → eqb slot k ≡ t → Slot (first_with paper s (oid_of k) (members_of paper s from end)) (first_with paper s (oid_of k) (members_of paper s e.end end)) (get_or (set slots slot held) k (held_of None))
         go k l true q = rw (sym (eqb-true slot k q)) own
-        go k l false q = rw (get_or-set_other slots slot k held (held_of Absent) (λ w. eqb-false slot k q (sym w))) (slot-moved (next k l (eqb-false slot k q)) (o.each k l))
+        go k l false q = rw (get_or-set_other slots slot k held (held_of None) (λ w. eqb-false slot k q (sym w))) (slot-moved (next k l (eqb-false slot k q)) (o.each k l))
 
-    pub open-left : (slot < 23 → (get_or slots slot (held_of Absent)).there ≡ true) → Open s from end slots e.end
+    pub open-left : (slot < 23 → is_some (get_or slots slot (held_of None)) ≡ true) → Open s from end slots e.end
     open-left n = record { long = o.long; each = λ k l. go k l (eqb slot k) refl }
       where
-        go : (k : ℕ) → k < 23 → (t : Bool) → eqb slot k ≡ t → Slot (first_with paper s (oid_of k) (members_of paper s from end)) (first_with paper s (oid_of k) (members_of paper s e.end end)) (get_or slots k (held_of Absent))
+        go : (k : ℕ) → k < 23 → (t : Bool) → eqb slot k ≡ t → Slot (first_with paper s (oid_of k) (members_of paper s from end)) (first_with paper s (oid_of k) (members_of paper s e.end end)) (get_or slots k (held_of None))
         go k l true q = let same : slot ≡ k = eqb-true slot k q in slot-full (rw same at (n (omega arith))) (o.each k l)
         go k l false q = slot-moved (next k l (eqb-false slot k q)) (o.each k l)

@@ -1,4 +1,5 @@
 -- No OID stands twice among the extensions that were met, as far as the slots and the ones without a slot tell.
+use Rattle.std.specs.Prelude.{Option, Some, None}
 use mathlib.Core.Path.{◌≡◌, refl, sym, ap, ◌∙◌}
 use mathlib.Core.Bool.{Bool, true, false, cond, ◌||◌}
 use mathlib.Core.List.{List, [], ◌∷◌}
@@ -10,9 +11,8 @@ use lib.ListN.{length, get_or, set, replicate, get_or-replicate, length-set}
 use lib.Seq.{get_or-set_same, get_or-set_other}
 use Rattle.der.specs.Forms.{paper}
 use Rattle.elements.specs.declared.elements.Element.{Element}
-use Rattle.elements.specs.declared.elements.Found.TheVariants.{One, Missing}
 use Rattle.extensions.specs.declared.Extension.{Extension}
-use Rattle.extensions.specs.declared.Extension.TheVariants.{Is, Absent}
+use Rattle.std.specs.Option.{is_some}
 use Rattle.extensions.specs.declared.Held.{Held}
 use Rattle.octets.specs.Alike.{alike}
 use Rattle.elements.specs.Elements.{found_at, members_of, contents_of}
@@ -26,13 +26,13 @@ use Rattle.extensions.proofs.Halves.{slot_and, slot_twice, slot-and, stranger-an
 
 -- the OIDs that were met, as a test; whether an extension has one of them, and those with its own
 module _ (s : List ℕ) (seen : List ℕ → Bool) where
-  unfoldable pub known : Extension → Bool
-  known Absent = false
-  known (Is oid critical value) = seen (contents_of s oid)
+  unfoldable pub known : Option Extension → Bool
+  known None = false
+  known (Some x) = seen (contents_of s x.oid)
 
-  unfoldable pub also : Extension → List ℕ → Bool
-  also Absent = seen
-  also (Is oid critical value) = λ o. alike o (contents_of s oid) || seen o
+  unfoldable pub also : Option Extension → List ℕ → Bool
+  also None = seen
+  also (Some x) = λ o. alike o (contents_of s x.oid) || seen o
 
   unfoldable pub some_known : List Element → Bool
   some_known [] = false
@@ -43,19 +43,19 @@ unfolding some_known known
 none-known s [] = refl
 none-known s (e ∷ rest) = rw (none-known s rest) (go (extension_of paper s e))
   where
-    go : (x : Extension) → (known s (λ o. false) x || false) ≡ false
-    go Absent = refl
-    go (Is oid critical value) = refl
+    go : (x : Option Extension) → (known s (λ o. false) x || false) ≡ false
+    go None = refl
+    go (Some x) = refl
 
 module _ (s : List ℕ) (seen : List ℕ → Bool) where
-  known-also : (x y : Extension) → known s (also s seen x) y ≡ (same_oids s x y || known s seen y)
+  known-also : (x y : Option Extension) → known s (also s seen x) y ≡ (same_oids s x y || known s seen y)
   unfolding known also same_oids has_oid
-  known-also Absent Absent = refl
-  known-also Absent (Is own critical value) = refl
-  known-also (Is oid critical value) Absent = refl
-  known-also (Is oid critical value) (Is own other held) = refl
+  known-also None None = refl
+  known-also None (Some x) = refl
+  known-also (Some x) None = refl
+  known-also (Some x) (Some extension) = refl
 
-  some-also : (x : Extension) (es : List Element) → some_known s (also s seen x) es ≡ (stands_in paper s x es || some_known s seen es)
+  some-also : (x : Option Extension) (es : List Element) → some_known s (also s seen x) es ≡ (stands_in paper s x es || some_known s seen es)
   unfolding some_known stands_in
   some-also x [] = refl
   some-also x (e ∷ rest) =
@@ -91,38 +91,38 @@ module _ (s : List ℕ) (seen : List ℕ → Bool) where
 
   -- an extension by its OID
   module _ (o : List ℕ) where
-    known-oid : (x : Extension) → has_oid s o x ≡ true → known s seen x ≡ seen o
+    known-oid : (x : Option Extension) → has_oid s o x ≡ true → known s seen x ≡ seen o
     unfolding known has_oid
-    known-oid Absent h = cc
-    known-oid (Is oid critical value) h = ap seen (alike_is _ _ h)
+    known-oid None h = cc
+    known-oid (Some x) h = ap seen (alike_is _ _ h)
 
-    also-oid : (x : Extension) → has_oid s o x ≡ true → also s seen x o ≡ true
+    also-oid : (x : Option Extension) → has_oid s o x ≡ true → also s seen x o ≡ true
     unfolding also has_oid
-    also-oid Absent h = cc
-    also-oid (Is oid critical value) h = rw (is-alike o (contents_of s oid) (sym (alike_is _ _ h)))
+    also-oid None h = cc
+    also-oid (Some x) h = rw (is-alike o (contents_of s x.oid) (sym (alike_is _ _ h)))
 
-    also-other : (x : Extension) → has_oid s o x ≡ false → also s seen x o ≡ seen o
+    also-other : (x : Option Extension) → has_oid s o x ≡ false → also s seen x o ≡ seen o
     unfolding also has_oid
-    also-other Absent h = refl
-    also-other (Is oid critical value) h = rw (unequal-unlike o (contents_of s oid) λ q. let z : true ≡ false = sym (is-alike _ _ (sym q)) ∙ h in let y : ◌≡◌ {A = ℕ} 0 1 = cc in omega arith)
+    also-other None h = refl
+    also-other (Some x) h = rw (unequal-unlike o (contents_of s x.oid) λ q. let z : true ≡ false = sym (is-alike _ _ (sym q)) ∙ h in let y : ◌≡◌ {A = ℕ} 0 1 = cc in omega arith)
 
-    other-oid : (x : Extension) (own : List ℕ) → has_oid s own x ≡ true → (o ≡ own → ⊥) → has_oid s o x ≡ false
+    other-oid : (x : Option Extension) (own : List ℕ) → has_oid s own x ≡ true → (o ≡ own → ⊥) → has_oid s o x ≡ false
     unfolding has_oid
-    other-oid Absent own h n = refl
-    other-oid (Is oid critical value) own h n = unequal-unlike _ _ λ q. n (sym q ∙ alike_is _ _ h)
+    other-oid None own h n = refl
+    other-oid (Some x) own h n = unequal-unlike _ _ λ q. n (sym q ∙ alike_is _ _ h)
 
-  known-stranger : (x : Extension) → ((k : ℕ) → k < 23 → has_oid s (oid_of k) x ≡ false) → ((o : List ℕ) → ((k : ℕ) → k < 23 → o ≡ oid_of k → ⊥) → seen o ≡ false) → known s seen x ≡ false
+  known-stranger : (x : Option Extension) → ((k : ℕ) → k < 23 → has_oid s (oid_of k) x ≡ false) → ((o : List ℕ) → ((k : ℕ) → k < 23 → o ≡ oid_of k → ⊥) → seen o ≡ false) → known s seen x ≡ false
   unfolding known has_oid
-  known-stranger Absent h n = refl
-  known-stranger (Is oid critical value) h n =
-      n (contents_of s oid) λ k l q. let z : true ≡ false = sym (is-alike _ _ q) ∙ h k l in let y : ◌≡◌ {A = ℕ} 0 1 = cc in omega arith
+  known-stranger None h n = refl
+  known-stranger (Some x) h n =
+      n (contents_of s x.oid) λ k l q. let z : true ≡ false = sym (is-alike _ _ q) ∙ h k l in let y : ◌≡◌ {A = ℕ} 0 1 = cc in omega arith
 
 -- The OIDs with a slot that were met before `at`: the slots tell which. While none was met twice, what is left decides, and the
 -- OIDs without a slot: while no two of those met have one mark, none of them is another, and what is left decides; else it is to be
 -- asked.
-pub record Apart (s : List ℕ) (from end : ℕ) (slots : List Held) (twice unsure : Bool) (marks : List Bool) (at : ℕ) : Type 0 where
+pub record Apart (s : List ℕ) (from end : ℕ) (slots : List (Option Held)) (twice unsure : Bool) (marks : List Bool) (at : ℕ) : Type 0 where
   pub seen : List ℕ → Bool
-  pub filled : (k : ℕ) → k < 23 → seen (oid_of k) ≡ (get_or slots k (held_of Absent)).there
+  pub filled : (k : ℕ) → k < 23 → seen (oid_of k) ≡ is_some (get_or slots k (held_of None))
   pub others : (o : List ℕ) → ((k : ℕ) → k < 23 → o ≡ oid_of k → ⊥) → seen o ≡ false
   pub sound : left s seen (members_of paper s at end) ≡ true → doubled_in paper s (members_of paper s from end) ≡ true
   pub told : twice ≡ true → doubled_in paper s (members_of paper s from end) ≡ true
@@ -132,12 +132,12 @@ pub record Apart (s : List ℕ) (from end : ℕ) (slots : List Held) (twice unsu
   pub noted : (o : List ℕ) → strange o ≡ true → get_or marks (mark_of o) false ≡ true
   pub few : unsure ≡ false → twice_in (strange_from paper s from end) ≡ (some_in strange (strange_from paper s at end) || twice_in (strange_from paper s at end))
 
-pub apart-start : (s : List ℕ) (from end : ℕ) → Apart s from end (replicate 23 (held_of Absent)) false false (replicate 64 false) from
+pub apart-start : (s : List ℕ) (from end : ℕ) → Apart s from end (replicate 23 (held_of None)) false false (replicate 64 false) from
 unfolding left held_of strange_from
 apart-start s from end =
     record {
       seen = λ o. false;
-      filled = λ k l. rw (get_or-replicate 23 k (held_of Absent) (held_of Absent) l);
+      filled = λ k l. rw (get_or-replicate 23 k (held_of None) (held_of None) l);
       others = λ o n. refl;
       sound = λ t. let slot : slot_twice s (members_of paper s from end) ≡ true = rw (none-known s (members_of paper s from end)) at t in split s (members_of paper s from end) ∙ rw slot;
       told = λ t. let y : ◌≡◌ {A = ℕ} 0 1 = cc in absurd (omega arith);
@@ -148,8 +148,8 @@ apart-start s from end =
       few = λ t. rw (none_in (λ o. false) (λ o. refl) (strange_from paper s from end));
     }
 
-module _ {s : List ℕ} {from end at : ℕ} {slots : List Held} {twice unsure : Bool} {marks : List Bool} (a : Apart s from end slots twice unsure marks at) where
-  module _ (h : found_at paper s at end ≡ Missing) where
+module _ {s : List ℕ} {from end at : ℕ} {slots : List (Option Held)} {twice unsure : Bool} {marks : List Bool} (a : Apart s from end slots twice unsure marks at) where
+  module _ (h : found_at paper s at end ≡ None) where
     pub apart_none : twice ≡ false → doubled_in paper s (members_of paper s from end) ≡ twice_in (strange_from paper s from end)
     unfolding left some_known slot_twice
     apart_none t = a.whole t ∙ rw (members-none s at end h)
@@ -158,13 +158,13 @@ module _ {s : List ℕ} {from end at : ℕ} {slots : List Held} {twice unsure : 
     unfolding twice_in some_in
     apart-few u = a.few u ∙ rw (strange-none s at end h)
 
-  module _ {e : Element} {slot : ℕ} (f : found_at paper s at end ≡ One e) (h : Slotted s (extension_of paper s e) slot) where
+  module _ {e : Element} {slot : ℕ} (f : found_at paper s at end ≡ Some e) (h : Slotted s (extension_of paper s e) slot) where
     -- an OID that has a slot
     module _ (l : slot < 23) where
       own : has_oid s (oid_of slot) (extension_of paper s e) ≡ true
       own = sym (h.each slot l) ∙ eq-eqb slot slot refl
 
-      known_slot : known s a.seen (extension_of paper s e) ≡ (get_or slots slot (held_of Absent)).there
+      known_slot : known s a.seen (extension_of paper s e) ≡ is_some (get_or slots slot (held_of None))
       known_slot = known-oid s a.seen (oid_of slot) (extension_of paper s e) own ∙ a.filled slot l
 
       step : left s a.seen (members_of paper s at end) ≡ (known s a.seen (extension_of paper s e) || left s (also s a.seen (extension_of paper s e)) (members_of paper s e.end end))
@@ -175,7 +175,7 @@ module _ {s : List ℕ} {from end at : ℕ} {slots : List Held} {twice unsure : 
       skip = strange-skip s at end f refl h l
 
       pub apart-new :
-          (held : Held) → held.there ≡ true → length slots ≡ 23 → (get_or slots slot (held_of Absent)).there ≡ false
+          (held : Option Held) → is_some held ≡ true → length slots ≡ 23 → is_some (get_or slots slot (held_of None)) ≡ false
           → Apart s from end (set slots slot held) twice unsure marks e.end
       apart-new held new long g =
           record {
@@ -196,19 +196,19 @@ module _ {s : List ℕ} {from end at : ℕ} {slots : List Held} {twice unsure : 
           or true = refl
           or false = refl
 
-          here : also s a.seen (extension_of paper s e) (oid_of slot) ≡ (get_or (set slots slot held) slot (held_of Absent)).there
+          here : also s a.seen (extension_of paper s e) (oid_of slot) ≡ is_some (get_or (set slots slot held) slot (held_of None))
           here =
               let fits : slot < length slots = omega arith in
-              rw (get_or-set_same slots slot held (held_of Absent) fits) (also-oid s a.seen (oid_of slot) (extension_of paper s e) own ∙ sym new)
+              rw (get_or-set_same slots slot held (held_of None) fits) (also-oid s a.seen (oid_of slot) (extension_of paper s e) own ∙ sym new)
 
-          kept : (k : ℕ) → k < 23 → (slot ≡ k → ⊥) → also s a.seen (extension_of paper s e) (oid_of k) ≡ (get_or slots k (held_of Absent)).there
+          kept : (k : ℕ) → k < 23 → (slot ≡ k → ⊥) → also s a.seen (extension_of paper s e) (oid_of k) ≡ is_some (get_or slots k (held_of None))
           kept k room n = also-other s a.seen (oid_of k) (extension_of paper s e) (sym (h.each k room) ∙ ne_eqb slot k n) ∙ a.filled k room
 
-          go : (k : ℕ) → k < 23 → (t : Bool) → eqb slot k ≡ t → also s a.seen (extension_of paper s e) (oid_of k) ≡ (get_or (set slots slot held) k (held_of Absent)).there
+          go : (k : ℕ) → k < 23 → (t : Bool) → eqb slot k ≡ t → also s a.seen (extension_of paper s e) (oid_of k) ≡ is_some (get_or (set slots slot held) k (held_of None))
           go k room true q = rw (sym (eqb-true slot k q)) here
-          go k room false q = rw (get_or-set_other slots slot k held (held_of Absent) (λ w. eqb-false slot k q (sym w))) (kept k room (eqb-false slot k q))
+          go k room false q = rw (get_or-set_other slots slot k held (held_of None) (λ w. eqb-false slot k q (sym w))) (kept k room (eqb-false slot k q))
 
-      pub apart-again : (get_or slots slot (held_of Absent)).there ≡ true → Apart s from end slots true unsure marks e.end
+      pub apart-again : is_some (get_or slots slot (held_of None)) ≡ true → Apart s from end slots true unsure marks e.end
       apart-again n =
           record {
             seen = a.seen;
@@ -290,9 +290,9 @@ module _ {s : List ℕ} {from end at : ℕ} {slots : List Held} {twice unsure : 
           new false q h = refl
           new true q h = let z : true ≡ false = sym (a.noted o q) ∙ rw (sym is) h in let y : ◌≡◌ {A = ℕ} 0 1 = cc in absurd (omega arith)
 
-          first : (y : Extension) → extension_of paper s e ≡ y → present y ≡ true → strange_from paper s at end ≡ own_oid s y ∷ strange_from paper s e.end end
-          first Absent q w = let z : ◌≡◌ {A = ℕ} 0 1 = cc in absurd (omega arith)
-          first (Is oid critical value) q w = strange-met s at end f refl q h far
+          first : (y : Option Extension) → extension_of paper s e ≡ y → present y ≡ true → strange_from paper s at end ≡ own_oid s y ∷ strange_from paper s e.end end
+          first None q w = let z : ◌≡◌ {A = ℕ} 0 1 = cc in absurd (omega arith)
+          first (Some x) q w = strange-met s at end f refl q h far
 
           turn : (p q r : Bool) → (p || cond q true r) ≡ ((p || q) || r)
           turn true q r = refl
@@ -308,7 +308,7 @@ module _ {s : List ℕ} {from end at : ℕ} {slots : List Held} {twice unsure : 
               ∙ rw (left, new (a.strange o) refl both.1, some_more a.strange after o (λ x. refl) more)
               (turn (some_in a.strange more) (is_in o more) (twice_in more))
 
-      pub apart-absent : extension_of paper s e ≡ Absent → Apart s from end slots twice unsure marks e.end
+      pub apart-absent : extension_of paper s e ≡ None → Apart s from end slots twice unsure marks e.end
       apart-absent n = passed unsure marks a.strange a.wide a.noted (λ t. a.few t ∙ rw skip)
         where
           skip : strange_from paper s at end ≡ strange_from paper s e.end end

@@ -1,4 +1,5 @@
 -- What a table of OIDs tells: an OID stands twice where one that follows is in the table, or two that follow are equal.
+use Rattle.std.specs.Prelude.{Option, None}
 use mathlib.Core.Path.{◌≡◌, refl, sym, ap, subst, ◌∙◌}
 use mathlib.Core.Bool.{Bool, true, false, cond, ◌||◌}
 use mathlib.Core.List.{List, [], ◌∷◌}
@@ -16,10 +17,10 @@ use Rattle.elements.specs.declared.elements.Element.{Element}
 use Rattle.elements.specs.Elements.{contents_of}
 use Rattle.extensions.specs.declared.rows.Row.{Row}
 use Rattle.extensions.specs.declared.stranger.Stranger.{Stranger}
-use Rattle.extensions.specs.declared.stranger.Stranger.TheVariants.{At, Nothing}
 use Rattle.extensions.proofs.Places.{beyond}
 use Rattle.extensions.proofs.Slotless.{strange-none}
 use Rattle.extensions.specs.Strange.{is_in, twice_in, strange_from, Ahead, met, none, key_from, row_oid, Numbered, Compared}
+use Rattle.extensions.proofs.Payloads.{a_stranger}
 
 -- whether one of them passes a test
 unfoldable pub some_in : (List ℕ → Bool) → List (List ℕ) → Bool
@@ -93,17 +94,17 @@ pub record Onward (s : List ℕ) (at end place next : ℕ) (o : List ℕ) : Type
   pub passed : strange_from paper s at end ≡ strange_from paper s place end
   pub first : strange_from paper s place end ≡ o ∷ strange_from paper s next end
 
-module _ (s : List ℕ) (at end : ℕ) {r : Stranger} (a : Ahead paper s at end r) where
-  pub ahead_none : r ≡ Nothing → strange_from paper s at end ≡ []
+module _ (s : List ℕ) (at end : ℕ) {r : Option Stranger} (a : Ahead paper s at end r) where
+  pub ahead_none : r ≡ None → strange_from paper s at end ≡ []
   ahead_none q = go (subst (Ahead paper s at end) q a)
     where
-      go : Ahead paper s at end Nothing → strange_from paper s at end ≡ []
+      go : Ahead paper s at end None → strange_from paper s at end ≡ []
       go (none h) = h
 
-  pub ahead-row : {place next : ℕ} {oid : Element} → r ≡ At place next oid → (row : Row) → row_oid s row ≡ contents_of s oid → Onward s at end place next (row_oid s row)
+  pub ahead-row : {place next : ℕ} {oid : Element} → r ≡ a_stranger place next oid → (row : Row) → row_oid s row ≡ contents_of s oid → Onward s at end place next (row_oid s row)
   ahead-row {place} {next} {oid} q row is = go (subst (Ahead paper s at end) q a)
     where
-      go : Ahead paper s at end (At place next oid) → Onward s at end place next (row_oid s row)
+      go : Ahead paper s at end (a_stranger place next oid) → Onward s at end place next (row_oid s row)
       go (met x y z passed first) = record { onward = (x, y, z); passed = passed; first = rw is first }
 
 -- OIDs with other last octets are not equal

@@ -1,35 +1,32 @@
 -- Extensions: SEQUENCE {OID, optional BOOLEAN which is then TRUE, OCTET STRING}.
-use Rattle.std.specs.Prelude.{ℕ, ◌+◌, ◌<◌, ◌≡◌, Bool, true, false, cond, ◌&&◌, ◌||◌, not, List, [], ◌∷◌, eqb, ltb, get_or}
+use Rattle.std.specs.Prelude.{ℕ, ◌+◌, ◌<◌, ◌≡◌, Bool, true, false, cond, ◌&&◌, ◌||◌, not, List, [], ◌∷◌, eqb, ltb, get_or, Option, Some, None}
 use Rattle.der.specs.Forms.{Forms}
 use Rattle.elements.specs.declared.elements.Element.{Element}
-use Rattle.elements.specs.declared.elements.Found.{Found}
-use Rattle.elements.specs.declared.elements.Found.TheVariants.{One}
 use Rattle.extensions.specs.declared.Extension.{Extension}
-use Rattle.extensions.specs.declared.Extension.TheVariants.{Is, Absent}
 use Rattle.extensions.specs.declared.Held.{Held}
 use Rattle.extensions.specs.declared.Overview.{Overview}
 use Rattle.octets.specs.Alike.{alike}
 use Rattle.elements.specs.Elements.{found_at, found_tagged, with_tag, on_found, inside, contents_of}
 
 -- the OCTET STRING, which is the last
-unfoldable pub holding_of : Element → Element → Bool → Found → Extension
+unfoldable pub holding_of : Element → Element → Bool → Option Element → Option Extension
 holding_of extension oid critical next =
-    on_found (with_tag 0x04 next) Absent λ value. cond (eqb value.end extension.end) (Is oid critical value) Absent
+    on_found (with_tag 0x04 next) None λ value. cond (eqb value.end extension.end) (Some (record { oid = oid; critical = critical; value = value })) None
 
 -- an extension, or `Absent` for what is none; a BOOLEAN after the OID is TRUE and marks it as critical
-unfoldable pub extension_of : Forms → List ℕ → Element → Extension
+unfoldable pub extension_of : Forms → List ℕ → Element → Option Extension
 extension_of forms s e =
     cond (eqb e.tag 0x30)
-    (on_found (found_tagged forms s e.contents e.end 0x06) Absent λ oid.
-    on_found (found_at forms s oid.end e.end) Absent λ next.
+    (on_found (found_tagged forms s e.contents e.end 0x06) None λ oid.
+    on_found (found_at forms s oid.end e.end) None λ next.
     cond (eqb next.tag 0x01)
-    (cond (eqb (get_or s next.contents 0) 255) (holding_of e oid true (found_at forms s next.end e.end)) Absent)
-    (holding_of e oid false (One next)))
-    Absent
+    (cond (eqb (get_or s next.contents 0) 255) (holding_of e oid true (found_at forms s next.end e.end)) None)
+    (holding_of e oid false (Some next)))
+    None
 
-unfoldable pub present : Extension → Bool
-present (Is oid critical value) = true
-present Absent = false
+unfoldable pub present : Option Extension → Bool
+present (Some x) = true
+present None = false
 
 -- all of them are extensions
 unfoldable pub all_shaped : Forms → List ℕ → List Element → Bool
@@ -40,16 +37,16 @@ all_shaped forms s (e ∷ rest) = cond (present (extension_of forms s e)) (all_s
 unfoldable pub extensions_shaped : Forms → List ℕ → Element → Bool
 extensions_shaped forms s e = cond (eqb e.tag 0x30) (all_shaped forms s (inside forms s e)) false
 
-unfoldable pub has_oid : List ℕ → List ℕ → Extension → Bool
-has_oid s oid (Is own critical value) = alike (contents_of s own) oid
-has_oid s oid Absent = false
+unfoldable pub has_oid : List ℕ → List ℕ → Option Extension → Bool
+has_oid s oid (Some x) = alike (contents_of s x.oid) oid
+has_oid s oid None = false
 
 -- the first of them with that OID
-unfoldable pub first_with : Forms → List ℕ → List ℕ → List Element → Extension
-first_with forms s oid [] = Absent
+unfoldable pub first_with : Forms → List ℕ → List ℕ → List Element → Option Extension
+first_with forms s oid [] = None
 first_with forms s oid (e ∷ rest) = cond (has_oid s oid (extension_of forms s e)) (extension_of forms s e) (first_with forms s oid rest)
 
-unfoldable pub lookup_of : Forms → List ℕ → Element → List ℕ → Extension
+unfoldable pub lookup_of : Forms → List ℕ → Element → List ℕ → Option Extension
 lookup_of forms s extensions oid = first_with forms s oid (inside forms s extensions)
 
 -- the OIDs that have a slot: 2.5.29.14 to 2.5.29.35 in slots 0 to 21, the document type list in slot 22
@@ -58,27 +55,26 @@ oid_of k =
     cond (ltb k 22) (0x55 ∷ 0x1D ∷ (k + 14) ∷ []) (0x67 ∷ 0x81 ∷ 0x08 ∷ 0x01 ∷ 0x01 ∷ 0x06 ∷ 0x02 ∷ [])
 
 -- an extension has the slot of its OID; what is none has slot 24
-pub record Slotted (s : List ℕ) (extension : Extension) (slot : ℕ) : Type 0 where
+pub record Slotted (s : List ℕ) (extension : Option Extension) (slot : ℕ) : Type 0 where
   pub there : present extension ≡ not (eqb slot 24)
   pub each : (k : ℕ) → k < 23 → eqb slot k ≡ has_oid s (oid_of k) extension
 
--- what is held of an extension: that it is there, whether it is critical, where the contents of its value start and end
-unfoldable pub held_of : Extension → Held
-held_of Absent = record { there = false; critical = false; start = 0; end = 0 }
-held_of (Is oid critical value) =
-    record { there = true; critical = critical; start = value.contents; end = value.end }
+-- what is held of an extension: whether it is critical, where the contents of its value start and end
+unfoldable pub held_of : Option Extension → Option Held
+held_of None = None
+held_of (Some x) = Some (record { critical = x.critical; start = x.value.contents; end = x.value.end })
 
 -- each slot holds the first extension with its OID
-pub record Placed (forms : Forms) (s : List ℕ) (extensions : Element) (slots : List Held) : Type 0 where
-  pub each : (k : ℕ) → k < 23 → get_or slots k (held_of Absent) ≡ held_of (lookup_of forms s extensions (oid_of k))
+pub record Placed (forms : Forms) (s : List ℕ) (extensions : Element) (slots : List (Option Held)) : Type 0 where
+  pub each : (k : ℕ) → k < 23 → get_or slots k (held_of None) ≡ held_of (lookup_of forms s extensions (oid_of k))
 
 -- whether two extensions have one OID
-unfoldable pub same_oids : List ℕ → Extension → Extension → Bool
-same_oids s Absent other = false
-same_oids s (Is oid critical value) other = has_oid s (contents_of s oid) other
+unfoldable pub same_oids : List ℕ → Option Extension → Option Extension → Bool
+same_oids s None other = false
+same_oids s (Some x) other = has_oid s (contents_of s x.oid) other
 
 -- whether one of them has the OID of this one
-unfoldable pub stands_in : Forms → List ℕ → Extension → List Element → Bool
+unfoldable pub stands_in : Forms → List ℕ → Option Extension → List Element → Bool
 stands_in forms s extension [] = false
 stands_in forms s extension (e ∷ rest) = cond (same_oids s extension (extension_of forms s e)) true (stands_in forms s extension rest)
 
@@ -96,9 +92,9 @@ usual s oid =
     alike (contents_of s oid) (0x55 ∷ 0x1D ∷ 0x0F ∷ []) || alike (contents_of s oid) (0x55 ∷ 0x1D ∷ 0x13 ∷ [])
 
 -- critical; where `allow` is true keyUsage and basicConstraints are let pass
-unfoldable pub refused_critical : List ℕ → Bool → Extension → Bool
-refused_critical s allow Absent = false
-refused_critical s allow (Is oid critical value) = critical && not (allow && usual s oid)
+unfoldable pub refused_critical : List ℕ → Bool → Option Extension → Bool
+refused_critical s allow None = false
+refused_critical s allow (Some x) = x.critical && not (allow && usual s x.oid)
 
 unfoldable pub some_critical : Forms → List ℕ → Bool → List Element → Bool
 some_critical forms s allow [] = false

@@ -1,15 +1,12 @@
 -- OIDs that have no slot, how they stand in a table, and whether one of them stands twice. No public promise cites this.
-use Rattle.std.specs.Prelude.{ℕ, zero, suc, ◌+◌, ◌-◌, ◌*◌, ◌%◌, ◌<◌, ◌≤◌, ◌≡◌, Bool, true, false, cond, ◌||◌, List, [], ◌∷◌, length, get_or, take, drop}
+use Rattle.std.specs.Prelude.{ℕ, zero, suc, ◌+◌, ◌-◌, ◌*◌, ◌%◌, ◌<◌, ◌≤◌, ◌≡◌, Bool, true, false, cond, ◌||◌, List, [], ◌∷◌, length, get_or, take, drop, Option, Some, None}
 use Rattle.der.specs.Forms.{Forms}
 use Rattle.octets.specs.Alike.{alike}
 use Rattle.elements.specs.declared.elements.Element.{Element}
-use Rattle.elements.specs.declared.elements.Found.TheVariants.{One}
 use Rattle.elements.specs.Elements.{found_at, members_of, contents_of}
 use Rattle.extensions.specs.declared.Extension.{Extension}
-use Rattle.extensions.specs.declared.Extension.TheVariants.{Is, Absent}
 use Rattle.extensions.specs.declared.rows.Row.{Row}
 use Rattle.extensions.specs.declared.stranger.Stranger.{Stranger}
-use Rattle.extensions.specs.declared.stranger.Stranger.TheVariants.{At, Nothing}
 use Rattle.extensions.specs.declared.twice.Round.{Round}
 use Rattle.extensions.specs.Extensions.{extension_of, oid_of}
 
@@ -19,9 +16,9 @@ slotless zero o = true
 slotless (suc k) o = cond (alike o (oid_of k)) false (slotless k o)
 
 -- the OIDs without a slot, one by one
-unfoldable pub strange_oid : List ℕ → Extension → List (List ℕ) → List (List ℕ)
-strange_oid s Absent more = more
-strange_oid s (Is oid critical value) more = cond (slotless 23 (contents_of s oid)) (contents_of s oid ∷ more) more
+unfoldable pub strange_oid : List ℕ → Option Extension → List (List ℕ) → List (List ℕ)
+strange_oid s None more = more
+strange_oid s (Some x) more = cond (slotless 23 (contents_of s x.oid)) (contents_of s x.oid ∷ more) more
 
 unfoldable pub strange_oids : Forms → List ℕ → List Element → List (List ℕ)
 strange_oids forms s [] = []
@@ -31,9 +28,9 @@ unfoldable pub strange_from : Forms → List ℕ → ℕ → ℕ → List (List 
 strange_from forms s from end = strange_oids forms s (members_of forms s from end)
 
 -- the OID of an extension
-unfoldable pub own_oid : List ℕ → Extension → List ℕ
-own_oid s Absent = []
-own_oid s (Is oid critical value) = contents_of s oid
+unfoldable pub own_oid : List ℕ → Option Extension → List ℕ
+own_oid s None = []
+own_oid s (Some x) = contents_of s x.oid
 
 -- the mark of an OID, a number below 64: OIDs with other marks are not equal
 unfoldable pub mark_of : List ℕ → ℕ
@@ -50,16 +47,16 @@ twice_in [] = false
 twice_in (o ∷ rest) = cond (is_in o rest) true (twice_in rest)
 
 -- the first OID without a slot from `from` on, of the extension at `place`
-pub data Ahead (forms : Forms) (s : List ℕ) (from end : ℕ) : Stranger → Type 0 where
+pub data Ahead (forms : Forms) (s : List ℕ) (from end : ℕ) : Option Stranger → Type 0 where
   met :
       {place next : ℕ} {oid : Element} → from ≤ place → place < next → next ≤ end → strange_from forms s from end ≡ strange_from forms s place end
-      → strange_from forms s place end ≡ contents_of s oid ∷ strange_from forms s next end → Ahead forms s from end (At place next oid)
-  none : strange_from forms s from end ≡ [] → Ahead forms s from end Nothing
+      → strange_from forms s place end ≡ contents_of s oid ∷ strange_from forms s next end → Ahead forms s from end (Some (record { place = place; next = next; oid = oid }))
+  none : strange_from forms s from end ≡ [] → Ahead forms s from end None
 
 -- a member that ends at `next` and has a slot or is no extension
 pub record Passed (forms : Forms) (s : List ℕ) (at end next : ℕ) : Type 0 where
   pub e : Element
-  pub found : found_at forms s at end ≡ One e
+  pub found : found_at forms s at end ≡ Some e
   pub ends : next ≡ e.end
   pub familiar : (more : List (List ℕ)) → strange_oid s (extension_of forms s e) more ≡ more
 

@@ -17,7 +17,7 @@ ghost use Rattle.extensions.specs.Extensions.{Viewed};
 
 use elements::Element;
 use marks::mark_of;
-use members::met_at;
+use members::{Met, met_at};
 pub use outline::{Outline, outline_of};
 use slot::slot_of;
 pub use told::is_there;
@@ -25,19 +25,15 @@ use told::{held_of, is_critical, unusual};
 use twice::doubled;
 
 #[derive(Clone, Copy)]
-pub enum Extension {
-    Is {
-        oid: Element,
-        critical: bool,
-        value: Element,
-    },
-    Absent,
+pub struct Extension {
+    pub oid: Element,
+    pub critical: bool,
+    pub value: Element,
 }
 
-// Of an extension: whether it is there, whether it is critical, and where the contents of its value start and end.
+// Of an extension: whether it is critical, and where the contents of its value start and end.
 #[derive(Clone, Copy)]
 pub struct Held {
-    pub there: bool,
     pub start: usize,
     pub critical: bool,
     pub end: usize,
@@ -49,7 +45,7 @@ pub struct Held {
 // would be copied twice.
 #[derive(Clone, Copy)]
 pub struct Overview {
-    pub slots: [Held; 23],
+    pub slots: [Option<Held>; 23],
     pub shaped: bool,
     pub marked: bool,
     pub critical: bool,
@@ -67,22 +63,15 @@ pub fn one_pass(item: &[u8], extensions: Element) -> Overview
     let mut repeated = false;
     let mut unsure = false;
     let mut marks = [false; 64];
-    let none = held_of(Extension::Absent);
-    let mut slots = [none; 23];
+    let mut slots = [None; 23];
     let mut at = extensions.contents;
-    loop {
-        let met = met_at(item, at, extensions.end);
-        if !met.found {
-            break;
-        }
-        let own = met.own;
+    while let Some(Met { next, own }) = met_at(item, at, extensions.end) {
         let slot = slot_of(item, own);
         shaped = shaped & (slot != 24);
         marked = marked | is_critical(own);
         critical = critical | unusual(own, slot);
         if slot < 23 {
-            let first = slots[slot];
-            if first.there {
+            if slots[slot].is_some() {
                 repeated = true;
             } else {
                 slots[slot] = held_of(own);
@@ -92,12 +81,10 @@ pub fn one_pass(item: &[u8], extensions: Element) -> Overview
             unsure = unsure | marks[mark];
             marks[mark] = true;
         }
-        at = met.next;
+        at = next;
     }
-    if !repeated {
-        if unsure {
-            repeated = doubled(item, extensions);
-        }
+    if !repeated && unsure {
+        repeated = doubled(item, extensions);
     }
     Overview {
         slots,
@@ -106,12 +93,4 @@ pub fn one_pass(item: &[u8], extensions: Element) -> Overview
         critical,
         doubled: repeated,
     }
-}
-
-// The member of a list that starts at an offset: whether there is one, the offset after it, and the extension that it is.
-#[derive(Clone, Copy)]
-pub struct Met {
-    pub found: bool,
-    pub next: usize,
-    pub own: Extension,
 }

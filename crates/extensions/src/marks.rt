@@ -6,16 +6,11 @@ use crate::Extension;
 use elements::contents;
 
 // The mark of an extension's OID, by its last octet and its length.
-pub(crate) fn mark_of(item: &[u8], extension: Extension) -> usize
+pub(crate) fn mark_of(item: &[u8], extension: Option<Extension>) -> usize
     ensures is { result ≡ mark_of (own_oid item.now extension) }
     ensures low { result < 64 }
 {
-    let Extension::Is {
-        oid,
-        critical: _,
-        value: _,
-    } = extension
-    else {
+    let Some(Extension { oid, .. }) = extension else {
         return 0;
     };
     let own = contents(item, oid);

@@ -6,7 +6,7 @@ ghost use Rattle.extensions.specs.Extensions.{extensions_shaped, critical_of};
 use crate::fast::plain_end;
 use crate::shape::any_extension;
 use crate::told::{is_critical, is_there};
-use elements::{Element, Found, element_at};
+use elements::{Element, element_at};
 
 #[derive(Clone, Copy)]
 pub struct Outline {
@@ -22,18 +22,17 @@ pub fn outline_of(item: &[u8], extensions: Element) -> Outline
     let mut marked = false;
     let mut at = extensions.contents;
     while at < extensions.end {
-        let next = plain_end(item, at, extensions.end);
-        if 0 < next {
+        if let Some(next) = plain_end(item, at, extensions.end) {
             at = next;
-        } else {
-            let Found::One(e) = element_at(item, at, extensions.end) else {
-                return Outline { shaped, marked };
-            };
-            let own = any_extension(item, e);
-            shaped = shaped & is_there(own);
-            marked = marked | is_critical(own);
-            at = e.end;
+            continue;
         }
+        let Some(e) = element_at(item, at, extensions.end) else {
+            return Outline { shaped, marked };
+        };
+        let own = any_extension(item, e);
+        shaped = shaped & is_there(own);
+        marked = marked | is_critical(own);
+        at = e.end;
     }
     Outline { shaped, marked }
 }

@@ -51,10 +51,8 @@ fn key_of(octets: &[u8]) -> u64
     ensures { result ≡ key_from 0 octets.now }
 {
     let mut key = 0;
-    let mut i = 0;
-    while i < octets.len() {
-        key = key % 0x100_0000_0000_0000 * 256 + octets[i] as u64;
-        i += 1;
+    for octet in octets {
+        key = key % 0x100_0000_0000_0000 * 256 + *octet as u64;
     }
     key
 }

@@ -8,15 +8,10 @@ use elements::contents;
 use octets::same;
 
 // The slot of an extension's OID, 23 for one that has no slot, 24 for what is no extension.
-pub(crate) fn slot_of(item: &[u8], extension: Extension) -> usize
+pub(crate) fn slot_of(item: &[u8], extension: Option<Extension>) -> usize
     ensures { Slotted item.now extension result }
 {
-    let Extension::Is {
-        oid,
-        critical: _,
-        value: _,
-    } = extension
-    else {
+    let Some(Extension { oid, .. }) = extension else {
         return 24;
     };
     let own = contents(item, oid);

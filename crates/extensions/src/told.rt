@@ -4,76 +4,40 @@ ghost use Rattle.extensions.specs.Extensions.{present, refused_critical, held_of
 
 use crate::{Extension, Held};
 
-pub(crate) fn held_of(extension: Extension) -> Held
+pub(crate) fn held_of(extension: Option<Extension>) -> Option<Held>
     ensures { result ≡ held_of extension }
 {
-    let Extension::Is {
-        oid: _,
-        critical,
-        value,
-    } = extension
-    else {
-        return Held {
-            there: false,
-            critical: false,
-            start: 0,
-            end: 0,
-        };
-    };
-    Held {
-        there: true,
-        critical,
-        start: value.contents,
-        end: value.end,
-    }
+    let own = extension?;
+    Some(Held {
+        critical: own.critical,
+        start: own.value.contents,
+        end: own.value.end,
+    })
 }
 
 // Whether there is one.
-pub fn is_there(extension: Extension) -> bool
+pub fn is_there(extension: Option<Extension>) -> bool
     ensures { result ≡ present extension }
 {
-    match extension {
-        Extension::Is {
-            oid: _,
-            critical: _,
-            value: _,
-        } => true,
-        Extension::Absent => false,
-    }
+    extension.is_some()
 }
 
 // Whether an extension is critical.
-pub(crate) fn is_critical(extension: Extension) -> bool
+pub(crate) fn is_critical(extension: Option<Extension>) -> bool
     ensures { (s : List ℕ) → result ≡ refused_critical s false extension }
 {
-    let Extension::Is {
-        oid: _,
-        critical,
-        value: _,
-    } = extension
-    else {
-        return false;
-    };
-    critical
+    match extension {
+        Some(own) => own.critical,
+        None => false,
+    }
 }
 
 // Whether an extension is critical and neither keyUsage nor basicConstraints, by its slot.
-pub(crate) fn unusual(extension: Extension, slot: usize) -> bool
+pub(crate) fn unusual(extension: Option<Extension>, slot: usize) -> bool
     ensures { (s : List ℕ) → Slotted s extension slot → result ≡ refused_critical s true extension }
 {
-    let Extension::Is {
-        oid: _,
-        critical,
-        value: _,
-    } = extension
-    else {
-        return false;
-    };
-    if slot == 1 {
-        return false;
+    match extension {
+        Some(own) => own.critical & (slot != 1) & (slot != 5),
+        None => false,
     }
-    if slot == 5 {
-        return false;
-    }
-    critical
 }

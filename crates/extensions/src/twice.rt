@@ -37,12 +37,11 @@ fn compared(item: &[u8], from: usize, end: usize) -> Round
     let mut twice = false;
     let mut at = from;
     'each: loop {
-        let Stranger::At { place, next, oid } = stranger_from(item, at, end) else {
+        let Some(Stranger { place, next, oid }) = stranger_from(item, at, end) else {
             break 'each;
         };
         let own = row_of(item, oid);
-        let mut i = 0;
-        while i < count {
+        for i in 0..count {
             let other = table[i];
             if other.last == own.last {
                 if equal_rows(item, own, other) {
@@ -51,7 +50,6 @@ fn compared(item: &[u8], from: usize, end: usize) -> Round
                     break 'each;
                 }
             }
-            i += 1;
         }
         if count < 64 {
             table[count] = own;

@@ -13,13 +13,7 @@ use octets::octet;
 pub fn chain_by_rounds(places: usize, roles: &[u8], steps: &[u8], target: usize) -> Found
     ensures { Answered (graph_of places roles.now steps.now) target result }
 {
-    if 96 < places {
-        return no_chain();
-    }
-    if places <= target {
-        return no_chain();
-    }
-    if octet(roles, target) != 3 {
+    if 96 < places || places <= target || octet(roles, target) != 3 {
         return no_chain();
     }
     let distance = distances(places, roles, steps);
@@ -30,7 +24,7 @@ pub fn chain_by_rounds(places: usize, roles: &[u8], steps: &[u8], target: usize)
     let ways = ways_back(places, roles, steps, distance, target);
     let slots = read_off(places, roles, steps, distance, ways, target);
     Found {
-        length: wide(length),
+        length: length as usize,
         places: slots,
     }
 }
@@ -58,12 +52,10 @@ fn round(places: usize, roles: &[u8], steps: &[u8], far: u8, distance: &mut [u8;
     ensures { InRound places (followed places (graph_of places roles.now steps.now)) distance.new far places places result }
 {
     let mut marked = 0;
-    let mut u = 0;
-    while u < places {
+    for u in 0..places {
         if onward(roles, u, distance[u], far) {
             marked = reach(places, roles, steps, u, far, distance, marked);
         }
-        u += 1;
     }
     marked
 }
@@ -72,10 +64,7 @@ fn round(places: usize, roles: &[u8], steps: &[u8], far: u8, distance: &mut [u8;
 fn onward(roles: &[u8], u: usize, distance: u8, far: u8) -> bool
     ensures { (result ≡ true → (distance ≡ far) × (get_or roles.now u 0 ≡ 3 → ⊥)) × (result ≡ false → distance ≡ far → get_or roles.now u 0 ≡ 3) }
 {
-    if distance != far {
-        return false;
-    }
-    octet(roles, u) != 3
+    distance == far && octet(roles, u) != 3
 }
 
 // From one place that is so far, or from outside, which is `places`, to each that no round has marked; how many are new so far.
@@ -94,15 +83,11 @@ fn reach(
     ensures { InRound places (followed places (graph_of places roles.now steps.now)) distance.new far u places result }
 {
     let mut count = marked;
-    let mut v = 0;
-    while v < places {
-        if distance[v] == 255 {
-            if follows(places, roles, steps, u, v) {
-                distance[v] = far + 1;
-                count += 1;
-            }
+    for v in 0..places {
+        if distance[v] == 255 && follows(places, roles, steps, u, v) {
+            distance[v] = far + 1;
+            count += 1;
         }
-        v += 1;
     }
     count
 }
@@ -121,10 +106,9 @@ fn ways_back(
     ensures { Back places (followed places (graph_of places roles.now steps.now)) distance target result 1 places }
 {
     let mut ways = [255u8; 96];
-    let mut far = distance[target];
-    ways[target] = far;
-    while 1 < far {
-        far -= 1;
+    let last = distance[target];
+    ways[target] = last;
+    for far in (1..last).rev() {
         ways = one_back(places, roles, steps, distance, target, far, ways);
     }
     ways
@@ -145,14 +129,12 @@ fn one_back(
     ensures { Back places (followed places (graph_of places roles.now steps.now)) distance target result far places }
 {
     let mut more = ways;
-    let mut u = 0;
-    while u < places {
-        if onward(roles, u, distance[u], far) {
-            if next(places, roles, steps, u, far + 1, more) < places {
-                more[u] = far;
-            }
+    for u in 0..places {
+        if onward(roles, u, distance[u], far)
+            && next(places, roles, steps, u, far + 1, more) < places
+        {
+            more[u] = far;
         }
-        u += 1;
     }
     more
 }
@@ -163,14 +145,9 @@ fn next(places: usize, roles: &[u8], steps: &[u8], u: usize, far: u8, ways: [u8;
     requires fact { u < places → (get_or roles.now u 0 ≡ 3 → ⊥) }
     ensures { Next places (followed places (graph_of places roles.now steps.now)) ways u far result }
 {
-    let mut looked = 0;
-    while looked < places {
-        looked += 1;
-        let v = looked - 1;
-        if ways[v] == far {
-            if follows(places, roles, steps, u, v) {
-                return v;
-            }
+    for place in 0..places {
+        if ways[place] == far && follows(places, roles, steps, u, place) {
+            return place;
         }
     }
     places
@@ -192,19 +169,11 @@ fn read_off(
 {
     let mut slots = [255u8; 96];
     let mut place = places;
-    let mut far = 0;
-    while far < distance[target] {
-        far += 1;
-        place = next(places, roles, steps, place, far, ways);
-        slots[wide(far) - 1] = place as u8;
+    for far in 0..distance[target] {
+        place = next(places, roles, steps, place, far + 1, ways);
+        slots[far as usize] = place as u8;
     }
     slots
-}
-
-fn wide(x: u8) -> usize
-    ensures { result ≡ x }
-{
-    x as usize
 }
 
 // Whether a step goes to an anchor from outside, or from a place that is no signer to a link or a signer.
@@ -220,8 +189,5 @@ fn follows(places: usize, roles: &[u8], steps: &[u8], u: usize, v: usize) -> boo
         return false;
     }
     let role = octet(roles, v);
-    if role == 2 {
-        return true;
-    }
-    role == 3
+    role == 2 || role == 3
 }

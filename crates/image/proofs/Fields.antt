@@ -81,3 +81,12 @@ entry_past version s at h =
       ← letter-past version s (at + 8) (omega arith),
       ← letter-past version s (at + 9) (omega arith),
     )
+
+-- a field of one octet, there or not, is an octet
+octet-small : (s : List ℕ) (at : ℕ) → ((i : ℕ) → get_or s i 0 < 256) → field s at 1 < 256
+octet-small s at small = rw (← octet-field s at) (small at)
+
+pub entry-small :
+    (version : ℕ) (s : List ℕ) (at : ℕ) → ((i : ℕ) → get_or s i 0 < 256) → ((entry_at version s at).kind < 256) × ((entry_at version s at).flags < 256)
+unfolding entry_at
+entry-small version s at small = (octet-small s at small, octet-small s (at + 1) small)

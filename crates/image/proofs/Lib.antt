@@ -1,7 +1,9 @@
+pub mod Payloads
 pub mod Widths
 pub mod Fields
 pub mod Opening
 pub mod Few
+pub mod Readings
 pub mod Places
 pub mod Sizes
 pub mod Choosing

@@ -1,9 +1,7 @@
 -- The rules of the trust image, by number.
-use Rattle.std.specs.Prelude.{ℕ, zero, suc, ◌+◌, ◌*◌, Bool, true, false, cond, ◌&&◌, List, [], ◌∷◌, leb, eqb, length}
+use Rattle.std.specs.Prelude.{ℕ, zero, suc, ◌+◌, ◌*◌, Bool, true, false, cond, ◌&&◌, List, [], ◌∷◌, leb, eqb, length, Option, Some, None}
 use Rattle.calendar.specs.Days.{real_day}
 use Rattle.image.specs.declared.IndexEntry.{IndexEntry}
-use Rattle.image.specs.declared.Total.{Total}
-use Rattle.image.specs.declared.Total.TheVariants.{Sum, Unfit}
 use Rattle.image.specs.Index.{field, index_start, entry_count, version_in, day_in, width, entry_at}
 
 -- 1: 12 to 262,144 bytes
@@ -40,27 +38,27 @@ unfoldable pub padded : ℕ → List ℕ → ℕ → Bool
 padded version s at = cond (eqb version 2) (eqb (field s (at + 10) 2) 0) true
 
 -- 6: each entry; the sum of all lengths where each is good
-unfoldable pub sum_of : ℕ → List ℕ → ℕ → ℕ → ℕ → Total
-sum_of version s at zero sum = Sum sum
+unfoldable pub sum_of : ℕ → List ℕ → ℕ → ℕ → ℕ → Option ℕ
+sum_of version s at zero sum = Some sum
 sum_of version s at (suc left) sum =
     cond (entry_good (entry_at version s at) sum && padded version s at)
     (sum_of version s (at + width version) left (sum + (entry_at version s at).length))
-    Unfit
+    None
 
-unfoldable pub total_of : List ℕ → Total
+unfoldable pub total_of : List ℕ → Option ℕ
 total_of s = sum_of (version_in s) s (index_start s) (entry_count s) 0
 
-unfoldable pub fit : Total → Bool
-fit (Sum sum) = true
-fit Unfit = false
+unfoldable pub fit : Option ℕ → Bool
+fit (Some sum) = true
+fit None = false
 
 unfoldable pub rule6 : List ℕ → Bool
 rule6 s = fit (total_of s)
 
 -- 7: all lengths sum to the index start
-unfoldable pub summed : ℕ → Total → Bool
-summed start (Sum sum) = eqb sum start
-summed start Unfit = false
+unfoldable pub summed : ℕ → Option ℕ → Bool
+summed start (Some sum) = eqb sum start
+summed start None = false
 
 unfoldable pub rule7 : List ℕ → Bool
 rule7 s = summed (index_start s) (total_of s)

@@ -1,6 +1,8 @@
 // The trust image: its entries and day, one entry, the bytes of an item.
 #![tactic(auto)]
 
+mod reading;
+
 ghost use Rattle.std.specs.Prelude.{◌≡◌, cond, ℕ, ◌+◌, ◌*◌, ◌^◌, ◌≤◌, ◌<◌, leb, eqb, length, get_or, take, drop};
 ghost use Rattle.octets.specs.Octets.{number};
 ghost use Rattle.image.specs.Index.{field, index_start, width, letter_at, entry_at, entry_of};
@@ -9,6 +11,7 @@ ghost use Rattle.image.specs.Answer.{opened_of, opened_as, opened_within, opened
 
 use calendar::real_day;
 use octets::{octet, part};
+pub use reading::{Reading, read, read_as};
 use refusal::Refusal;
 
 // The octets that an index entry of every version begins with: kind, flags, length, offset.
@@ -16,13 +19,10 @@ const LEAST: usize = 8;
 
 // The number of entries, the day and the version of a good image.
 #[derive(Clone, Copy)]
-pub enum Opened {
-    Image {
-        entries: usize,
-        day: u64,
-        version: usize,
-    },
-    Refused(Refusal),
+pub struct Opened {
+    pub entries: usize,
+    pub day: u64,
+    pub version: usize,
 }
 
 // Kind 1 anchor, 2 link, 3 document signer, 4 CRL; flags 1 for an enabled anchor; where the item stands; the letters of its
@@ -37,141 +37,104 @@ pub struct IndexEntry {
     pub second: u8,
 }
 
-#[derive(Clone, Copy)]
-pub enum Place {
-    Is(IndexEntry),
-    Refused(Refusal),
-}
-
-// The sum of the lengths, where each entry is good.
-#[derive(Clone, Copy)]
-pub enum Total {
-    Sum(usize),
-    Unfit,
-}
-
 // Reads trailer and index; no item is opened.
-pub fn open(image: &[u8]) -> Opened
+pub fn open(image: &[u8]) -> Result<Opened, Refusal>
     ensures { result ≡ opened_of image.now }
 {
     open_within(image, 1, 2)
 }
 
 // The same for an image of one version: of another it is refused.
-pub fn open_as(image: &[u8], version: usize) -> Opened
+pub fn open_as(image: &[u8], version: usize) -> Result<Opened, Refusal>
     ensures { result ≡ opened_as version image.now }
 {
     open_within(image, version, version)
 }
 
 // The rules in their order, for versions from a least to a most.
-fn open_within(image: &[u8], least: usize, most: usize) -> Opened
+fn open_within(image: &[u8], least: usize, most: usize) -> Result<Opened, Refusal>
     ensures { result ≡ opened_within least most image.now }
 {
     let n = image.len();
     if n < 12 {
-        return broken(1);
+        return Err(Refusal::Image { rule: 1 });
     }
     if 262144 < n {
-        return broken(1);
+        return Err(Refusal::Image { rule: 1 });
     }
     let version = two(image, n - 6);
     if version < least {
-        return broken(2);
+        return Err(Refusal::Image { rule: 2 });
     }
     if most < version {
-        return broken(2);
+        return Err(Refusal::Image { rule: 2 });
     }
     let entries = two(image, n - 8);
     if 96 < entries {
-        return broken(3);
+        return Err(Refusal::Image { rule: 3 });
     }
     let day = four(image, n - 4) as u64;
     if !real_day(day) {
-        return broken(4);
+        return Err(Refusal::Image { rule: 4 });
     }
     let start = four(image, n - 12);
     if start + width(version) * entries + 12 != n {
-        return broken(5);
+        return Err(Refusal::Image { rule: 5 });
     }
-    let Total::Sum(sum) = sum_entries(version, image, start, entries) else {
-        return broken(6);
+    let Some(sum) = sum_entries(version, image, start, entries) else {
+        return Err(Refusal::Image { rule: 6 });
     };
     if sum != start {
-        return broken(7);
+        return Err(Refusal::Image { rule: 7 });
     }
-    Opened::Image {
+    Ok(Opened {
         entries,
         day,
         version,
-    }
+    })
 }
 
 // The same for a wanted day: a stale image is refused.
-pub fn open_for(image: &[u8], wanted: u64) -> Opened
+pub fn open_for(image: &[u8], wanted: u64) -> Result<Opened, Refusal>
     ensures { result ≡ opened_for image.now wanted }
 {
     if !real_day(wanted) {
-        return Opened::Refused(Refusal::Argument);
+        return Err(Refusal::Argument);
     }
-    match open(image) {
-        Opened::Refused(refusal) => Opened::Refused(refusal),
-        Opened::Image {
-            entries,
-            day,
-            version,
-        } => {
-            if day == wanted {
-                Opened::Image {
-                    entries,
-                    day,
-                    version,
-                }
-            } else {
-                Opened::Refused(Refusal::Day)
-            }
-        }
+    let opened = open(image)?;
+    if opened.day != wanted {
+        return Err(Refusal::Day);
     }
+    Ok(opened)
 }
 
 // One entry by its place: the image's 5, then 1 for a place that is not there.
-pub fn entry(image: &[u8], place: u64) -> Place
+pub fn entry(image: &[u8], place: u64) -> Result<IndexEntry, Refusal>
     ensures { result ≡ place_of image.now place }
 {
-    match open(image) {
-        Opened::Refused(refusal) => Place::Refused(refusal),
-        Opened::Image {
-            entries,
-            day: _,
-            version,
-        } => {
-            if place < entries as u64 {
-                Place::Is(entry_of(version, image, place as usize))
-            } else {
-                Place::Refused(Refusal::Argument)
-            }
-        }
+    let reading = read(image)?;
+    if reading.entries() as u64 <= place {
+        return Err(Refusal::Argument);
     }
+    Ok(reading.entry(place as usize))
 }
 
 // The bytes of an item, as a part of the image; an empty part on a refusal.
 pub fn item(image: &[u8], place: u64) -> &[u8]
     ensures { result.now ≡ item_of image.now place }
 {
-    let Place::Is(e) = entry(image, place) else {
+    let Ok(e) = entry(image, place) else {
         return &image[0..0];
     };
     part(image, e.offset, e.length)
 }
 
 // The octets of an index entry, by the version of the image.
+#[tactic(auto, unfolding(crate::specs::Index::width))]
 pub fn width(version: usize) -> usize
     ensures { result ≡ width version }
 {
-    if version == 2 {
-        return 12;
-    }
-    LEAST
+    if version == 2 { 12 } else { LEAST }
 }
 
 // The entry of a place as it stands in an image's index of a version; octets beyond the end are not there, and zeros where there
@@ -315,7 +278,7 @@ fn number_of(c: &[u8]) -> usize
 }
 
 // The sum of the lengths of entries in a row, if each is good.
-fn sum_entries(version: usize, image: &[u8], start: usize, entries: usize) -> Total
+fn sum_entries(version: usize, image: &[u8], start: usize, entries: usize) -> Option<usize>
     requires { (start + width version * entries + 12 ≤ length image.now) × (entries ≤ 96) }
     ensures { result ≡ sum_of version image.now start entries 0 }
 {
@@ -326,71 +289,44 @@ fn sum_entries(version: usize, image: &[u8], start: usize, entries: usize) -> To
     while at < end {
         let e = entry_at(version, image, at);
         if !entry_good(e, sum) {
-            return Total::Unfit;
+            return None;
         }
         if !padding_good(version, image, at) {
-            return Total::Unfit;
+            return None;
         }
         sum += e.length;
         at += wide;
     }
-    Total::Sum(sum)
+    Some(sum)
 }
 
 // The two octets behind the letters are zeros; version 1 has none.
+#[tactic(auto, unfolding(crate::specs::Rules::padded))]
 fn padding_good(version: usize, image: &[u8], at: usize) -> bool
     requires { at + width version ≤ length image.now }
     ensures { result ≡ padded version image.now at }
 {
-    if version != 2 {
-        return true;
-    }
-    two(image, at + 10) == 0
+    version != 2 || two(image, at + 10) == 0
 }
 
 // Kind, flags and length in their ranges, the offset the sum of the lengths before.
+#[tactic(auto, unfolding(crate::specs::Rules::entry_good))]
 fn entry_good(e: IndexEntry, sum: usize) -> bool
     ensures { result ≡ entry_good e sum }
 {
-    if !fields_good(e.kind, e.flags, e.length) {
-        return false;
-    }
-    e.offset == sum
+    fields_good(e.kind, e.flags, e.length) && e.offset == sum
 }
 
 // Kind 1 to 4, flags 0 or 1 for an anchor and 0 for any other, length 1 to 16,384.
+#[tactic(auto, unfolding(crate::specs::Rules::fields_good))]
 pub fn fields_good(kind: usize, flags: usize, length: usize) -> bool
     ensures { result ≡ fields_good kind flags length }
 {
-    if kind < 1 {
-        return false;
-    }
-    if 4 < kind {
-        return false;
-    }
-    if !flags_good(kind, flags) {
-        return false;
-    }
-    if length < 1 {
-        return false;
-    }
-    length <= 16384
+    1 <= kind && kind <= 4 && flags_good(kind, flags) && 1 <= length && length <= 16384
 }
 
 fn flags_good(kind: usize, flags: usize) -> bool
     ensures { result ≡ cond (eqb kind 1) (leb flags 1) (eqb flags 0) }
 {
-    if flags == 0 {
-        return true;
-    }
-    if kind != 1 {
-        return false;
-    }
-    flags == 1
-}
-
-fn broken(rule: u64) -> Opened
-    ensures { result ≡ Opened.Refused (Refusal.Image rule) }
-{
-    Opened::Refused(Refusal::Image { rule })
+    flags == 0 || (kind == 1 && flags == 1)
 }

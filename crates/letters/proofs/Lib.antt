@@ -1,3 +1,4 @@
+pub mod Told
 pub mod Places
 pub mod Capitals
 pub mod Theorems

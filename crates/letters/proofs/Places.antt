@@ -5,7 +5,7 @@ use mathlib.Core.Bool.{Bool, true, false}
 use mathlib.Core.List.{List}
 use native.Mathlib.Numerals.{add-one}
 use native.Mathlib.Omega.{arith}
-use lib.ListN.{length, take, drop, drop_of_length-le}
+use lib.ListN.{length, drop, drop_of_length-le}
 use Rattle.image.specs.declared.IndexEntry.{IndexEntry}
 use Rattle.image.specs.Index.{entry_count, entry_in, item_at, items_in}
 use Rattle.image.proofs.Places.{length-items, items-behind}
@@ -14,7 +14,7 @@ use Rattle.letters.specs.TrueLetters.{true_of, spells, lettered, all_lettered}
 
 -- an entry, its item's octets, the item's true letters, and whether the entry's are these
 module _ (s : List ℕ) (place : ℕ) (h : place < entry_count s) {e : IndexEntry} (is : e ≡ entry_in s place) where
-  module _ {bytes : List ℕ} (part : bytes ≡ take e.length (drop e.offset s)) where
+  module _ {bytes : List ℕ} (part : bytes ≡ (item_at s (entry_in s place)).bytes) where
     module _ {country : Country} (told : country ≡ true_of e.kind bytes) where
       module _ {answer : Bool} (spelled : answer ≡ spells e.first e.second country) where
         judged : answer ≡ lettered (item_at s (entry_in s place))

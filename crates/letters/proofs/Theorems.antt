@@ -1,4 +1,5 @@
 -- The check of an image's letters tells what stands at each place, since the item list is made entry by entry.
+use Rattle.std.specs.Prelude.{Ok}
 use Prim.Native.Nat.{ℕ, zero, suc, ◌<◌}
 use mathlib.Core.Path.{◌≡◌, refl, ◌∙◌, ap}
 use mathlib.Core.Bool.{true, and-eq-true_iff}
@@ -8,16 +9,15 @@ use native.Mathlib.Omega.{arith}
 use borrow.Author.Tests.{eqb-true, eq-eqb}
 use lib.Dec.{eqb}
 use lib.ListN.{length, get_or}
-use Rattle.image.specs.declared.Opened.TheVariants.{Image}
 use Rattle.image.specs.Items.{Item}
 use Rattle.image.specs.Index.{entry_count, entry_in, item_at, items_in}
 use Rattle.image.specs.Answer.{opened_as}
 use Rattle.image.proofs.Few.{opened-image}
 use Rattle.image.proofs.Places.{length-items, item_in}
 use Rattle.letters.specs.declared.telling.Country.{Country}
-use Rattle.letters.specs.declared.checking.Checked.TheVariants.{Told}
 use Rattle.letters.specs.TrueLetters.{true_letters, spells, lettered, all_lettered}
 use Rattle.letters.specs.Check.{on_checked, checked_of}
+use Rattle.image.proofs.Payloads.{an_image}
 
 -- two letters are a country's
 pub record Are (first second : ℕ) (country : Country) : Type 0 where
@@ -69,11 +69,11 @@ module _ (s : List ℕ) where
 
   -- Of an image of version 2 the check tells true exactly where each entry's letters are the true ones of its item.
   pub check-each :
-      (n day version : ℕ) → opened_as 2 s ≡ Image n day version → (checked_of s ≡ Told true) ↔ ((place : ℕ) → place < n → TrueAt place)
+      (n day version : ℕ) → opened_as 2 s ≡ an_image n day version → (checked_of s ≡ Ok true) ↔ ((place : ℕ) → place < n → TrueAt place)
   unfolding checked_of on_checked
   check-each n day version e =
       let many : n ≡ entry_count s = (opened-image 2 2 s n day version e).0 in
-      let told : checked_of s ≡ Told (all_lettered (items_in s)) = rw e in (
+      let told : checked_of s ≡ Ok (all_lettered (items_in s)) = rw e in (
         (λ yes. λ place h.
             let all : all_lettered (items_in s) ≡ true = cc in
             let default : Item = item_at s (entry_in s place) in
@@ -82,7 +82,7 @@ module _ (s : List ℕ) where
             lettered-true place (rw (item_in s place default inside) at one)),
         (λ each.
             told
-            ∙ ap Told
+            ∙ ap Ok
             (lettered-all (items_in s)
             (λ place default h.
             let inside : place < entry_count s = rw (length-items s) at h in

@@ -1,12 +1,11 @@
 -- The true letters of an item: those that it reports where it passes its profile for its kind, else two zeros. Time and flags
 -- play no part.
-use Rattle.std.specs.Prelude.{ℕ, Bool, true, cond, ◌&&◌, List, [], ◌∷◌, eqb}
+use Rattle.std.specs.Prelude.{ℕ, Bool, true, cond, ◌&&◌, List, [], ◌∷◌, eqb, Result, Ok, Err}
 use Rattle.der.specs.Forms.{paper}
-use Rattle.certificate.specs.declared.Judged.{Judged}
-use Rattle.certificate.specs.declared.Judged.TheVariants.{Passed, Refused}
+use Rattle.refusal.specs.declared.Refusal.{Refusal}
+use Rattle.certificate.specs.declared.Fields.{Fields}
 use Rattle.certificate.specs.Answer.{judged_of}
-use Rattle.crl.specs.declared.Judged as list-answer
-use Rattle.crl.specs.declared.Judged.TheVariants as list-judged
+use Rattle.crl.specs.declared.Fields as list-fields
 use Rattle.crl.specs.Answer as lists
 use Rattle.image.specs.Items.{Item}
 use Rattle.letters.specs.declared.telling.Country.{Country}
@@ -14,13 +13,13 @@ use Rattle.letters.specs.declared.telling.Country.{Country}
 abbrev pub no_country : Country
 no_country = record { first = 0; second = 0 }
 
-unfoldable pub of_certificate : Judged → Country
-of_certificate (Refused refusal) = no_country
-of_certificate (Passed f) = record { first = f.first; second = f.second }
+unfoldable pub of_certificate : Result Fields Refusal → Country
+of_certificate (Err refusal) = no_country
+of_certificate (Ok f) = record { first = f.first; second = f.second }
 
-unfoldable pub of_list : list-answer.Judged → Country
-of_list (list-judged.Refused refusal) = no_country
-of_list (list-judged.Passed f) = record { first = f.first; second = f.second }
+unfoldable pub of_list : Result list-fields.Fields Refusal → Country
+of_list (Err refusal) = no_country
+of_list (Ok f) = record { first = f.first; second = f.second }
 
 -- of the octets of an item of a kind: kind 4 is a CRL, any other a certificate in that role
 unfoldable pub true_of : ℕ → List ℕ → Country

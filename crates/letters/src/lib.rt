@@ -4,5 +4,5 @@
 mod checking;
 mod telling;
 
-pub use checking::{Checked, letters_true};
-pub use telling::{Country, spell, true_letters};
+pub use checking::letters_true;
+pub use telling::{Country, NO_COUNTRY, spell, true_letters};

@@ -1,4 +1,5 @@
 -- A move changes letters only, so the good chains of an image before and after it are the same, for every table and moment.
+use Rattle.std.specs.Prelude.{Ok}
 use Prim.Native.Nat.{ℕ, zero, suc, ◌≤◌}
 use mathlib.Core.Path.{◌≡◌, refl, sym, ◌∙◌, ap, ap₂}
 use mathlib.Core.Bool.{Bool}
@@ -8,7 +9,6 @@ use Rattle.octets.specs.Octets.{Octets}
 use Rattle.image.specs.Items.{Item}
 use Rattle.image.specs.Index.{entry_count, items_in}
 use Rattle.image.proofs.Places.{length-items}
-use Rattle.writer.specs.declared.Written.TheVariants.{Length}
 use Rattle.usable.specs.Items.{item_at}
 use Rattle.usable.specs.Table.{verdict_in}
 use Rattle.chain.specs.Good.{chains}
@@ -45,7 +45,7 @@ chains-moved version items verdict moment =
 
 -- The good chains of an image before and after either move are the same, for every table and moment.
 pub same-chains :
-    (version : ℕ) → 1 ≤ version → version ≤ 2 → (s : List ℕ) → Octets s → (room size : ℕ) → moved_of version s room ≡ Length size
+    (version : ℕ) → 1 ≤ version → version ≤ 2 → (s : List ℕ) → Octets s → (room size : ℕ) → moved_of version s room ≡ Ok size
     → (table : List ℕ) (moment : ℕ) → good_chains (moved_bytes version s) table moment ≡ good_chains s table moment
 same-chains version low high s o room size e table moment =
     let (readable, items) = moved-readable version low high s o room size e in

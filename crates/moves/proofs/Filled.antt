@@ -4,7 +4,7 @@ use mathlib.Core.Path.{◌≡◌, refl, sym, subst, ap, ap₂, ◌∙◌}
 use mathlib.Core.List.{List, [], ◌∷◌, ◌++◌, map}
 use native.Mathlib.Numerals.{add-one}
 use native.Mathlib.Omega.{arith}
-use lib.ListN.{length, get_or, take, drop, set, replicate, length-set, length-map, get_or-map}
+use lib.ListN.{length, get_or, take, set, replicate, length-set, length-map, get_or-map}
 use lib.Seq.{take-suc, take-suc-set, take_all}
 use Rattle.image.specs.declared.IndexEntry.{IndexEntry}
 use Rattle.image.specs.Items.{Item}
@@ -112,7 +112,7 @@ filled_none version s =
 -- one place more, whose entry and item were read
 module _ (version : ℕ) (s : List ℕ) (place : ℕ) (h : place < entry_count s) (few : place < 96) where
   module _ {e : IndexEntry} (is : e ≡ entry_in s place) (small : Small s (entry_in s place)) where
-    module _ {bytes : List ℕ} (part : bytes ≡ take e.length (drop e.offset s)) where
+    module _ {bytes : List ℕ} (part : bytes ≡ (item_at s (entry_in s place)).bytes) where
       module _ {country : Country} (told : country ≡ country_for version e.kind bytes) where
         abbrev here : Item
         here = item_at s (entry_in s place)
@@ -133,9 +133,7 @@ module _ (version : ℕ) (s : List ℕ) (place : ℕ) (h : place < entry_count s
         same_size = ap (λ (one : IndexEntry). one.length) is ∙ sym small.whole ∙ ap size_in (sym item)
 
         same_bytes : bytes ≡ (get_or (items_in s) place here).bytes
-        unfolding item_at
-        same_bytes =
-            part ∙ ap (λ (one : IndexEntry). take one.length (drop one.offset s)) is ∙ ap (λ (one : Item). one.bytes) (sym item)
+        same_bytes = part ∙ ap (λ (one : Item). one.bytes) (sym item)
 
         same-country : country ≡ country_in version (get_or (items_in s) place here)
         same-country = told ∙ ap₂ (country_for version) same_kind same_bytes

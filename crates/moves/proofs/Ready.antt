@@ -10,7 +10,6 @@ use lib.Dec.{leb, eqb}
 use lib.ListN.{length, get_or, take}
 use lib.Seq.{take_at}
 use Rattle.octets.specs.Octets.{Octets}
-use Rattle.image.specs.declared.Opened.TheVariants.{Image}
 use Rattle.image.specs.Items.{Item, packed, image_bytes}
 use Rattle.image.specs.Index.{entry_count, version_in, day_in, entry_in, item_at, items_in, width}
 use Rattle.image.specs.Rules.{fields_good}
@@ -28,6 +27,7 @@ use Rattle.roundtrip.proofs.Theorems.{write_again, place-item}
 use Rattle.moves.specs.Moving.{other, moved_items, moved_bytes, on_moved, moved_of, output_of}
 use Rattle.moves.specs.Rows.{Small}
 use Rattle.moves.proofs.Moves.{moved-kinds, moved-flags, moved-lengths, moved-packed, moved-many, moved-good}
+use Rattle.image.proofs.Payloads.{an_image}
 
 pub other-known : (version : ℕ) → (1 ≤ other version) × (other version ≤ 2)
 unfolding other
@@ -78,15 +78,15 @@ pub record Ready (version : ℕ) (s : List ℕ) (n day from : ℕ) : Type 0 wher
   pub source : from ≡ other version
   pub from_is : from ≡ version_in s
 
-module _ (version : ℕ) (s : List ℕ) (n day from : ℕ) (o : Octets s) (e : opened_as (other version) s ≡ Image n day from) where
+module _ (version : ℕ) (s : List ℕ) (n day from : ℕ) (o : Octets s) (e : opened_as (other version) s ≡ an_image n day from) where
   pub ready : Ready version s n day from
   unfolding image_bytes item_at
   ready =
       let known = other-known version in
       let (holds, entries, told, is) = opened-holds (other version) (other version) s n day from e in
       let source : from ≡ other version = omega (arith, holds.from, holds.to) in
-      let opened : opened_of s ≡ Image n day from =
-      holds_opened 1 2 s (holds-wider known.0 known.1 holds) ∙ sym (λ i. Image (entries i) (told i) (is i)) in
+      let opened : opened_of s ≡ an_image n day from =
+      holds_opened 1 2 s (holds-wider known.0 known.1 holds) ∙ sym (λ i. an_image (entries i) (told i) (is i)) in
       let (again, fits, many) = write_again s n day from o opened in
       let items : List Item = items_in s in
       record {
@@ -119,7 +119,7 @@ module _ {version : ℕ} {s : List ℕ} {n day from : ℕ} (r : Ready version s 
     -- it answers for them by their size
     pub moved-sized :
         flags ≡ flags_of items → sizes ≡ lengths_of items → letters ≡ letters_of (moved_items version items)
-        → 1 ≤ version → version ≤ 2 → opened_as (other version) s ≡ Image n day from → (room : ℕ)
+        → 1 ≤ version → version ≤ 2 → opened_as (other version) s ≡ an_image n day from → (room : ℕ)
         → writer.written_of version octets kinds flags sizes letters day room ≡ moved_of version s room
     unfolding moved_of on_moved moved_bytes version_good
     moved-sized f z l low high e room =
@@ -134,7 +134,7 @@ module _ {version : ℕ} {s : List ℕ} {n day from : ℕ} (r : Ready version s 
     -- and writes their image
     pub moved-output :
         flags ≡ flags_of items → sizes ≡ lengths_of items → letters ≡ letters_of (moved_items version items)
-        → 1 ≤ version → version ≤ 2 → opened_as (other version) s ≡ Image n day from → (old : List ℕ)
+        → 1 ≤ version → version ≤ 2 → opened_as (other version) s ≡ an_image n day from → (old : List ℕ)
         → writer.output_of version octets kinds flags sizes letters day old ≡ output_of version s old
     unfolding writer.output_of output_of moved_bytes
     moved-output f z l low high e old =

@@ -1,3 +1,4 @@
+pub mod Payloads
 pub mod Sets
 pub mod Held
 pub mod FastSets

@@ -1,5 +1,6 @@
 -- The letters of a name are told by its octets alone, wherever they stand: what is read of a stretch is read of another with the same
 -- octets, as far on.
+use Rattle.std.specs.Prelude.{Option, Some, None}
 use Prim.Native.Nat.{ℕ, zero, suc, ◌+◌, ◌-◌, ◌≤◌}
 use mathlib.Core.Path.{◌≡◌, refl, sym, ap, ◌∙◌}
 use mathlib.Core.Bool.{Bool, true, false, cond}
@@ -10,16 +11,12 @@ use lib.Dec.{leb, eqb}
 use lib.ListN.{length, take, drop, length-take, length-drop}
 use lib.Seq.{take-take}
 use Rattle.der.specs.declared.heading.Heading.{Heading}
-use Rattle.der.specs.declared.heading.Heading.TheVariants.{Header, Bad}
 use Rattle.der.specs.Forms.{paper}
 use Rattle.der.specs.Heading.{heading_of}
 use Rattle.der.specs.Member.{placed, member_of}
-use Rattle.der.specs.declared.stepping.Step.TheVariants.{Nothing}
 use Rattle.der.proofs.Bounds.{heading-within}
 use Rattle.der.proofs.Parts.{part-drop}
 use Rattle.elements.specs.declared.elements.Element.{Element}
-use Rattle.elements.specs.declared.elements.Found.{Found}
-use Rattle.elements.specs.declared.elements.Found.TheVariants.{One, Missing}
 use Rattle.elements.specs.Elements.{stepped, found_at, with_tag, found_tagged, on_found, members_of, inside, contents_of}
 use Rattle.elements.proofs.Members.{found_within, members-none, members-more}
 use Rattle.octets.specs.Alike.{alike}
@@ -27,8 +24,6 @@ use Rattle.names.specs.declared.Attribute.{Attribute}
 use Rattle.names.specs.declared.Attribute.TheVariants.{Country, Other, Misshapen}
 use Rattle.names.specs.declared.Seen.{Seen}
 use Rattle.names.specs.declared.Seen.TheVariants.{Never, Once, Often}
-use Rattle.names.specs.declared.Name.{Name}
-use Rattle.names.specs.declared.Name.TheVariants.{Holds, Shapeless}
 use Rattle.names.specs.Names.{country_name, attribute_of, one_more, attributed, attributes_of, one_set, after_set, sets_of, name_of, letters_in, letters_of}
 
 -- a part of a stretch
@@ -84,22 +79,22 @@ module _ (s t : List ℕ) (a b size : ℕ) (same : take size (drop a s) ≡ take
   tag_same : {x y : Element} → Twin x y → (tag : ℕ) → eqb x.tag tag ≡ eqb y.tag tag
   tag_same w tag = ap (λ (n : ℕ). eqb n tag) w.tag
 
-  data Both : Found → Found → Type 0 where
-    neither : Both Missing Missing
-    each : {x y : Element} → Twin x y → Both (One x) (One y)
+  data Both : Option Element → Option Element → Type 0 where
+    neither : Both None None
+    each : {x y : Element} → Twin x y → Both (Some x) (Some y)
 
   headed :
-      (m n p q : ℕ) → m + b ≡ p + a → n + b ≡ q + a → a ≤ m → m ≤ n → n ≤ a + size → (h : Heading)
+      (m n p q : ℕ) → m + b ≡ p + a → n + b ≡ q + a → a ≤ m → m ≤ n → n ≤ a + size → (h : Option Heading)
       → heading_of paper (take (q - p) (drop p t)) ≡ h → Both (stepped m (placed m h)) (stepped p (placed p h))
   unfolding stepped placed
-  headed m n p q e f low order high Bad h = neither
-  headed m n p q e f low order high (Header tag skip count) h =
-      let w = heading-within paper (take (q - p) (drop p t)) tag skip count h in
+  headed m n p q e f low order high None h = neither
+  headed m n p q e f low order high (Some h1) h =
+      let w = heading-within paper (take (q - p) (drop p t)) h1.tag h1.skip h1.size h in
       let l = length-take (q - p) (drop p t) in
       let k = length-drop p t in
       each
-      {x = record { tag = tag; at = m; contents = m + skip; end = m + skip + count }}
-      {y = record { tag = tag; at = p; contents = p + skip; end = p + skip + count }}
+      {x = record { tag = h1.tag; at = m; contents = m + h1.skip; end = m + h1.skip + h1.size }}
+      {y = record { tag = h1.tag; at = p; contents = p + h1.skip; end = p + h1.skip + h1.size }}
       (record {
         tag = refl;
         contents = omega arith;
@@ -115,8 +110,8 @@ module _ (s t : List ℕ) (a b size : ℕ) (same : take size (drop a s) ≡ take
     where
       go :
           (g : Bool) → leb m n ≡ g → (h : Bool) → leb p q ≡ h
-          → Both (stepped m (cond g (cond (leb n (length s)) (placed m (heading_of paper (take (n - m) (drop m s)))) Nothing) Nothing))
-          (stepped p (cond h (cond (leb q (length t)) (placed p (heading_of paper (take (q - p) (drop p t)))) Nothing) Nothing))
+          → Both (stepped m (cond g (cond (leb n (length s)) (placed m (heading_of paper (take (n - m) (drop m s)))) None) None))
+          (stepped p (cond h (cond (leb q (length t)) (placed p (heading_of paper (take (q - p) (drop p t)))) None) None))
       go true u true v =
           let order : m ≤ n = leb-true m n u in
           let here : leb n (length s) ≡ true = le-leb n (length s) (omega arith) in
@@ -127,14 +122,14 @@ module _ (s t : List ℕ) (a b size : ℕ) (same : take size (drop a s) ≡ take
       go true u false v = absurd (let k = leb-true m n u in let l = leb-false p q v in omega arith)
       go false u true v = absurd (let k = leb-false m n u in let l = leb-true p q v in omega arith)
 
-  tagged-both : (tag : ℕ) {f g : Found} → Both f g → Both (with_tag tag f) (with_tag tag g)
+  tagged-both : (tag : ℕ) {f g : Option Element} → Both f g → Both (with_tag tag f) (with_tag tag g)
   unfolding with_tag
   tagged-both tag neither = neither
   tagged-both tag (each {x = x} {y = y} w) = cond_both Both (eqb x.tag tag) (eqb y.tag tag) (tag_same w tag) (each w) neither
 
   on_both :
-      {A : Type 0} (R : A → A → Type 0) {f g : Found} {u v : A} {k l : Element → A} → Both f g → R u v
-      → ((x y : Element) → f ≡ One x → Twin x y → R (k x) (l y)) → R (on_found f u k) (on_found g v l)
+      {A : Type 0} (R : A → A → Type 0) {f g : Option Element} {u v : A} {k l : Element → A} → Both f g → R u v
+      → ((x y : Element) → f ≡ Some x → Twin x y → R (k x) (l y)) → R (on_found f u k) (on_found g v l)
   unfolding on_found
   on_both R neither r q = r
   on_both R (each {x = x} {y = y} w) r q = q x y refl w
@@ -152,24 +147,24 @@ module _ (s t : List ℕ) (a b size : ℕ) (same : take size (drop a s) ≡ take
       → Lists (members_of paper s m n) (members_of paper t p q)
   members-both zero m n p q enough e f low high = go (found_at paper s m n) (found_at paper t p q) refl refl (found-both m n p q e f low high)
     where
-      go : (u v : Found) → found_at paper s m n ≡ u → found_at paper t p q ≡ v → Both u v → Lists (members_of paper s m n) (members_of paper t p q)
-      go Missing Missing g h neither = rw (members-none s m n g, members-none t p q h) none
-      go (One x) (One y) g h (each w) = absurd (omega (arith, found_within s m n g))
-      go (One x) Missing g h b = elim b [ ]
-      go Missing (One y) g h b = elim b [ ]
+      go : (u v : Option Element) → found_at paper s m n ≡ u → found_at paper t p q ≡ v → Both u v → Lists (members_of paper s m n) (members_of paper t p q)
+      go None None g h neither = rw (members-none s m n g, members-none t p q h) none
+      go (Some x) (Some y) g h (each w) = absurd (omega (arith, found_within s m n g))
+      go (Some x) None g h b = elim b [ ]
+      go None (Some y) g h b = elim b [ ]
   members-both (suc fuel) m n p q enough e f low high =
       go (λ x y. members-both fuel x.end n y.end q) (found_at paper s m n) (found_at paper t p q) refl refl (found-both m n p q e f low high)
     where
       go :
           ((x y : Element) → n - x.end ≤ fuel → x.end + b ≡ y.end + a → n + b ≡ q + a → a ≤ x.end → n ≤ a + size
           → Lists (members_of paper s x.end n) (members_of paper t y.end q))
-          → (u v : Found) → found_at paper s m n ≡ u → found_at paper t p q ≡ v → Both u v → Lists (members_of paper s m n) (members_of paper t p q)
-      go rest Missing Missing g h neither = rw (members-none s m n g, members-none t p q h) none
-      go rest (One x) (One y) g h (each w) =
+          → (u v : Option Element) → found_at paper s m n ≡ u → found_at paper t p q ≡ v → Both u v → Lists (members_of paper s m n) (members_of paper t p q)
+      go rest None None g h neither = rw (members-none s m n g, members-none t p q h) none
+      go rest (Some x) (Some y) g h (each w) =
           rw (members-more s m n g, members-more t p q h)
           (more w (rest x y (omega (arith, found_within s m n g)) w.end f (omega (arith, w.low, w.order)) high))
-      go rest (One x) Missing g h b = elim b [ ]
-      go rest Missing (One y) g h b = elim b [ ]
+      go rest (Some x) None g h b = elim b [ ]
+      go rest None (Some y) g h b = elim b [ ]
 
   inside_both : {x y : Element} → Twin x y → Lists (inside paper s x) (inside paper t y)
   unfolding inside
@@ -205,12 +200,12 @@ module _ (s t : List ℕ) (a b size : ℕ) (same : take size (drop a s) ≡ take
   one-both (once v) w = often
   one-both often w = often
 
-  data Names : Name → Name → Type 0 where
-    shapeless : Names Shapeless Shapeless
-    holds : {p q : Seen} → Sees p q → Names (Holds p) (Holds q)
+  data Names : Option Seen → Option Seen → Type 0 where
+    shapeless : Names None None
+    holds : {p q : Seen} → Sees p q → Names (Some p) (Some q)
 
   attributed-both :
-      {u v : Attribute} {p q : Seen} {k l : Seen → Name} → Tells u v → Sees p q → ((g h : Seen) → Sees g h → Names (k g) (l h))
+      {u v : Attribute} {p q : Seen} {k l : Seen → Option Seen} → Tells u v → Sees p q → ((g h : Seen) → Sees g h → Names (k g) (l h))
       → Names (attributed u p k) (attributed v q l)
   unfolding attributed
   attributed-both misshapen e next = shapeless
@@ -231,7 +226,7 @@ module _ (s t : List ℕ) (a b size : ℕ) (same : take size (drop a s) ≡ take
       shapeless
 
   after_both :
-      {u v : Name} {k l : Seen → Name} → Names u v → ((g h : Seen) → Sees g h → Names (k g) (l h)) → Names (after_set u k) (after_set v l)
+      {u v : Option Seen} {k l : Seen → Option Seen} → Names u v → ((g h : Seen) → Sees g h → Names (k g) (l h)) → Names (after_set u k) (after_set v l)
   unfolding after_set
   after_both shapeless next = shapeless
   after_both (holds {p = p} {q = q} e) next = next p q e
@@ -253,14 +248,14 @@ module _ (s t : List ℕ) (a b size : ℕ) (same : take size (drop a s) ≡ take
   letters-both (once {x = x} {y = y} w) = ap (λ (n : ℕ). letters_in n (contents_of s x)) w.tag ∙ ap (letters_in y.tag) (twin-contents w)
 
   -- the letters of one name are those of the other
-  pub moved-letters : {x y : Element} {p q : Seen} → Twin x y → name_of paper s x ≡ Holds p → name_of paper t y ≡ Holds q → letters_of s p ≡ letters_of t q
+  pub moved-letters : {x y : Element} {p q : Seen} → Twin x y → name_of paper s x ≡ Some p → name_of paper t y ≡ Some q → letters_of s p ≡ letters_of t q
   moved-letters {x} {y} {p} {q} w e f = go (name_of paper s x) (name_of paper t y) e f (name-both w)
     where
-      go : (u v : Name) → u ≡ Holds p → v ≡ Holds q → Names u v → letters_of s p ≡ letters_of t q
-      go Shapeless Shapeless g h shapeless = absurd (let z : ◌≡◌ {A = ℕ} 0 1 = cc in omega arith)
-      go (Holds c) (Holds d) g h (holds k) =
+      go : (u v : Option Seen) → u ≡ Some p → v ≡ Some q → Names u v → letters_of s p ≡ letters_of t q
+      go None None g h shapeless = absurd (let z : ◌≡◌ {A = ℕ} 0 1 = cc in omega arith)
+      go (Some c) (Some d) g h (holds k) =
           let i : c ≡ p = cc in
           let j : d ≡ q = cc in
           ap (letters_of s) (sym i) ∙ letters-both k ∙ ap (letters_of t) j
-      go (Holds c) Shapeless g h b = elim b [ ]
-      go Shapeless (Holds d) g h b = elim b [ ]
+      go (Some c) None g h b = elim b [ ]
+      go None (Some d) g h b = elim b [ ]

@@ -1,4 +1,5 @@
 -- Names that are equal octet by octet have the same letters: their headers have as many octets, so their contents are equal too.
+use Rattle.std.specs.Prelude.{Option, Some, None}
 use Prim.Native.Nat.{ℕ, ◌+◌, ◌-◌}
 use mathlib.Core.Path.{◌≡◌, refl, sym, ap, ◌∙◌}
 use mathlib.Core.Bool.{Bool, true, false, cond, ◌&&◌}
@@ -9,29 +10,24 @@ use lib.Dec.{leb, ltb, eqb}
 use lib.ListN.{length, get_or, take, drop, length-drop}
 use lib.Seq.{length-take-le, get_or-take, get_or-drop}
 use Rattle.der.specs.declared.heading.Heading.{Heading}
-use Rattle.der.specs.declared.heading.Heading.TheVariants.{Header, Bad}
 use Rattle.der.specs.Forms.{paper}
 use Rattle.der.specs.Heading.{identifier_good, within, smallest, long, sized, wide_heading, heading_of}
 use Rattle.der.specs.Member.{placed, member_of}
-use Rattle.der.specs.declared.stepping.Step.TheVariants.{Nothing}
 use Rattle.elements.specs.declared.elements.Element.{Element}
-use Rattle.elements.specs.declared.elements.Found.{Found}
-use Rattle.elements.specs.declared.elements.Found.TheVariants.{One, Missing}
 use Rattle.elements.specs.Elements.{stepped, found_at, with_tag, found_tagged}
 use Rattle.elements.proofs.Members.{found_within}
 use Rattle.octets.specs.Octets.{number}
 use Rattle.names.specs.declared.Seen.{Seen}
-use Rattle.names.specs.declared.Name.TheVariants.{Holds}
-use Rattle.names.specs.declared.Letters.{Letters}
-use Rattle.names.specs.declared.Letters.TheVariants.{Two}
 use Rattle.names.specs.Names.{name_of, letters_of}
 use Rattle.names.proofs.Moved.{Twin, moved-letters}
+use Rattle.der.proofs.Payloads.{a_heading, skip_in}
+use Rattle.names.proofs.Payloads.{some_letters, two_same}
 
 -- how many octets a header has, by its second
 unfoldable skip_of : ℕ → ℕ
 skip_of octet = cond (ltb octet 128) 2 (2 + (octet - 128))
 
-heading-skip : (s : List ℕ) (tag skip count : ℕ) → heading_of paper s ≡ Header tag skip count → skip ≡ skip_of (get_or s 1 0)
+heading-skip : (s : List ℕ) (tag skip count : ℕ) → heading_of paper s ≡ a_heading tag skip count → skip ≡ skip_of (get_or s 1 0)
 unfolding heading_of sized wide_heading long within skip_of
 heading-skip s tag skip count e =
     go (ltb (length s) 2) (identifier_good (get_or s 0 0)) (leb (length s) 1) (ltb (get_or s 1 0) 128) (leb (2 + get_or s 1 0) (length s))
@@ -41,31 +37,31 @@ heading-skip s tag skip count e =
     k : ℕ
     k = get_or s 1 0 - 128
 
-    bad : {A : Type 0} → ◌≡◌ {A = Heading} Bad (Header tag skip count) → A
+    bad : {A : Type 0} → ◌≡◌ {A = (Option Heading)} None (a_heading tag skip count) → A
     bad p = absurd (let z : ◌≡◌ {A = ℕ} 0 1 = cc in omega arith)
 
     go :
         (x y none short fits many least room : Bool)
-        → cond x Bad
+        → cond x None
         (cond y
-        (cond none Bad
-        (cond short (cond fits (Header (get_or s 0 0) 2 (get_or s 1 0)) Bad)
-        (cond many (cond least (cond room (Header (get_or s 0 0) (2 + k) (number (take k (drop 2 s)))) Bad) Bad) Bad)))
-        Bad)
-        ≡ Header tag skip count
+        (cond none None
+        (cond short (cond fits (a_heading (get_or s 0 0) 2 (get_or s 1 0)) None)
+        (cond many (cond least (cond room (a_heading (get_or s 0 0) (2 + k) (number (take k (drop 2 s)))) None) None) None)))
+        None)
+        ≡ a_heading tag skip count
         → skip ≡ cond short 2 (2 + k)
     go true y none short fits many least room p = bad p
     go false false none short fits many least room p = bad p
     go false true true short fits many least room p = bad p
     go false true false true false many least room p = bad p
-    go false true false true true many least room p = cc
+    go false true false true true many least room p = sym (ap skip_in p)
     go false true false false fits false least room p = bad p
     go false true false false fits true false room p = bad p
     go false true false false fits true true false p = bad p
-    go false true false false fits true true true p = cc
+    go false true false false fits true true true p = sym (ap skip_in p)
 
 -- where the contents of an element start, by its second octet
-contents-at : (s : List ℕ) (from end : ℕ) (e : Element) → found_at paper s from end ≡ One e → e.contents ≡ from + skip_of (get_or s (from + 1) 0)
+contents-at : (s : List ℕ) (from end : ℕ) (e : Element) → found_at paper s from end ≡ Some e → e.contents ≡ from + skip_of (get_or s (from + 1) 0)
 unfolding found_at stepped member_of placed
 contents-at s from end e h =
     let w = found_within s from end h in
@@ -73,14 +69,14 @@ contents-at s from end e h =
     (get_or-take (end - from) (drop from s) 1 0 (omega (arith, w)) ∙ get_or-drop from s 1 0) h
   where
     go :
-        (x y : Bool) (g : Heading) → heading_of paper (take (end - from) (drop from s)) ≡ g
+        (x y : Bool) (g : Option Heading) → heading_of paper (take (end - from) (drop from s)) ≡ g
         → get_or (take (end - from) (drop from s)) 1 0 ≡ get_or s (from + 1) 0
-        → stepped from (cond x (cond y (placed from g) Nothing) Nothing) ≡ One e → e.contents ≡ from + skip_of (get_or s (from + 1) 0)
-    go true true (Header tag skip count) k o p =
-        let skips : skip ≡ skip_of (get_or s (from + 1) 0) = heading-skip _ tag skip count k ∙ ap skip_of o in
-        let there : from + skip ≡ e.contents = cc in
+        → stepped from (cond x (cond y (placed from g) None) None) ≡ Some e → e.contents ≡ from + skip_of (get_or s (from + 1) 0)
+    go true true (Some h) k o p =
+        let skips : h.skip ≡ skip_of (get_or s (from + 1) 0) = heading-skip _ h.tag h.skip h.size k ∙ ap skip_of o in
+        let there : from + h.skip ≡ e.contents = cc in
         rw (← skips) (sym there)
-    go true true Bad k o p = absurd (let z : ◌≡◌ {A = ℕ} 0 1 = cc in omega arith)
+    go true true None k o p = absurd (let z : ◌≡◌ {A = ℕ} 0 1 = cc in omega arith)
     go true false g k o p = absurd (let z : ◌≡◌ {A = ℕ} 0 1 = cc in omega arith)
     go false y g k o p = absurd (let z : ◌≡◌ {A = ℕ} 0 1 = cc in omega arith)
 
@@ -88,18 +84,18 @@ contents-at s from end e h =
 pub record NameAt (s : List ℕ) (at size first second : ℕ) : Type 0 where
   pub element : Element
   pub end : ℕ
-  pub found : found_tagged paper s at end 0x30 ≡ One element
+  pub found : found_tagged paper s at end 0x30 ≡ Some element
   pub long : size ≡ element.end - at
   pub seen : Seen
-  pub named : name_of paper s element ≡ Holds seen
-  pub letters : letters_of s seen ≡ Two first second
+  pub named : name_of paper s element ≡ Some seen
+  pub letters : letters_of s seen ≡ some_letters first second
 
-tagged-found : (f : Found) (tag : ℕ) (e : Element) → with_tag tag f ≡ One e → (f ≡ One e) × (e.tag ≡ tag)
+tagged-found : (f : Option Element) (tag : ℕ) (e : Element) → with_tag tag f ≡ Some e → (f ≡ Some e) × (e.tag ≡ tag)
 unfolding with_tag
-tagged-found Missing tag e h = absurd (let z : ◌≡◌ {A = ℕ} 0 1 = cc in omega arith)
-tagged-found (One x) tag e h = go (eqb x.tag tag) refl h
+tagged-found None tag e h = absurd (let z : ◌≡◌ {A = ℕ} 0 1 = cc in omega arith)
+tagged-found (Some x) tag e h = go (eqb x.tag tag) refl h
   where
-    go : (b : Bool) → eqb x.tag tag ≡ b → cond b (One x) Missing ≡ One e → (◌≡◌ {A = Found} (One x) (One e)) × (e.tag ≡ tag)
+    go : (b : Bool) → eqb x.tag tag ≡ b → cond b (Some x) None ≡ Some e → (◌≡◌ {A = (Option Element)} (Some x) (Some e)) × (e.tag ≡ tag)
     go true k p = let same : x ≡ e = cc in (p, ap (λ (y : Element). y.tag) (sym same) ∙ eqb-true x.tag tag k)
     go false k p = absurd (let z : ◌≡◌ {A = ℕ} 0 1 = cc in omega arith)
 
@@ -132,7 +128,4 @@ same-letters {s} {t} {at} {size} {from} {other} {a} {b} {c} {d} x y same =
       order = omega (arith, g);
       high = omega (arith, g, x.long);
     } in
-    two (sym x.letters ∙ moved-letters s t at from size _ _ _ twin x.named y.named ∙ y.letters)
-  where
-    two : ◌≡◌ {A = Letters} (Two a b) (Two c d) → (a ≡ c) × (b ≡ d)
-    two p = (cc, cc)
+    two_same (sym x.letters ∙ moved-letters s t at from size _ _ _ twin x.named y.named ∙ y.letters)

@@ -1,66 +1,43 @@
 // The fast path for a SET of a name with one attribute, all headers short.
-ghost use Rattle.std.specs.Prelude.{◌≡◌, ◌<◌};
-ghost use Rattle.names.specs.Fast.{Another, Land};
+ghost use Rattle.std.specs.Prelude.{IfSome};
+ghost use Rattle.names.specs.Fast.{Alone};
 
-use elements::short_end;
+use elements::{Element, fills, short_end};
 
-// Where the SET at `at` ends if it has one attribute, with short headers, a string as its value and an OID that cannot be
-// countryName by its last octet; else 0.
-pub(crate) fn other_set(item: &[u8], at: usize, end: usize) -> usize
-    ensures { 0 < result → Another item.now at end result }
-{
-    let after = short_end(item, at, end, 0x31);
-    if after == 0 {
-        return 0;
-    }
-    if short_end(item, at + 2, after, 0x30) != after {
-        return 0;
-    }
-    let value = short_end(item, at + 4, after, 0x06);
-    if value == 0 {
-        return 0;
-    }
-    if item[value - 1] == 0x06 {
-        return 0;
-    }
-    if short_end(item, value, after, 0x13) == after {
-        return after;
-    }
-    if short_end(item, value, after, 0x0c) == after {
-        return after;
-    }
-    0
+// Where a SET with one attribute ends, and the value of that if it is a countryName.
+#[derive(Clone, Copy)]
+pub struct Lone {
+    pub end: usize,
+    pub country: Option<Element>,
 }
 
-// Where the SET at `at` ends if its one attribute is a countryName with a PrintableString; else 0.
-pub(crate) fn country_set(item: &[u8], at: usize, end: usize) -> usize
-    ensures { 0 < result → Land item.now at end result }
+// The SET at `at` if it has one attribute, with short headers. The value is a PrintableString; after an OID that cannot be countryName
+// by its last octet also a UTF8String.
+pub(crate) fn lone_set(item: &[u8], at: usize, end: usize) -> Option<Lone>
+    ensures { IfSome result (λ set. Alone item.now at end set) }
 {
-    let after = short_end(item, at, end, 0x31);
-    if after == 0 {
-        return 0;
+    let end = short_end(item, at, end, 0x31)?;
+    if !fills(item, at + 2, end, 0x30) {
+        return None;
     }
-    if short_end(item, at + 2, after, 0x30) != after {
-        return 0;
+    let value = short_end(item, at + 4, end, 0x06)?;
+    if item[value - 1] != 0x06 {
+        if fills(item, value, end, 0x13) || fills(item, value, end, 0x0c) {
+            return Some(Lone { end, country: None });
+        }
+        return None;
     }
-    let value = short_end(item, at + 4, after, 0x06);
-    if value == 0 {
-        return 0;
+    if value - at != 9 || item[at + 6] != 0x55 || item[at + 7] != 0x04 {
+        return None;
     }
-    if value - at != 9 {
-        return 0;
+    if !fills(item, value, end, 0x13) {
+        return None;
     }
-    if item[at + 6] != 0x55 {
-        return 0;
-    }
-    if item[at + 7] != 0x04 {
-        return 0;
-    }
-    if item[at + 8] != 0x06 {
-        return 0;
-    }
-    if short_end(item, value, after, 0x13) == after {
-        return after;
-    }
-    0
+    let country = Some(Element {
+        tag: 0x13,
+        at: value,
+        contents: value + 2,
+        end,
+    });
+    Some(Lone { end, country })
 }

@@ -9,8 +9,8 @@ ghost use Rattle.der.specs.Forms.{paper};
 ghost use Rattle.names.specs.Names.{attribute_of, one_more, one_set, name_of, is_capital, letters_of, first_letter, second_letter};
 
 pub use country::country_in;
-use elements::{Element, Found, contents, element_at, element_tagged, holds};
-use fast::{country_set, other_set};
+use elements::{Element, contents, element_at, element_tagged, holds};
+use fast::lone_set;
 
 // The value of a countryName, another attribute, or what is none.
 #[derive(Clone, Copy)]
@@ -28,78 +28,55 @@ pub enum Seen {
     Often,
 }
 
-// What a name holds of countryNames, or that it has not the shape of a name.
-#[derive(Clone, Copy)]
-pub enum Name {
-    Holds(Seen),
-    Shapeless,
-}
-
 // Two letters A to Z, or no such country.
 #[derive(Clone, Copy)]
-pub enum Letters {
-    Two { first: u8, second: u8 },
-    Unfit,
+pub struct Letters {
+    pub first: u8,
+    pub second: u8,
 }
 
 // A SEQUENCE of non-empty SETs of SEQUENCE {OID, one element}.
-pub fn name_of(item: &[u8], e: Element) -> Name
+pub fn name_of(item: &[u8], e: Element) -> Option<Seen>
     ensures { result ≡ name_of paper item.now e }
 {
     if e.tag != 0x30 {
-        return Name::Shapeless;
+        return None;
     }
     let mut seen = Seen::Never;
     let mut at = e.contents;
     loop {
-        let past = other_set(item, at, e.end);
-        if 0 < past {
-            at = past;
+        if let Some(set) = lone_set(item, at, e.end) {
+            if let Some(value) = set.country {
+                seen = one_more(seen, value);
+            }
+            at = set.end;
             continue;
         }
-        let past = country_set(item, at, e.end);
-        if 0 < past {
-            let value = Element {
-                tag: 0x13,
-                at: at + 9,
-                contents: at + 11,
-                end: past,
-            };
-            seen = one_more(seen, value);
-            at = past;
-            continue;
-        }
-        let Found::One(set) = element_at(item, at, e.end) else {
-            return Name::Holds(seen);
+        let Some(set) = element_at(item, at, e.end) else {
+            return Some(seen);
         };
-        let Name::Holds(more) = set_of(item, set, seen) else {
-            return Name::Shapeless;
-        };
-        seen = more;
+        seen = set_of(item, set, seen)?;
         at = set.end;
     }
 }
 
 // One SET of a name, after the countryNames seen before it.
-fn set_of(item: &[u8], e: Element, before: Seen) -> Name
+fn set_of(item: &[u8], e: Element, before: Seen) -> Option<Seen>
     ensures { result ≡ one_set paper item.now e before }
 {
     if e.tag != 0x31 {
-        return Name::Shapeless;
+        return None;
     }
-    let Found::One(first) = element_at(item, e.contents, e.end) else {
-        return Name::Shapeless;
-    };
+    let mut attribute = element_at(item, e.contents, e.end)?;
     let mut seen = before;
-    let mut attribute = first;
     loop {
         match attribute_of(item, attribute) {
-            Attribute::Misshapen => return Name::Shapeless,
+            Attribute::Misshapen => return None,
             Attribute::Other => {}
             Attribute::Country(value) => seen = one_more(seen, value),
         }
-        let Found::One(next) = element_at(item, attribute.end, e.end) else {
-            return Name::Holds(seen);
+        let Some(next) = element_at(item, attribute.end, e.end) else {
+            return Some(seen);
         };
         attribute = next;
     }
@@ -112,10 +89,10 @@ fn attribute_of(item: &[u8], e: Element) -> Attribute
     if e.tag != 0x30 {
         return Attribute::Misshapen;
     }
-    let Found::One(oid) = element_tagged(item, e.contents, e.end, 0x06) else {
+    let Some(oid) = element_tagged(item, e.contents, e.end, 0x06) else {
         return Attribute::Misshapen;
     };
-    let Found::One(value) = element_at(item, oid.end, e.end) else {
+    let Some(value) = element_at(item, oid.end, e.end) else {
         return Attribute::Misshapen;
     };
     if value.end != e.end {
@@ -127,65 +104,51 @@ fn attribute_of(item: &[u8], e: Element) -> Attribute
     Attribute::Other
 }
 
+#[tactic(auto, unfolding(crate::specs::Names::one_more))]
 fn one_more(seen: Seen, value: Element) -> Seen
     ensures { result ≡ one_more seen value }
 {
     match seen {
         Seen::Never => Seen::Once(value),
-        Seen::Once(_) => Seen::Often,
-        Seen::Often => Seen::Often,
+        Seen::Once(_) | Seen::Often => Seen::Often,
     }
 }
 
 // The letters of a countryName that stands once, as PrintableString of two letters A to Z.
-pub fn letters_of(item: &[u8], seen: Seen) -> Letters
+pub fn letters_of(item: &[u8], seen: Seen) -> Option<Letters>
     ensures { result ≡ letters_of item.now seen }
 {
     let Seen::Once(value) = seen else {
-        return Letters::Unfit;
+        return None;
     };
     if value.tag != 0x13 {
-        return Letters::Unfit;
+        return None;
     }
     let c = contents(item, value);
-    if c.len() != 2 {
-        return Letters::Unfit;
+    if c.len() != 2 || !capital(c[0]) || !capital(c[1]) {
+        return None;
     }
-    if !capital(c[0]) {
-        return Letters::Unfit;
-    }
-    if !capital(c[1]) {
-        return Letters::Unfit;
-    }
-    Letters::Two {
+    Some(Letters {
         first: c[0],
         second: c[1],
-    }
+    })
 }
 
+#[tactic(auto, using(std::proofs::lemmas::Bool::Decides::nat_tests), unfolding(crate::specs::Names::is_capital))]
 fn capital(o: u8) -> bool
     ensures { result ≡ is_capital o }
 {
-    if o < 65 {
-        return false;
-    }
-    o <= 90
+    matches!(o, b'A'..=b'Z')
 }
 
-pub fn first_letter(letters: Letters) -> u8
+pub fn first_letter(letters: Option<Letters>) -> u8
     ensures { result ≡ first_letter letters }
 {
-    match letters {
-        Letters::Two { first, second: _ } => first,
-        Letters::Unfit => 0,
-    }
+    letters.map_or(0, |l| l.first)
 }
 
-pub fn second_letter(letters: Letters) -> u8
+pub fn second_letter(letters: Option<Letters>) -> u8
     ensures { result ≡ second_letter letters }
 {
-    match letters {
-        Letters::Two { first: _, second } => second,
-        Letters::Unfit => 0,
-    }
+    letters.map_or(0, |l| l.second)
 }

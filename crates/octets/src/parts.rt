@@ -5,30 +5,20 @@ ghost use Rattle.std.specs.Prelude.{◌≡◌, ◌-◌, get_or, take, drop};
 pub fn part(octets: &[u8], from: usize, size: usize) -> &[u8]
     ensures { result.now ≡ take size (drop from octets.now) }
 {
-    let n = octets.len();
-    if n < from {
-        return &octets[0..0];
-    }
-    if n - from < size {
-        return &octets[from..];
-    }
-    let end = from + size;
-    &octets[from..end]
+    let rest = octets.get(from..).unwrap_or(&[]);
+    rest.get(..size).unwrap_or(rest)
 }
 
 // How many octets stand from one offset to another.
 pub fn between(at: usize, end: usize) -> usize
     ensures { result ≡ end - at }
 {
-    if end < at {
-        return 0;
-    }
-    end - at
+    end.saturating_sub(at)
 }
 
 // An octet of a table, 0 beyond its end.
 pub fn octet(table: &[u8], i: usize) -> u8
     ensures { result ≡ get_or table.now i 0 }
 {
-    if i < table.len() { table[i] } else { 0 }
+    table.get(i).copied().unwrap_or(0)
 }

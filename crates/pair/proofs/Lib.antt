@@ -1,3 +1,4 @@
+pub mod Payloads
 pub mod Within
 pub mod PartLaws
 pub mod PlaceLaws

@@ -1,4 +1,5 @@
 -- The entries that the rules let pass: each has its fields in their ranges, and its item lies within the image, before the index.
+use Rattle.std.specs.Prelude.{Some}
 use mathlib.Core.Path.{◌≡◌}
 use mathlib.Core.Bool.{true, cond, and-eq-true_iff}
 use mathlib.Core.List.{List}
@@ -8,13 +9,12 @@ use borrow.Author.Tests.{leb-true}
 use lib.Dec.{leb, eqb}
 use lib.ListN.{length}
 use Rattle.image.specs.declared.IndexEntry.{IndexEntry}
-use Rattle.image.specs.declared.Opened.TheVariants.{Image}
-use Rattle.image.specs.declared.Total.TheVariants.{Sum}
 use Rattle.image.specs.Index.{entry_at, entry_in, index_start, entry_count, version_in, width}
 use Rattle.image.specs.Rules.{fields_good, sum_of, total_of}
 use Rattle.image.specs.Answer.{opened_within}
 use Rattle.roundtrip.proofs.Opening.{opened-holds}
 use Rattle.roundtrip.proofs.Again.{passed, sum-grows}
+use Rattle.image.proofs.Payloads.{an_image}
 
 -- an item of at least one octet that ends by some offset
 pub record Inside (end : ℕ) (e : IndexEntry) : Type 0 where
@@ -30,7 +30,7 @@ some-octet kind flags size good =
     leb-true 1 size ((and-eq-true_iff (leb 1 size) _).0 c.1).0
 
 entry-within :
-    (version : ℕ) (s : List ℕ) (left at sum total place : ℕ) → place < left → sum_of version s at left sum ≡ Sum total
+    (version : ℕ) (s : List ℕ) (left at sum total place : ℕ) → place < left → sum_of version s at left sum ≡ Some total
     → Inside total (entry_at version s (at + width version * place))
 entry-within version s zero at sum total place h e = absurd (omega arith)
 entry-within version s (suc left) at sum total zero h e =
@@ -44,7 +44,7 @@ entry-within version s (suc left) at sum total (suc place) h e =
 
 -- of an image that is opened
 pub entry-inside :
-    (least most : ℕ) (s : List ℕ) (n day version place : ℕ) → opened_within least most s ≡ Image n day version → place < n
+    (least most : ℕ) (s : List ℕ) (n day version place : ℕ) → opened_within least most s ≡ an_image n day version → place < n
     → Inside (length s) (entry_in s place)
 unfolding entry_in total_of
 entry-inside least most s n day version place e h =

@@ -5,12 +5,11 @@ mod fetching;
 mod parts;
 mod places;
 
-ghost use Rattle.std.specs.Prelude.{◌≡◌, ◌≤◌};
-ghost use Rattle.image.specs.Answer.{opened_of};
-ghost use Rattle.pair.specs.Answer.{pair_of, on_update};
+ghost use Rattle.std.specs.Prelude.{◌≡◌};
+ghost use Rattle.pair.specs.Answer.{pair_of};
 
 pub use fetching::{Held, fetch, pair_entry};
-use image::{Opened, open};
+use image::read;
 pub use parts::part_over;
 pub use places::{Kinds, alone, entry_over, kinds_over};
 use refusal::Refusal;
@@ -26,52 +25,31 @@ pub struct Span {
 
 // The places of both images, and the update's day.
 #[derive(Clone, Copy)]
-pub enum Joint {
-    Both { span: Span, day: u64 },
-    Refused(Refusal),
+pub struct Joint {
+    pub span: Span,
+    pub day: u64,
 }
 
 // Reads trailers and indexes. Refusals in order: 5 of the first image, 5 of the update, 3 for over 96 entries together, 6 for an update
 // whose day is earlier.
-pub fn open_pair(first: &[u8], update: &[u8]) -> Joint
+pub fn open_pair(first: &[u8], update: &[u8]) -> Result<Joint, Refusal>
     ensures { result ≡ pair_of first.now update.now }
 {
-    match open(first) {
-        Opened::Refused(refusal) => Joint::Refused(refusal),
-        Opened::Image {
-            entries,
-            day,
-            version,
-        } => joined(entries, day, version, update),
+    let own = read(first)?;
+    let later = read(update)?;
+    let places = own.entries() + later.entries();
+    if 96 < places {
+        return Err(Refusal::Limit { at: 0 });
     }
-}
-
-// The update behind a first image of so many entries, a day and a version.
-fn joined(own: usize, day: u64, version: usize, update: &[u8]) -> Joint
-    requires { own ≤ 96 }
-    ensures { result ≡ on_update own day version (opened_of update.now) }
-{
-    match open(update) {
-        Opened::Refused(refusal) => Joint::Refused(refusal),
-        Opened::Image {
-            entries,
-            day: last,
-            version: later,
-        } => {
-            let places = own + entries;
-            if 96 < places {
-                return Joint::Refused(Refusal::Limit { at: 0 });
-            }
-            if last < day {
-                return Joint::Refused(Refusal::Day);
-            }
-            let span = Span {
-                places,
-                own,
-                version,
-                later,
-            };
-            Joint::Both { span, day: last }
-        }
+    let day = later.day();
+    if day < own.day() {
+        return Err(Refusal::Day);
     }
+    let span = Span {
+        places,
+        own: own.entries(),
+        version: own.version(),
+        later: later.version(),
+    };
+    Ok(Joint { span, day })
 }

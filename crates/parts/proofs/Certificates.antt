@@ -1,6 +1,7 @@
 -- The members of a certificate's tbs, one after the other, by going back through the steps of its shape.
+use Rattle.std.specs.Prelude.{Option, Some, None}
 use Prim.Native.Nat.{ℕ, suc}
-use mathlib.Core.Path.{◌≡◌, refl, sym, subst, ◌∙◌}
+use mathlib.Core.Path.{◌≡◌, refl, sym, subst, ◌∙◌, ap}
 use mathlib.Core.Bool.{Bool, true, false}
 use mathlib.Core.List.{List}
 use native.Mathlib.Omega.{arith}
@@ -10,64 +11,61 @@ use Rattle.der.specs.Forms.{paper}
 use Rattle.der.specs.Heading.{constructed}
 use Rattle.tree.specs.Tree.{Tree, node, Trees, none, more, tag_of}
 use Rattle.elements.specs.declared.elements.Element.{Element}
-use Rattle.elements.specs.declared.elements.Found.TheVariants.{One}
-use Rattle.elements.specs.declared.envelopes.Envelope.TheVariants as envelope
 use Rattle.elements.specs.Elements.{found_tagged}
 use Rattle.elements.specs.Envelope.{envelope_of}
 use Rattle.elements.specs.Steps.{only_of}
-use Rattle.names.specs.declared.Name.TheVariants.{Holds}
 use Rattle.names.specs.Names.{name_of}
 use Rattle.times.specs.Times.{time_at}
 use Rattle.extensions.specs.Extensions.{extensions_shaped}
 use Rattle.certificate.specs.declared.shapes.Back.{Back}
-use Rattle.certificate.specs.declared.shapes.Back.TheVariants.{Closes, Backless}
 use Rattle.certificate.specs.declared.shapes.Front.{Front}
-use Rattle.certificate.specs.declared.shapes.Front.TheVariants.{Opens, Frontless}
 use Rattle.certificate.specs.declared.shapes.Layout.{Layout}
-use Rattle.certificate.specs.declared.shapes.Shape.{Shape}
-use Rattle.certificate.specs.declared.shapes.Shape.TheVariants.{Parts, Broken}
 use Rattle.certificate.specs.declared.shapes.Validity.{Validity}
-use Rattle.certificate.specs.declared.shapes.Validity.TheVariants.{Times, Timeless}
 use Rattle.certificate.specs.Shape.{on_front, on_validity, on_back, front_of, validity_of, unique_end, back_of, on_parts, parts_of, layout_of}
 use Rattle.parts.specs.Places.{Place, numbered, member_at}
 use Rattle.parts.proofs.Inverse.{went, kept, timed-found, by-envelope, by_name}
 use Rattle.parts.proofs.Spans.{Spans, first-of}
 use Rattle.parts.proofs.Standing.{Part, row_here, row-later, part_at, members-place}
 use Rattle.parts.proofs.Enveloped.{is-node, tagged-first, members-inside, rest-none, only-tree, only-inside}
+use Rattle.std.proofs.lemmas.Option.{same_Some}
+use Rattle.elements.proofs.Payloads.{an_envelope}
+use Rattle.certificate.proofs.Payloads.{a_validity}
+use Rattle.certificate.proofs.Payloads.{a_front}
+use Rattle.certificate.proofs.Payloads.{a_back}
 
-broken : {l : Layout} → ◌≡◌ {A = Shape} Broken (Parts l) → ⊥
+broken : {l : Layout} → ◌≡◌ {A = (Option Layout)} None (Some l) → ⊥
 broken p = let z : ◌≡◌ {A = ℕ} 0 1 = cc in omega arith
 
-frontless : {a b c d e : Element} → ◌≡◌ {A = Front} Frontless (Opens a b c d e) → ⊥
+frontless : {a b c d e : Element} → ◌≡◌ {A = (Option Front)} None (a_front a b c d e) → ⊥
 frontless p = let z : ◌≡◌ {A = ℕ} 0 1 = cc in omega arith
 
-backless : {a b d : Element} {c : Bool} → ◌≡◌ {A = Back} Backless (Closes a b c d) → ⊥
+backless : {a b d : Element} {c : Bool} → ◌≡◌ {A = (Option Back)} None (a_back a b c d) → ⊥
 backless p = let z : ◌≡◌ {A = ℕ} 0 1 = cc in omega arith
 
-by_front : {l : Layout} (v : Front) (k : Element → Element → Element → Element → Element → Shape) → on_front v k ≡ Parts l
-    → (a : Element) × (b : Element) × (c : Element) × (d : Element) × (e : Element) × (v ≡ Opens a b c d e) × (k a b c d e ≡ Parts l)
+by_front : {l : Layout} (v : Option Front) (k : Element → Element → Element → Element → Element → Option Layout) → on_front v k ≡ Some l
+    → (a : Element) × (b : Element) × (c : Element) × (d : Element) × (e : Element) × (v ≡ a_front a b c d e) × (k a b c d e ≡ Some l)
 unfolding on_front
-by_front Frontless k p = absurd (broken p)
-by_front (Opens a b c d e) k p = (a, b, c, d, e, refl, p)
+by_front None k p = absurd (broken p)
+by_front (Some f) k p = (f.version, f.serial, f.inner, f.issuer, f.validity, refl, p)
 
-by-validity : {l : Layout} (v : Validity) (k : Element → Element → Shape) → on_validity v k ≡ Parts l
-    → (a : Element) × (b : Element) × (v ≡ Times a b) × (k a b ≡ Parts l)
+by-validity : {l : Layout} (v : Option Validity) (k : Element → Element → Option Layout) → on_validity v k ≡ Some l
+    → (a : Element) × (b : Element) × (v ≡ a_validity a b) × (k a b ≡ Some l)
 unfolding on_validity
-by-validity Timeless k p = absurd (broken p)
-by-validity (Times a b) k p = (a, b, refl, p)
+by-validity None k p = absurd (broken p)
+by-validity (Some v) k p = (v.start, v.finish, refl, p)
 
-by-back : {l : Layout} (v : Back) (k : Element → Element → Bool → Element → Shape) → on_back v k ≡ Parts l
-    → (a : Element) × (b : Element) × (c : Bool) × (d : Element) × (v ≡ Closes a b c d) × (k a b c d ≡ Parts l)
+by-back : {l : Layout} (v : Option Back) (k : Element → Element → Bool → Element → Option Layout) → on_back v k ≡ Some l
+    → (a : Element) × (b : Element) × (c : Bool) × (d : Element) × (v ≡ a_back a b c d) × (k a b c d ≡ Some l)
 unfolding on_back
-by-back Backless k p = absurd (broken p)
-by-back (Closes a b c d) k p = (a, b, c, d, refl, p)
+by-back None k p = absurd (broken p)
+by-back (Some b) k p = (b.subject, b.key, b.unique, b.extensions, refl, p)
 
-by_parts : {l : Layout} (v : Shape) (k : Layout → Shape) → on_parts v k ≡ Parts l → (m : Layout) × (v ≡ Parts m) × (k m ≡ Parts l)
+by_parts : {l : Layout} (v : Option Layout) (k : Layout → Option Layout) → on_parts v k ≡ Some l → (m : Layout) × (v ≡ Some m) × (k m ≡ Some l)
 unfolding on_parts
-by_parts Broken k p = absurd (broken p)
-by_parts (Parts m) k p = (m, refl, p)
+by_parts None k p = absurd (broken p)
+by_parts (Some m) k p = (m, refl, p)
 
-parts_same : {l m : Layout} → ◌≡◌ {A = Shape} (Parts l) (Parts m) → l ≡ m
+parts_same : {l m : Layout} → ◌≡◌ {A = (Option Layout)} (Some l) (Some m) → l ≡ m
 parts_same p = cc
 
 -- what a layout tells of the steps that found it
@@ -76,26 +74,26 @@ pub record Laid (s : List ℕ) (l : Layout) : Type 0 where
   pub outer : Element
   pub version : Element
   pub validity : Element
-  pub around : envelope_of paper s ≡ envelope.Parts tbs outer
-  pub front : front_of s tbs ≡ Opens version l.serial l.inner l.issuer validity
-  pub back : back_of s validity.end tbs.end ≡ Closes l.subject l.key l.unique l.extensions
+  pub around : envelope_of paper s ≡ an_envelope tbs outer
+  pub front : front_of s tbs ≡ a_front version l.serial l.inner l.issuer validity
+  pub back : back_of s validity.end tbs.end ≡ a_back l.subject l.key l.unique l.extensions
   pub shaped : extensions_shaped paper s l.extensions ≡ true
-  pub times : validity_of s validity ≡ Times l.start l.finish
-  pub named : name_of paper s l.issuer ≡ Holds l.issuer_country
-  pub addressed : name_of paper s l.subject ≡ Holds l.subject_country
+  pub times : validity_of s validity ≡ a_validity l.start l.finish
+  pub named : name_of paper s l.issuer ≡ Some l.issuer_country
+  pub addressed : name_of paper s l.subject ≡ Some l.subject_country
 
-pub laid_out : (s : List ℕ) (l : Layout) → layout_of s ≡ Parts l → Laid s l
+pub laid_out : (s : List ℕ) (l : Layout) → layout_of s ≡ Some l → Laid s l
 unfolding layout_of parts_of
 laid_out s l e =
     let p = by_parts (parts_of s) _ e in
     let m = p.0 in
-    let a = by-envelope (envelope_of paper s) Broken _ (Parts m) broken p.1 in
+    let a = by-envelope (envelope_of paper s) None _ (Some m) broken p.1 in
     let b = by_front (front_of s a.0) _ a.3 in
     let c = by-validity (validity_of s b.4) _ b.6 in
     let d = by-back (back_of s b.4.end a.0.end) _ c.3 in
-    let f = by_name (name_of paper s b.3) Broken _ (Parts m) broken d.5 in
-    let g = by_name (name_of paper s d.0) Broken _ (Parts m) broken f.2 in
-    let h = kept (extensions_shaped paper s m.extensions) _ Broken (Parts l) broken p.2 in
+    let f = by_name (name_of paper s b.3) None _ (Some m) broken d.5 in
+    let g = by_name (name_of paper s d.0) None _ (Some m) broken f.2 in
+    let h = kept (extensions_shaped paper s m.extensions) _ None (Some l) broken p.2 in
     let found = parts_same g.2 in
     subst (Laid s) (found ∙ parts_same h.1)
     (record {
@@ -136,25 +134,25 @@ split-five :
 split-five a b c d e = cc
 
 opens-same :
-    {a b c d e p q r t u : Element} → ◌≡◌ {A = Front} (Opens a b c d e) (Opens p q r t u) → (b ≡ q) × (d ≡ t) × (e ≡ u)
-opens-same h = (cc, cc, cc)
+    {a b c d e p q r t u : Element} → ◌≡◌ {A = (Option Front)} (a_front a b c d e) (a_front p q r t u) → (b ≡ q) × (d ≡ t) × (e ≡ u)
+opens-same h = let same = same_Some _ _ h in (ap (λ (f : Front). f.serial) same, ap (λ (f : Front). f.issuer) same, ap (λ (f : Front). f.validity) same)
 
 pub front-members :
     (s : List ℕ) (tbs a b c d v : Element) (members : Trees) → Spans s tbs.contents tbs.end members
-    → front_of s tbs ≡ Opens a b c d v → Fronted s tbs.contents tbs.end members b d v
+    → front_of s tbs ≡ a_front a b c d v → Fronted s tbs.contents tbs.end members b d v
 unfolding front_of
 front-members s tbs a b c d v members sp e =
-    let r = Opens a b c d v in
-    let f1 = went (found_tagged paper s tbs.contents tbs.end 0xA0) Frontless _ r frontless e in
+    let r = a_front a b c d v in
+    let f1 = went (found_tagged paper s tbs.contents tbs.end 0xA0) None _ r frontless e in
     let t1 = tagged-first s _ tbs.end 0xA0 members f1.element sp f1.there in
-    let f2 = went (only_of paper s f1.element 0x02) Frontless _ r frontless f1.then in
-    let f3 = went (found_tagged paper s f1.element.end tbs.end 0x02) Frontless _ r frontless f2.then in
+    let f2 = went (only_of paper s f1.element 0x02) None _ r frontless f1.then in
+    let f3 = went (found_tagged paper s f1.element.end tbs.end 0x02) None _ r frontless f2.then in
     let t3 = tagged-first s _ tbs.end 0x02 t1.rest f3.element t1.member.next f3.there in
-    let f4 = went (found_tagged paper s f3.element.end tbs.end 0x30) Frontless _ r frontless f3.then in
+    let f4 = went (found_tagged paper s f3.element.end tbs.end 0x30) None _ r frontless f3.then in
     let t4 = tagged-first s _ tbs.end 0x30 t3.rest f4.element t3.member.next f4.there in
-    let f5 = went (found_tagged paper s f4.element.end tbs.end 0x30) Frontless _ r frontless f4.then in
+    let f5 = went (found_tagged paper s f4.element.end tbs.end 0x30) None _ r frontless f4.then in
     let t5 = tagged-first s _ tbs.end 0x30 t4.rest f5.element t4.member.next f5.there in
-    let f6 = went (found_tagged paper s f5.element.end tbs.end 0x30) Frontless _ r frontless f5.then in
+    let f6 = went (found_tagged paper s f5.element.end tbs.end 0x30) None _ r frontless f5.then in
     let t6 = tagged-first s _ tbs.end 0x30 t5.rest f6.element t5.member.next f6.there in
     let same = opens-same f6.then in
     let n1 = row-later t1.member t1.split in
@@ -201,21 +199,21 @@ times-shape :
     → validity ≡ node 0x30 members → members ≡ more x p → p ≡ more y q → q ≡ none → validity ≡ node 0x30 (more x (more y none))
 times-shape a b c d = cc
 
-times-same : {a b p q : Element} → ◌≡◌ {A = Validity} (Times a b) (Times p q) → (a ≡ p) × (b ≡ q)
-times-same h = (cc, cc)
+times-same : {a b p q : Element} → ◌≡◌ {A = (Option Validity)} (a_validity a b) (a_validity p q) → (a ≡ p) × (b ≡ q)
+times-same h = let same = same_Some _ _ h in (ap (λ (v : Validity). v.start) same, ap (λ (v : Validity). v.finish) same)
 
 pub two-times :
     (s : List ℕ) (place : Place) (v a b : Element) (validity : Tree) → Part s place v validity → tag_of validity ≡ 0x30
-    → validity_of s v ≡ Times a b → Lasting s place a b validity
+    → validity_of s v ≡ a_validity a b → Lasting s place a b validity
 unfolding validity_of constructed
 two-times s place v a b validity part named e =
-    let r = Times a b in
+    let r = a_validity a b in
     let i = is-node validity 0x30 refl part.sound named in
-    let f1 = went (time_at paper s v.contents v.end) Timeless _ r timeless e in
+    let f1 = went (time_at paper s v.contents v.end) None _ r timeless e in
     let x1 = first-of s v.contents v.end i.0 f1.element (part.inside 0x30 i.0 i.1) (timed-found s _ _ _ f1.there) in
-    let f2 = went (time_at paper s f1.element.end v.end) Timeless _ r timeless f1.then in
+    let f2 = went (time_at paper s f1.element.end v.end) None _ r timeless f1.then in
     let x2 = first-of s f1.element.end v.end x1.1 f2.element x1.3.next (timed-found s _ _ _ f2.there) in
-    let k = kept (eqb f2.element.end v.end) _ Timeless r timeless f2.then in
+    let k = kept (eqb f2.element.end v.end) _ None r timeless f2.then in
     let same = times-same k.1 in
     let at = members-place part 0x30 i.0 i.1 in
     record {
@@ -228,7 +226,7 @@ two-times s place v a b validity part named e =
           (part_at (row_here x2.3 x2.2) (at 1 ∙ row-later x1.3 x1.2 0));
     }
   where
-    timeless : ◌≡◌ {A = Validity} Timeless (Times a b) → ⊥
+    timeless : ◌≡◌ {A = (Option Validity)} None (a_validity a b) → ⊥
     timeless p = let z : ◌≡◌ {A = ℕ} 0 1 = cc in omega arith
 
 -- the three members after them, where nothing stands between the key and the extensions
@@ -249,26 +247,32 @@ split-back :
 split-back a b c d e f = cc
 
 closes-same :
-    {a b d p q t : Element} {c r : Bool} → ◌≡◌ {A = Back} (Closes a b c d) (Closes p q r t) → (a ≡ p) × (b ≡ q) × (c ≡ r) × (d ≡ t)
-closes-same h = (cc, cc, cc, cc)
+    {a b d p q t : Element} {c r : Bool} → ◌≡◌ {A = (Option Back)} (a_back a b c d) (a_back p q r t) → (a ≡ p) × (b ≡ q) × (c ≡ r) × (d ≡ t)
+closes-same h =
+    let same = same_Some _ _ h in (
+      ap (λ (b : Back). b.subject) same,
+      ap (λ (b : Back). b.key) same,
+      ap (λ (b : Back). b.unique) same,
+      ap (λ (b : Back). b.extensions) same,
+    )
 
 pub back-members :
     (s : List ℕ) (from end : ℕ) (a b : Element) (c : Bool) (d : Element) (members : Trees) → Spans s from end members
-    → back_of s from end ≡ Closes a b c d → c ≡ false → Backed s from end members a b d
+    → back_of s from end ≡ a_back a b c d → c ≡ false → Backed s from end members a b d
 unfolding back_of constructed
 back-members s from end a b c d members sp e bare =
-    let r = Closes a b c d in
-    let f1 = went (found_tagged paper s from end 0x30) Backless _ r backless e in
+    let r = a_back a b c d in
+    let f1 = went (found_tagged paper s from end 0x30) None _ r backless e in
     let t1 = tagged-first s from end 0x30 members f1.element sp f1.there in
-    let f2 = went (found_tagged paper s f1.element.end end 0x30) Backless _ r backless f1.then in
+    let f2 = went (found_tagged paper s f1.element.end end 0x30) None _ r backless f1.then in
     let t2 = tagged-first s _ end 0x30 t1.rest f2.element t1.member.next f2.there in
-    let f3 = went (found_tagged paper s (unique_end s f2.element.end end) end 0xA3) Backless _ r backless f2.then in
-    let k = kept (eqb f3.element.end end) _ Backless r backless f3.then in
-    let f4 = went (only_of paper s f3.element 0x30) Backless _ r backless k.1 in
+    let f3 = went (found_tagged paper s (unique_end s f2.element.end end) end 0xA3) None _ r backless f2.then in
+    let k = kept (eqb f3.element.end end) _ None r backless f3.then in
+    let f4 = went (only_of paper s f3.element 0x30) None _ r backless k.1 in
     let same = closes-same f4.then in
     let here = eqb-true (unique_end s f2.element.end end) f2.element.end (not-false _ (same.2 ∙ bare)) in
     let t3 = tagged-first s f2.element.end end 0xA3 t2.rest f3.element t2.member.next
-    (subst (λ (n : ℕ). found_tagged paper s n end 0xA3 ≡ One f3.element) here f3.there) in
+    (subst (λ (n : ℕ). found_tagged paper s n end 0xA3 ≡ Some f3.element) here f3.there) in
     let i3 = members-inside s f2.element.end end 0xA3 t2.rest f3.element refl t3 in
     let t4 = only-inside s f3.element 0x30 i3.0 f4.element i3.2 f4.there in
     let i4 = members-inside s f3.element.contents f3.element.end 0x30 i3.0 f4.element refl t4.0 in

@@ -1,5 +1,6 @@
 -- Each attribute that is gone through is a member of its SET's tree, and each SET one of the name's: so what was seen of countryNames
 -- is how many values the tree lists, and the one seen is the one listed.
+use Rattle.std.specs.Prelude.{Option, Some, None}
 use Prim.Native.Nat.{ℕ}
 use mathlib.Core.Path.{◌≡◌, refl, sym, ap, subst, ◌∙◌}
 use mathlib.Core.Bool.{Bool, true, false, cond, ◌&&◌}
@@ -13,8 +14,6 @@ use Rattle.der.specs.Heading.{constructed}
 use Rattle.tree.specs.Tree.{Tree, leaf, node, Trees, none, more, tag_of, contents_of, Sound}
 use Rattle.tree.proofs.Cases.{cond-by}
 use Rattle.elements.specs.declared.elements.Element.{Element}
-use Rattle.elements.specs.declared.elements.Found.{Found}
-use Rattle.elements.specs.declared.elements.Found.TheVariants.{One, Missing}
 use Rattle.elements.specs.Elements.{found_at, found_tagged, on_found, members_of, inside}
 use Rattle.elements.specs.Elements as elements
 use Rattle.octets.specs.Alike.{alike}
@@ -23,10 +22,7 @@ use Rattle.names.specs.declared.Attribute.{Attribute}
 use Rattle.names.specs.declared.Attribute.TheVariants.{Country, Other, Misshapen}
 use Rattle.names.specs.declared.Seen.{Seen}
 use Rattle.names.specs.declared.Seen.TheVariants.{Never, Once, Often}
-use Rattle.names.specs.declared.Name.{Name}
-use Rattle.names.specs.declared.Name.TheVariants.{Holds, Shapeless}
 use Rattle.names.specs.declared.Letters.{Letters}
-use Rattle.names.specs.declared.Letters.TheVariants.{Two, Unfit}
 use Rattle.names.specs.Names.{country_name, attribute_of, one_more, attributed, attributes_of, one_set, after_set, sets_of, name_of, letters_in, letters_of, is_capital}
 use Rattle.parts.specs.Places.{Place, At}
 use Rattle.parts.specs.Countries.{country_in, countries_in, set_in, countries_of}
@@ -35,14 +31,15 @@ use Rattle.parts.proofs.Inverse.{kept, both}
 use Rattle.parts.proofs.Spans.{Spans, Member, found_first, found_none, first-of}
 use Rattle.parts.proofs.Standing.{Part}
 use Rattle.parts.proofs.Enveloped.{is-node, is_leaf, tagged-first}
+use Rattle.names.proofs.Payloads.{some_letters, two_same}
 
 -- what holds of what is said of a missing element, and of one that is found
 found-by :
-    {A : Type 0} (P : A → Type 0) (f : Found) (missing : A) (next : Element → A) → P missing → ((e : Element) → f ≡ One e → P (next e))
+    {A : Type 0} (P : A → Type 0) (f : Option Element) (missing : A) (next : Element → A) → P missing → ((e : Element) → f ≡ Some e → P (next e))
     → P (on_found f missing next)
 unfolding on_found
-found-by P Missing missing next m n = m
-found-by P (One e) missing next m n = n e refl
+found-by P None missing next m n = m
+found-by P (Some e) missing next m n = n e refl
 
 -- an element that is a tree
 record Like (s : List ℕ) (e : Element) (tree : Tree) : Type 0 where
@@ -109,7 +106,7 @@ module _ (s : List ℕ) where
 
   -- what is seen after an attribute
   attributed-sees :
-      {a : Attribute} {values before : List Tree} {seen : Seen} (next : Seen → Name) {r : Name} → (Shapeless ≡ r → ⊥) → Said s a values → Sees s seen before
+      {a : Attribute} {values before : List Tree} {seen : Seen} (next : Seen → Option Seen) {r : Option Seen} → (None ≡ r → ⊥) → Said s a values → Sees s seen before
       → attributed a seen next ≡ r → (now : Seen) × Sees s now (before ++ values) × (next now ≡ r)
   unfolding attributed
   attributed-sees next shapeless misshapen sees h = absurd (shapeless h)
@@ -117,16 +114,16 @@ module _ (s : List ℕ) where
       (seen, subst (Sees s seen) (sym (append-nil before)) sees, h)
   attributed-sees {seen = seen} next shapeless (country {value = value} like) sees h = (one_more seen value, sees_more like sees, h)
 
-  not-shapeless : {seen : Seen} → ◌≡◌ {A = Name} Shapeless (Holds seen) → ⊥
+  not-shapeless : {seen : Seen} → ◌≡◌ {A = (Option Seen)} None (Some seen) → ⊥
   not-shapeless p = let z : ◌≡◌ {A = ℕ} 0 1 = cc in omega arith
 
-  holds_same : {a b : Seen} → ◌≡◌ {A = Name} (Holds a) (Holds b) → a ≡ b
+  holds_same : {a b : Seen} → ◌≡◌ {A = (Option Seen)} (Some a) (Some b) → a ≡ b
   holds_same p = cc
 
   -- what is seen after the attributes of a SET
   attributes-see :
       (end : ℕ) (trees : Trees) (from : ℕ) (seen now : Seen) (before : List Tree) → Spans s from end trees → Sees s seen before
-      → attributes_of paper s (members_of paper s from end) seen ≡ Holds now → Sees s now (before ++ countries_in trees)
+      → attributes_of paper s (members_of paper s from end) seen ≡ Some now → Sees s now (before ++ countries_in trees)
   unfolding attributes_of countries_in
   attributes-see end none from seen now before sp sees h =
       let e = holds_same (sym (ap (λ (l : List Element). attributes_of paper s l seen) (members-none s from end (found_none s from end sp))) ∙ h) in
@@ -141,27 +138,27 @@ module _ (s : List ℕ) where
   -- what is seen after a SET
   set-sees :
       (from end : ℕ) (e : Element) (tree : Tree) (trees : Trees) (seen now : Seen) (before : List Tree) → Member s from end e tree trees
-      → Sees s seen before → one_set paper s e seen ≡ Holds now → Sees s now (before ++ set_in tree)
+      → Sees s seen before → one_set paper s e seen ≡ Some now → Sees s now (before ++ set_in tree)
   unfolding one_set inside set_in constructed
   set-sees from end e tree trees seen now before m sees h =
-      let k = kept (eqb e.tag 0x31) _ Shapeless (Holds now) not-shapeless h in
+      let k = kept (eqb e.tag 0x31) _ None (Some now) not-shapeless h in
       let n = is-node tree 0x31 refl m.sound (sym m.tag ∙ eqb-true _ _ k.0) in
       subst (λ (y : Tree). Sees s now (before ++ set_in y)) (sym n.1)
       (attributes-see e.end n.0 e.contents seen now before (m.inside 0x31 n.0 n.1) sees
       (some (eqb (length (members_of paper s e.contents e.end)) 0) k.1))
     where
-      some : {r : Name} (b : Bool) → cond b Shapeless r ≡ Holds now → r ≡ Holds now
+      some : {r : Option Seen} (b : Bool) → cond b None r ≡ Some now → r ≡ Some now
       some true p = absurd (not-shapeless p)
       some false p = p
 
-  after-set : (v : Name) (next : Seen → Name) {r : Seen} → after_set v next ≡ Holds r → (seen : Seen) × (v ≡ Holds seen) × (next seen ≡ Holds r)
+  after-set : (v : Option Seen) (next : Seen → Option Seen) {r : Seen} → after_set v next ≡ Some r → (seen : Seen) × (v ≡ Some seen) × (next seen ≡ Some r)
   unfolding after_set
-  after-set Shapeless next h = absurd (not-shapeless h)
-  after-set (Holds seen) next h = (seen, refl, h)
+  after-set None next h = absurd (not-shapeless h)
+  after-set (Some seen) next h = (seen, refl, h)
 
   sets-see :
       (end : ℕ) (trees : Trees) (from : ℕ) (seen now : Seen) (before : List Tree) → Spans s from end trees → Sees s seen before
-      → sets_of paper s (members_of paper s from end) seen ≡ Holds now → Sees s now (before ++ countries_of trees)
+      → sets_of paper s (members_of paper s from end) seen ≡ Some now → Sees s now (before ++ countries_of trees)
   unfolding sets_of countries_of
   sets-see end none from seen now before sp sees h =
       let e = holds_same (sym (ap (λ (l : List Element). sets_of paper s l seen) (members-none s from end (found_none s from end sp))) ∙ h) in
@@ -181,16 +178,16 @@ two-contents (x ∷ []) a b long first second = absurd (omega arith)
 two-contents (x ∷ y ∷ []) a b long first second = cc
 two-contents (x ∷ y ∷ z ∷ rest) a b long first second = absurd (omega arith)
 
-never-unfit : {a b : ℕ} → ◌≡◌ {A = Letters} Unfit (Two a b) → ⊥
+never-unfit : {a b : ℕ} → ◌≡◌ {A = (Option Letters)} None (some_letters a b) → ⊥
 never-unfit p = let z : ◌≡◌ {A = ℕ} 0 1 = cc in omega arith
 
-two-same : {a b c d : ℕ} → ◌≡◌ {A = Letters} (Two a b) (Two c d) → (a ≡ c) × (b ≡ d)
-two-same p = (cc, cc)
+two-same : {a b c d : ℕ} → ◌≡◌ {A = (Option Letters)} (some_letters a b) (some_letters c d) → (a ≡ c) × (b ≡ d)
+two-same p = two_same p
 
-letters-in : (tag : ℕ) (c : List ℕ) (a b : ℕ) → letters_in tag c ≡ Two a b → (tag ≡ 0x13) × (c ≡ a ∷ b ∷ [])
+letters-in : (tag : ℕ) (c : List ℕ) (a b : ℕ) → letters_in tag c ≡ some_letters a b → (tag ≡ 0x13) × (c ≡ a ∷ b ∷ [])
 unfolding letters_in
 letters-in tag c a b h =
-    let k = kept (eqb tag 0x13 && (eqb (length c) 2 && (is_capital (get_or c 0 0) && is_capital (get_or c 1 0)))) _ Unfit (Two a b) never-unfit h in
+    let k = kept (eqb tag 0x13 && (eqb (length c) 2 && (is_capital (get_or c 0 0) && is_capital (get_or c 1 0)))) _ None (some_letters a b) never-unfit h in
     let p = both (eqb tag 0x13) _ k.0 in
     let q = both (eqb (length c) 2) _ p.1 in
     let e = two-same k.1 in
@@ -199,7 +196,7 @@ letters-in tag c a b h =
 leaf-of : {tree : Tree} {c d : List ℕ} → tree ≡ leaf 0x13 c → c ≡ d → ◌≡◌ {A = List Tree} (tree ∷ []) (leaf 0x13 d ∷ [])
 leaf-of a b = cc
 
-seen-letters : (s : List ℕ) (seen : Seen) (trees : List Tree) (a b : ℕ) → Sees s seen trees → letters_of s seen ≡ Two a b → trees ≡ leaf 0x13 (a ∷ b ∷ []) ∷ []
+seen-letters : (s : List ℕ) (seen : Seen) (trees : List Tree) (a b : ℕ) → Sees s seen trees → letters_of s seen ≡ some_letters a b → trees ≡ leaf 0x13 (a ∷ b ∷ []) ∷ []
 unfolding letters_of constructed
 seen-letters s seen trees a b never h = absurd (never-unfit h)
 seen-letters s seen trees a b often h = absurd (never-unfit h)
@@ -209,11 +206,11 @@ seen-letters s seen trees a b (once {value = value} {tree = tree} like) h =
 
 -- the letters read of a name are those of the one countryName in its tree
 pub name-letters :
-    (s : List ℕ) (place : Place) (e : Element) (tree : Tree) (seen : Seen) (a b : ℕ) → Part s place e tree → name_of paper s e ≡ Holds seen
-    → letters_of s seen ≡ Two a b → Lettered place a b
+    (s : List ℕ) (place : Place) (e : Element) (tree : Tree) (seen : Seen) (a b : ℕ) → Part s place e tree → name_of paper s e ≡ Some seen
+    → letters_of s seen ≡ some_letters a b → Lettered place a b
 unfolding name_of inside constructed
 name-letters s place e tree seen a b p h two =
-    let k = kept (eqb e.tag 0x30) _ Shapeless (Holds seen) (not-shapeless s) h in
+    let k = kept (eqb e.tag 0x30) _ None (Some seen) (not-shapeless s) h in
     let n = is-node tree 0x30 refl p.sound (sym p.tag ∙ eqb-true _ _ k.0) in
     let sees = sets-see s e.end n.0 e.contents Never seen [] (p.inside 0x30 n.0 n.1) never k.1 in
     record {

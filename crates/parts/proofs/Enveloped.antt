@@ -1,4 +1,5 @@
 -- A signed item's outermost element is a node of tbs, algorithm and signature, and the tbs's contents encode its members.
+use Rattle.std.specs.Prelude.{Option, Some, None}
 use Prim.Native.Nat.{ℕ, ◌+◌, ◌/◌, ◌%◌}
 use mathlib.Core.Path.{◌≡◌, refl, sym, ap, subst, ◌∙◌}
 use mathlib.Core.Bool.{Bool, true, false, cond, ◌&&◌, true≢false}
@@ -13,10 +14,7 @@ use Rattle.tree.specs.Tree.{Tree, leaf, node, Trees, none, more, encoded_all, ta
 use Rattle.tree.proofs.Members.{length_more}
 use Rattle.tree.proofs.Reading.{encoded-some}
 use Rattle.elements.specs.declared.elements.Element.{Element}
-use Rattle.elements.specs.declared.elements.Found.{Found}
-use Rattle.elements.specs.declared.elements.Found.TheVariants.{One, Missing}
 use Rattle.elements.specs.declared.envelopes.Envelope.{Envelope}
-use Rattle.elements.specs.declared.envelopes.Envelope.TheVariants.{Parts, Formless}
 use Rattle.elements.specs.Elements.{found_tagged}
 use Rattle.elements.specs.Envelope.{envelope_of}
 use Rattle.elements.specs.Steps.{only_of}
@@ -25,6 +23,7 @@ use Rattle.parts.specs.Shown.{signed}
 use Rattle.parts.proofs.Inverse.{went, kept, tagged-found}
 use Rattle.parts.proofs.Spans.{Spans, Member, first-of}
 use Rattle.parts.proofs.Standing.{row_here, part_at, members-place}
+use Rattle.elements.proofs.Payloads.{an_envelope, same_envelope}
 
 -- the paper's tags have one octet
 narrow : (tag : ℕ) → tag_good paper tag ≡ true → leading tag ≡ tag
@@ -63,7 +62,7 @@ pub record Tagged (s : List ℕ) (from end tag : ℕ) (trees : Trees) (e : Eleme
   pub named : tag_of tree ≡ tag
 
 pub tagged-first :
-    (s : List ℕ) (from end tag : ℕ) (trees : Trees) (e : Element) → Spans s from end trees → found_tagged paper s from end tag ≡ One e
+    (s : List ℕ) (from end tag : ℕ) (trees : Trees) (e : Element) → Spans s from end trees → found_tagged paper s from end tag ≡ Some e
     → Tagged s from end tag trees e
 tagged-first s from end tag trees e sp f =
     let h : (_) × (e.tag ≡ tag) = tagged-found s from end tag e f in
@@ -87,20 +86,20 @@ only-tree s from end tag trees e t h = t.split ∙ ap (more t.tree) (rest-none t
 
 -- the one member of an element
 pub only-inside :
-    (s : List ℕ) (e : Element) (tag : ℕ) (members : Trees) (x : Element) → Spans s e.contents e.end members → only_of paper s e tag ≡ One x
+    (s : List ℕ) (e : Element) (tag : ℕ) (members : Trees) (x : Element) → Spans s e.contents e.end members → only_of paper s e tag ≡ Some x
     → (t : Tagged s e.contents e.end tag members x) × (members ≡ more t.tree none)
 unfolding only_of
 only-inside s e tag members x sp h =
-    let f = went (found_tagged paper s e.contents e.end tag) Missing _ (One x) missing h in
-    let k = kept (eqb f.element.end e.end) (One f.element) Missing (One x) missing f.then in
+    let f = went (found_tagged paper s e.contents e.end tag) None _ (Some x) missing h in
+    let k = kept (eqb f.element.end e.end) (Some f.element) None (Some x) missing f.then in
     let same : f.element ≡ x = one f.element k.1 in
     let t = tagged-first s e.contents e.end tag members x sp (f.there ∙ k.1) in
     (t, only-tree s e.contents e.end tag members x t (sym (ap (λ (y : Element). y.end) same) ∙ eqb-true _ _ k.0))
   where
-    missing : ◌≡◌ {A = Found} Missing (One x) → ⊥
+    missing : ◌≡◌ {A = (Option Element)} None (Some x) → ⊥
     missing p = let z : ◌≡◌ {A = ℕ} 0 1 = cc in omega arith
 
-    one : (y : Element) → ◌≡◌ {A = Found} (One y) (One x) → y ≡ x
+    one : (y : Element) → ◌≡◌ {A = (Option Element)} (Some y) (Some x) → y ≡ x
     one y p = cc
 
 pub record Enveloped (s : List ℕ) (tree : Tree) (tbs : Element) : Type 0 where
@@ -117,26 +116,26 @@ shape_of :
     → first ≡ more second rest → rest ≡ more last none → tree ≡ signed members second last
 shape_of a b c d e f = cc
 
-parts_same : {tbs outer x y : Element} → ◌≡◌ {A = Envelope} (Parts x y) (Parts tbs outer) → x ≡ tbs
-parts_same e = cc
+parts_same : {tbs outer x y : Element} → ◌≡◌ {A = (Option Envelope)} (an_envelope x y) (an_envelope tbs outer) → x ≡ tbs
+parts_same e = (same_envelope e).0
 
 -- where the outermost tree's stretch was left, the envelope tells its members
 pub envelope-members :
-    (s : List ℕ) (tree : Tree) (tbs outer : Element) → Spans s 0 (length s) (more tree none) → envelope_of paper s ≡ Parts tbs outer
+    (s : List ℕ) (tree : Tree) (tbs outer : Element) → Spans s 0 (length s) (more tree none) → envelope_of paper s ≡ an_envelope tbs outer
     → Enveloped s tree tbs
 unfolding envelope_of constructed place_in along numbered
 envelope-members s tree tbs outer root e =
-    let a = went (found_tagged paper s 0 (length s) 0x30) Formless _ (Parts tbs outer) formless e in
+    let a = went (found_tagged paper s 0 (length s) 0x30) None _ (an_envelope tbs outer) formless e in
     let o = tagged-first s 0 (length s) 0x30 (more tree none) a.element root a.there in
     let i = members-inside s 0 (length s) 0x30 (more tree none) a.element refl o in
-    let b = went (found_tagged paper s a.element.contents a.element.end 0x30) Formless _ (Parts tbs outer) formless a.then in
+    let b = went (found_tagged paper s a.element.contents a.element.end 0x30) None _ (an_envelope tbs outer) formless a.then in
     let t = tagged-first s a.element.contents a.element.end 0x30 i.0 b.element i.2 b.there in
     let j = members-inside s a.element.contents a.element.end 0x30 i.0 b.element refl t in
-    let c = went (found_tagged paper s b.element.end a.element.end 0x30) Formless _ (Parts tbs outer) formless b.then in
+    let c = went (found_tagged paper s b.element.end a.element.end 0x30) None _ (an_envelope tbs outer) formless b.then in
     let u = tagged-first s b.element.end a.element.end 0x30 t.rest c.element t.member.next c.there in
-    let d = went (found_tagged paper s c.element.end a.element.end 0x03) Formless _ (Parts tbs outer) formless c.then in
+    let d = went (found_tagged paper s c.element.end a.element.end 0x03) None _ (an_envelope tbs outer) formless c.then in
     let v = tagged-first s c.element.end a.element.end 0x03 u.rest d.element u.member.next d.there in
-    let k = kept (eqb d.element.end a.element.end) _ Formless (Parts tbs outer) formless d.then in
+    let k = kept (eqb d.element.end a.element.end) _ None (an_envelope tbs outer) formless d.then in
     let gone = only-tree s c.element.end a.element.end 0x03 u.rest d.element v (eqb-true _ _ k.0) in
     let outermost = row_here o.member o.split in
     let first = part_at (row_here t.member t.split) (members-place outermost 0x30 i.0 i.1 0) in
@@ -150,5 +149,5 @@ envelope-members s tree tbs outer root e =
       each = subst (λ (x : Element). (n : ℕ) → place_in tree (0 ∷ n ∷ []) ≡ numbered j.0 n x.contents) (parts_same k.1) each;
     }
   where
-    formless : ◌≡◌ {A = Envelope} Formless (Parts tbs outer) → ⊥
+    formless : ◌≡◌ {A = (Option Envelope)} None (an_envelope tbs outer) → ⊥
     formless p = let z : ◌≡◌ {A = ℕ} 0 1 = cc in omega arith

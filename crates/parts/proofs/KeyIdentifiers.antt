@@ -1,5 +1,6 @@
 -- The contents of a key identifier's extension pass the walk, so they are the octets of one tree, which stands in the item where they
 -- do: the element found there is that tree, and its place is told.
+use Rattle.std.specs.Prelude.{Option, Some, None, Result, Ok, Err}
 use Prim.Native.Nat.{ℕ, ◌+◌, ◌-◌, ◌≤◌}
 use mathlib.Core.Path.{◌≡◌, refl, sym, ap, subst, ◌∙◌}
 use mathlib.Core.Bool.{Bool, true, false, true≢false, false≢true, cond, not}
@@ -8,20 +9,16 @@ use native.Mathlib.Omega.{arith}
 use lib.Dec.{eqb, lit≤}
 use lib.ListN.{length, take, drop, length-drop, take-append-drop}
 use lib.Seq.{length-take-le, take-add}
-use Rattle.der.specs.declared.walking.Walked.{Walked}
-use Rattle.der.specs.declared.walking.Walked.TheVariants.{Passed, Refused}
+use Rattle.refusal.specs.declared.Refusal.{Refusal}
 use Rattle.der.specs.Forms.{paper}
 use Rattle.der.specs.Heading.{constructed}
 use Rattle.der.specs.Walk.{walk_of}
 use Rattle.tree.specs.Tree.{Tree, leaf, node, Trees, none, more, encoded, encoded_all, contents_of, Sound, sound_none, sound_more}
 use Rattle.tree.proofs.Theorems.{walk-passes}
 use Rattle.elements.specs.declared.elements.Element.{Element}
-use Rattle.elements.specs.declared.elements.Found.{Found}
-use Rattle.elements.specs.declared.elements.Found.TheVariants.{One, Missing}
 use Rattle.elements.specs.Elements.{found_tagged, on_found, inside}
 use Rattle.elements.specs.Elements as elements
 use Rattle.extensions.specs.declared.Extension.{Extension}
-use Rattle.extensions.specs.declared.Extension.TheVariants.{Is, Absent}
 use Rattle.extensions.specs.Extensions.{all_shaped, extensions_shaped, lookup_of, doubled_of}
 use Rattle.certificate.specs.declared.keys.KeyId.{KeyId}
 use Rattle.certificate.specs.declared.keys.KeyId.TheVariants.{Key, Misformed}
@@ -37,6 +34,7 @@ use Rattle.parts.proofs.Spans.{Spans}
 use Rattle.parts.proofs.Standing.{Part, row_here, part_at, contents-length, contents-part, members-place}
 use Rattle.parts.proofs.Enveloped.{Tagged, tagged-first, members-inside}
 use Rattle.parts.proofs.Extensions.{Holds, Met, found-leaf, look-finds, look-misses, oid-once}
+use Rattle.extensions.proofs.Payloads.{an_extension}
 
 -- octets of the item that are those of a sound tree
 tree-span :
@@ -59,10 +57,10 @@ tree-span s from end tree low high e sound =
     start : length (take from s) ≡ from
     start = length-take-le from s (omega arith)
 
-passes_count : (w : Walked) → passes w ≡ true → (count : ℕ) × (w ≡ Passed count)
+passes_count : (w : Result ℕ Refusal) → passes w ≡ true → (count : ℕ) × (w ≡ Ok count)
 unfolding passes
-passes_count (Passed count) h = (count, refl)
-passes_count (Refused refusal) h = absurd (true≢false (sym h))
+passes_count (Ok count) h = (count, refl)
+passes_count (Err refusal) h = absurd (true≢false (sym h))
 
 -- the one tree of a value that passes the walk, in its place in the item
 record Walking (s : List ℕ) (value : Element) : Type 0 where
@@ -108,10 +106,10 @@ octets-read s value tree sp good = go (found_tagged paper s value.contents value
     next key = Key key.contents key.end
 
     go :
-        (f : Found) → found_tagged paper s value.contents value.end 0x04 ≡ f → (on_found f Misformed next ≡ Misformed → ⊥)
+        (f : Option Element) → found_tagged paper s value.contents value.end 0x04 ≡ f → (on_found f Misformed next ≡ Misformed → ⊥)
         → Formed octet_string [] tree value.contents (on_found f Misformed next)
-    go Missing h good = absurd (good refl)
-    go (One key) h good =
+    go None h good = absurd (good refl)
+    go (Some key) h good =
         let t = tagged-first s value.contents value.end 0x04 (more tree none) key sp h in
         record {
           key = elements.contents_of s key;
@@ -138,10 +136,10 @@ first_read s value tree sp good = by-outer (found_tagged paper s value.contents 
 
     by_key :
         (outer : Element) → (t : Tagged s value.contents value.end 0x30 (more tree none) outer)
-        → (f : Found) → found_tagged paper s outer.contents outer.end 0x80 ≡ f → (on_found f Misformed next ≡ Misformed → ⊥)
+        → (f : Option Element) → found_tagged paper s outer.contents outer.end 0x80 ≡ f → (on_found f Misformed next ≡ Misformed → ⊥)
         → Formed first_member (0 ∷ []) tree value.contents (on_found f Misformed next)
-    by_key outer t Missing h good = absurd (good refl)
-    by_key outer t (One key) h good =
+    by_key outer t None h good = absurd (good refl)
+    by_key outer t (Some key) h good =
         let i = members-inside s value.contents value.end 0x30 (more tree none) outer refl t in
         let u = tagged-first s outer.contents outer.end 0x80 i.0 key i.2 h in
         let first = members-place (row_here t.member t.split) 0x30 i.0 i.1 0 in
@@ -153,10 +151,10 @@ first_read s value tree sp good = by-outer (found_tagged paper s value.contents 
         }
 
     by-outer :
-        (f : Found) → found_tagged paper s value.contents value.end 0x30 ≡ f → (on_found f Misformed inner ≡ Misformed → ⊥)
+        (f : Option Element) → found_tagged paper s value.contents value.end 0x30 ≡ f → (on_found f Misformed inner ≡ Misformed → ⊥)
         → Formed first_member (0 ∷ []) tree value.contents (on_found f Misformed inner)
-    by-outer Missing h good = absurd (good refl)
-    by-outer (One outer) h good =
+    by-outer None h good = absurd (good refl)
+    by-outer (Some outer) h good =
         by_key outer (tagged-first s value.contents value.end 0x30 (more tree none) outer sp h)
         (found_tagged paper s outer.contents outer.end 0x80) refl good
 
@@ -210,15 +208,21 @@ module _
             part = r.part;
           })
 
+      told :
+          (own value : Element) (critical : Bool) → lookup_of paper s extensions oid ≡ an_extension own critical value
+          → (key_in s (an_extension own critical value) read ≡ Misformed → ⊥)
+          → KeyPart root oid form path (key_start (key_in s (an_extension own critical value) read)) (key_length (key_in s (an_extension own critical value) read))
+      told own value true h good = absurd (good refl)
+      told own value false h good =
+          by-walk value (look-finds s oid extensions.end trees extensions.contents own value sp h) (walks s value) refl good
+
       go :
-          (x : Extension) → lookup_of paper s extensions oid ≡ x → (key_in s x read ≡ Misformed → ⊥)
+          (x : Option Extension) → lookup_of paper s extensions oid ≡ x → (key_in s x read ≡ Misformed → ⊥)
           → KeyPart root oid form path (key_start (key_in s x read)) (key_length (key_in s x read))
-      go Absent h good =
+      go None h good =
           absent (λ number from members e. look-misses s oid extensions.end trees extensions.contents sp all h number from members (sym (each number) ∙ e))
           refl refl
-      go (Is own true value) h good = absurd (good refl)
-      go (Is own false value) h good =
-          by-walk value (look-finds s oid extensions.end trees extensions.contents own value sp h) (walks s value) refl good
+      go (Some x) h good = told x.oid x.value x.critical h good
 
   pub subject-key :
       (subject_key s extensions ≡ Misformed → ⊥)

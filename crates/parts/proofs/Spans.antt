@@ -1,5 +1,6 @@
 -- A stretch of an item that encodes some trees: the element found at its start is the first of them, what follows encodes
 -- the others, and its contents encode its members.
+use Rattle.std.specs.Prelude.{Option, Some, None}
 use Prim.Native.Nat.{ℕ, ◌+◌}
 use mathlib.Core.Path.{◌≡◌, refl, sym, ap, subst, ◌∙◌}
 use mathlib.Core.List.{List, ◌++◌}
@@ -12,8 +13,6 @@ use Rattle.tree.proofs.Theorems.{step-none, step-more, step-next, step-inside, s
 use Rattle.tree.proofs.Members.{length_more}
 use Rattle.tree.proofs.Parts.{length-parts}
 use Rattle.elements.specs.declared.elements.Element.{Element}
-use Rattle.elements.specs.declared.elements.Found.{Found}
-use Rattle.elements.specs.declared.elements.Found.TheVariants.{One, Missing}
 use Rattle.elements.specs.Elements.{stepped, found_at}
 use Rattle.elements.specs.Elements as elements
 use Rattle.parts.specs.Places.{element_of}
@@ -48,7 +47,7 @@ module _ (before behind : List ℕ) (tree : Tree) (trees : Trees) (sound : Sound
   first : Element
   first = element_of (length before) tree
 
-  first_found : found_at paper item (length before) stop-at ≡ One first
+  first_found : found_at paper item (length before) stop-at ≡ Some first
   unfolding item stop-at first element_of found_at stepped
   first_found = rw (step-more paper (lit≤ tt) before behind tree trees sound)
 
@@ -91,39 +90,39 @@ module _ (before behind : List ℕ) (tree : Tree) (trees : Trees) (sound : Sound
 -- the first tree of a stretch is found at its start
 pub found_first :
     (s : List ℕ) (from end : ℕ) (tree : Tree) (trees : Trees) → Spans s from end (more tree trees)
-    → (e : Element) × (found_at paper s from end ≡ One e) × Member s from end e tree trees
+    → (e : Element) × (found_at paper s from end ≡ Some e) × Member s from end e tree trees
 unfolding item stop-at
 found_first s from end tree trees sp = go sp.sound
   where
-    go : SoundAll paper (more tree trees) → (e : Element) × (found_at paper s from end ≡ One e) × Member s from end e tree trees
+    go : SoundAll paper (more tree trees) → (e : Element) × (found_at paper s from end ≡ Some e) × Member s from end e tree trees
     go (sound_more sound others) =
         let b = sp.before in
         let h = sp.behind in
-        subst (λ (t : List ℕ). (e : Element) × (found_at paper t from end ≡ One e) × Member t from end e tree trees) sp.whole
-        (subst (λ (a : ℕ). (e : Element) × (found_at paper (item b h tree trees sound others) a end ≡ One e) × Member (item b h tree trees sound others) a end e tree trees) sp.start
-        (subst (λ (d : ℕ). (e : Element) × (found_at paper (item b h tree trees sound others) (length b) d ≡ One e) × Member (item b h tree trees sound others) (length b) d e tree trees) sp.stop
+        subst (λ (t : List ℕ). (e : Element) × (found_at paper t from end ≡ Some e) × Member t from end e tree trees) sp.whole
+        (subst (λ (a : ℕ). (e : Element) × (found_at paper (item b h tree trees sound others) a end ≡ Some e) × Member (item b h tree trees sound others) a end e tree trees) sp.start
+        (subst (λ (d : ℕ). (e : Element) × (found_at paper (item b h tree trees sound others) (length b) d ≡ Some e) × Member (item b h tree trees sound others) (length b) d e tree trees) sp.stop
         (first b h tree trees sound others, first_found b h tree trees sound others, first-member b h tree trees sound others)))
 
 -- in a stretch without trees nothing is found
-pub found_none : (s : List ℕ) (from end : ℕ) → Spans s from end none → found_at paper s from end ≡ Missing
+pub found_none : (s : List ℕ) (from end : ℕ) → Spans s from end none → found_at paper s from end ≡ None
 unfolding found_at stepped encoded_all
 found_none s from end sp =
-    subst (λ (t : List ℕ). found_at paper t from end ≡ Missing) sp.whole
-    (subst (λ (b : ℕ). found_at paper (sp.before ++ encoded_all none ++ sp.behind) b end ≡ Missing) sp.start
-    (subst (λ (b : ℕ). found_at paper (sp.before ++ encoded_all none ++ sp.behind) (length sp.before) b ≡ Missing) sp.stop
+    subst (λ (t : List ℕ). found_at paper t from end ≡ None) sp.whole
+    (subst (λ (b : ℕ). found_at paper (sp.before ++ encoded_all none ++ sp.behind) b end ≡ None) sp.start
+    (subst (λ (b : ℕ). found_at paper (sp.before ++ encoded_all none ++ sp.behind) (length sp.before) b ≡ None) sp.stop
     (ap (stepped (length sp.before)) (step-none paper sp.before sp.behind))))
 
 -- an element that is found in a stretch is the first of its trees
 pub first-of :
-    (s : List ℕ) (from end : ℕ) (trees : Trees) (e : Element) → Spans s from end trees → found_at paper s from end ≡ One e
+    (s : List ℕ) (from end : ℕ) (trees : Trees) (e : Element) → Spans s from end trees → found_at paper s from end ≡ Some e
     → (tree : Tree) × (rest : Trees) × (trees ≡ more tree rest) × Member s from end e tree rest
 first-of s from end none e sp f = absurd (never (sym (found_none s from end sp) ∙ f))
   where
-    never : ◌≡◌ {A = Found} Missing (One e) → ⊥
+    never : ◌≡◌ {A = (Option Element)} None (Some e) → ⊥
     never p = let z : ◌≡◌ {A = ℕ} 0 1 = cc in omega arith
 first-of s from end (more tree rest) e sp f =
     let x = found_first s from end tree rest sp in
     (tree, rest, refl, subst (λ (y : Element). Member s from end y tree rest) (one x.0 (sym x.1 ∙ f)) x.2)
   where
-    one : (y : Element) → ◌≡◌ {A = Found} (One y) (One e) → y ≡ e
+    one : (y : Element) → ◌≡◌ {A = (Option Element)} (Some y) (Some e) → y ≡ e
     one y p = cc

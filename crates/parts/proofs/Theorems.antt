@@ -1,4 +1,5 @@
 -- What the parts reported of a certificate or a CRL are, by their places in the item's tree.
+use Rattle.std.specs.Prelude.{Option, Some, None, Ok}
 use Prim.Native.Nat.{ℕ, ◌+◌}
 use mathlib.Core.Path.{◌≡◌, refl, sym, ap, ap₂, subst, ◌∙◌}
 use mathlib.Core.Bool.{true, true≢false, not}
@@ -18,19 +19,14 @@ use Rattle.elements.specs.Elements.{members_of, inside}
 use Rattle.elements.specs.Elements as elements
 use Rattle.extensions.specs.Extensions.{doubled_of}
 use Rattle.names.specs.declared.Letters.{Letters}
-use Rattle.names.specs.declared.Letters.TheVariants.{Two, Unfit}
 use Rattle.names.specs.Names.{first_letter, second_letter}
-use Rattle.times.specs.declared.Time.{Time}
-use Rattle.times.specs.declared.Time.TheVariants.{Moment, Untimely}
 use Rattle.times.specs.Times.{time_in, time_of, moment_of, in_order}
 use Rattle.certificate.specs.declared.Fields as certificate
-use Rattle.certificate.specs.declared.Judged.TheVariants as judged
 use Rattle.certificate.specs.Answer as answer
 use Rattle.certificate.specs.Meets.{Passes}
 use Rattle.certificate.specs.Rules.{readings_of, rule3, same_two, rule5, rule6, rule7, rule8}
 use Rattle.certificate.proofs.Theorems as theorems
 use Rattle.crl.specs.declared.Fields as crl
-use Rattle.crl.specs.declared.Judged.TheVariants as list-judged
 use Rattle.crl.specs.Answer as list-answer
 use Rattle.crl.specs.Rules as list-rules
 use Rattle.crl.proofs.Theorems as list-theorems
@@ -49,6 +45,7 @@ use Rattle.parts.proofs.Countries.{name-letters}
 use Rattle.parts.proofs.KeyIdentifiers.{subject-key, authority-key, keys-formed}
 use Rattle.parts.proofs.Serials.{serial-positive}
 use Rattle.parts.proofs.Unique.{certificate-unique, crl-unique}
+use Rattle.names.proofs.Payloads.{some_letters}
 
 -- The elements of a stretch that encodes sound trees are those trees, one for one and in order.
 pub members-trees :
@@ -100,23 +97,23 @@ root item n e =
     }
 
 -- two times in order are moments, and two letters that are the same are letters
-moments : (a b : Time) → in_order a b ≡ true → (a ≡ Moment (moment_of a)) × (b ≡ Moment (moment_of b))
-moments Untimely b h = absurd (true≢false (sym h))
-moments (Moment a) Untimely h = absurd (true≢false (sym h))
-moments (Moment a) (Moment b) h = (refl, refl)
+moments : (a b : Option ℕ) → in_order a b ≡ true → (a ≡ Some (moment_of a)) × (b ≡ Some (moment_of b))
+moments None b h = absurd (true≢false (sym h))
+moments (Some a) None h = absurd (true≢false (sym h))
+moments (Some a) (Some b) h = (refl, refl)
 
-same-letters : (a b : Letters) → same_two a b ≡ true → a ≡ Two (first_letter a) (second_letter a)
+same-letters : (a b : Option Letters) → same_two a b ≡ true → a ≡ some_letters (first_letter a) (second_letter a)
 unfolding same_two
-same-letters Unfit b h = absurd (true≢false (sym h))
-same-letters (Two x y) b h = refl
+same-letters None b h = absurd (true≢false (sym h))
+same-letters (Some l) b h = refl
 
-some-letters : (a : Letters) → list-rules.two_letters a ≡ true → a ≡ Two (first_letter a) (second_letter a)
+some-letters : (a : Option Letters) → list-rules.two_letters a ≡ true → a ≡ some_letters (first_letter a) (second_letter a)
 unfolding list-rules.two_letters
-some-letters Unfit h = absurd (true≢false (sym h))
-some-letters (Two x y) h = refl
+some-letters None h = absurd (true≢false (sym h))
+some-letters (Some l) h = refl
 
 -- the time at a place
-timed-part : {s : List ℕ} {place : Place} {e : Element} {tree : Tree} {moment : ℕ} → Part s place e tree → time_of s e ≡ Moment moment → Timed place moment
+timed-part : {s : List ℕ} {place : Place} {e : Element} {tree : Tree} {moment : ℕ} → Part s place e tree → time_of s e ≡ Some moment → Timed place moment
 unfolding time_of
 timed-part {s} {place} {e} {tree} p h =
     record { tree = tree; at = e.at; stands = p.there; reads = sym (ap₂ time_in p.tag p.contents) ∙ h }
@@ -150,7 +147,7 @@ begin item role f octets p =
 -- times, subject and key by their numbers in the tbs, the letters in the issuer, the key identifiers in the extensions that have
 -- their OIDs.
 pub certificate-parts :
-    (item : List ℕ) (role : ℕ) (f : certificate.Fields) → Octets item → answer.judged_of item role ≡ judged.Passed f
+    (item : List ℕ) (role : ℕ) (f : certificate.Fields) → Octets item → answer.judged_of item role ≡ Ok f
     → Certificate item f
 unfolding Begun rule5 rule6 rule7 rule8 answer.fields_of readings_of place_in along
 certificate-parts item role f octets e =
@@ -197,7 +194,7 @@ certificate-parts item role f octets e =
 
 -- Of a certificate that passes, the serial told is one to 20 octets that write a number above zero.
 pub certificate-serial :
-    (item : List ℕ) (role : ℕ) (f : certificate.Fields) → Octets item → answer.judged_of item role ≡ judged.Passed f
+    (item : List ℕ) (role : ℕ) (f : certificate.Fields) → Octets item → answer.judged_of item role ≡ Ok f
     → Positive (take f.serial_len (drop f.serial_at item))
 unfolding Begun rule3 answer.fields_of elements.contents_of constructed
 certificate-serial item role f octets e =
@@ -212,7 +209,7 @@ certificate-serial item role f octets e =
 -- Of a CRL that passes, issuer and the two times reported are the third, fourth and fifth member of the tbs of the item's tree, the
 -- letters are in the issuer, and as many entries are told as the entry list has members.
 pub crl-parts :
-    (item : List ℕ) (f : crl.Fields) → Octets item → list-answer.judged_of paper item ≡ list-judged.Passed f → Crl item f
+    (item : List ℕ) (f : crl.Fields) → Octets item → list-answer.judged_of paper item ≡ Ok f → Crl item f
 unfolding list-answer.fields_of list-rules.rule4 list-rules.rule5 list-rules.readings_of
 crl-parts item f octets e =
     let p = (list-theorems.passes-exactly item f).0 e in

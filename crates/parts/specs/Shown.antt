@@ -1,8 +1,7 @@
 -- What a certificate and a CRL that pass report: each part by its place in the item's tree. Members are counted from 0 in a path.
-use Rattle.std.specs.Prelude.{ℕ, suc, ◌+◌, ◌≡◌, List, [], ◌∷◌, length}
+use Rattle.std.specs.Prelude.{ℕ, suc, ◌+◌, ◌≡◌, List, [], ◌∷◌, length, Some}
 use Rattle.der.specs.Forms.{paper}
 use Rattle.tree.specs.Tree.{Tree, leaf, node, Trees, none, more, encoded, tag_of, contents_of, header_of, Sound}
-use Rattle.times.specs.declared.Time.TheVariants.{Moment}
 use Rattle.times.specs.Times.{time_in}
 use Rattle.certificate.specs.declared.Fields as certificate
 use Rattle.certificate.specs.Keys.{subject_key_identifier, authority_key_identifier}
@@ -29,7 +28,7 @@ pub record Timed (place : Place) (moment : ℕ) : Type 0 where
   pub tree : Tree
   pub at : ℕ
   pub stands : place ≡ At tree at
-  pub reads : time_in (tag_of tree) (contents_of tree) ≡ Moment moment
+  pub reads : time_in (tag_of tree) (contents_of tree) ≡ Some moment
 
 -- the letters of the name at a place: it holds countryName once, as PrintableString of these two
 pub record Lettered (place : Place) (first second : ℕ) : Type 0 where

@@ -4,7 +4,9 @@
 ghost use Rattle.std.specs.Prelude.{◌≡◌};
 ghost use Rattle.refusal.specs.Numbers.{number_of, detail_of};
 
-#[derive(Clone, Copy)]
+use std::fmt;
+
+#[derive(Clone, Copy, Debug, PartialEq, Eq)]
 pub enum Refusal {
     // An argument is outside its stated range.
     Argument,
@@ -55,5 +57,19 @@ pub fn detail(refusal: Refusal) -> u64
         Refusal::Chain => 0,
         Refusal::Wide => 0,
         Refusal::Short => 0,
+    }
+}
+
+// The number, and the offset or the rule where the refusal has one.
+impl fmt::Display for Refusal {
+    fn fmt<W: fmt::Write>(&self, f: &mut fmt::Formatter<W>) -> fmt::Result {
+        let class = number(*self);
+        let told = detail(*self);
+        write!(f, "refused {class}")?;
+        match self {
+            Refusal::Der { at: _ } | Refusal::Limit { at: _ } => write!(f, " at {told}"),
+            Refusal::Profile { rule: _ } | Refusal::Image { rule: _ } => write!(f, ", rule {told}"),
+            _ => Ok(()),
+        }
     }
 }

@@ -6,18 +6,18 @@ use mathlib.Core.List.{List, map}
 use native.Mathlib.Omega.{arith}
 use Rattle.graph.proofs.Theorems.{one-best}
 use Rattle.image.specs.Items.{Item}
-use Rattle.chain.specs.declared.asking.Asked.TheVariants as asked
 use Rattle.chain.specs.declared.Answer.{Answer}
 use Rattle.chain.specs.Answer.{asked_of, good_chains, With, Answered, refused, none, found}
 use Rattle.room.specs.Kept.{new_place}
 use Rattle.renumbered.specs.Answers.{Renumbered, shown, seven}
 use Rattle.renumbered.proofs.Carried.{Matched, renumbered, from_first, best-renumbered}
+use Rattle.chain.proofs.Payloads.{a_question}
 
 module _ {s table t ruling : List ℕ} {later p n k from to moment : ℕ} {items : List Item} {stay : ℕ → Bool} {old : ℕ → ℕ}
     (m : Matched (good_chains s table later) (good_chains t ruling later) stay (new_place moment items) old)
     (below : p < (good_chains s table later).places) (stays : stay p ≡ true)
-    (asks : asked_of s table later p ≡ asked.Over n from)
-    (asks-again : asked_of t ruling later (new_place moment items p) ≡ asked.Over k to) where
+    (asks : asked_of s table later p ≡ a_question n from)
+    (asks-again : asked_of t ruling later (new_place moment items p) ≡ a_question k to) where
   pub answers-match :
       {r q : Answer} → Answered s table later p r → Answered t ruling later (new_place moment items p) q → Renumbered moment items r q
   answers-match (refused why e w) b = absurd (let z : ◌≡◌ {A = ℕ} 0 1 = cc in omega arith)

@@ -1,4 +1,5 @@
 -- An item that goes is past, or does not pass: at no later moment it is usable, or counts.
+use Rattle.std.specs.Prelude.{Result, Ok, Err}
 use Prim.Native.Nat.{ℕ, ◌≤◌, ◌<◌}
 use mathlib.Core.Path.{◌≡◌, refl, sym, ◌∙◌}
 use mathlib.Core.Bool.{Bool, true, false, ◌&&◌}
@@ -7,11 +8,10 @@ use native.Mathlib.Omega.{arith}
 use borrow.Author.Tests.{leb-false, lt-leb, eqb-true, eq-eqb, ne_eqb}
 use lib.Dec.{leb, eqb}
 use Rattle.der.specs.Forms.{paper}
-use Rattle.certificate.specs.declared.Judged.{Judged}
-use Rattle.certificate.specs.declared.Judged.TheVariants.{Passed, Refused}
+use Rattle.refusal.specs.declared.Refusal.{Refusal}
+use Rattle.certificate.specs.declared.Fields.{Fields}
 use Rattle.certificate.specs.Answer.{judged_of}
-use Rattle.crl.specs.declared.Judged as list-answer
-use Rattle.crl.specs.declared.Judged.TheVariants as list-judged
+use Rattle.crl.specs.declared.Fields as list-fields
 use Rattle.crl.specs.Answer as lists-answer
 use Rattle.image.specs.Items.{Item}
 use Rattle.usable.specs.Items.{item_at, on_certificate, certificate_at, on_list, list_at, within}
@@ -32,17 +32,17 @@ module _ (moment later : ℕ) (since : moment ≤ later) where
       let over : last < later = omega (arith, leb-false moment last e) in
       rw (lt-leb later last over) (and-false (leb from later))
 
-  certificate-past : (j : Judged) → certificate_stays moment j ≡ false → on_certificate j (λ f. within f.start f.end later) ≡ false
+  certificate-past : (j : Result Fields Refusal) → certificate_stays moment j ≡ false → on_certificate j (λ f. within f.start f.end later) ≡ false
   unfolding certificate_stays on_certificate
-  certificate-past (Refused refusal) e = refl
-  certificate-past (Passed f) e = past f.start f.end e
+  certificate-past (Err refusal) e = refl
+  certificate-past (Ok f) e = past f.start f.end e
 
   list-past :
-      (j : list-answer.Judged) → list_stays moment j ≡ false
+      (j : Result list-fields.Fields Refusal) → list_stays moment j ≡ false
       → on_list j (λ g. within g.this_update g.next_update later) ≡ false
   unfolding list_stays on_list
-  list-past (list-judged.Refused refusal) e = refl
-  list-past (list-judged.Passed f) e = past f.this_update f.next_update e
+  list-past (Err refusal) e = refl
+  list-past (Ok f) e = past f.this_update f.next_update e
 
   module _ (items : List Item) (p : ℕ) (goes : stays moment (item_at items p) ≡ false) where
     not_valid : ((item_at items p).kind ≡ 4 → ⊥) → valid items later p ≡ false

@@ -11,7 +11,6 @@ use Rattle.calendar.specs.Days.{real_moment}
 use Rattle.graph.specs.Chains.{Chain, Best}
 use Rattle.graph.proofs.Cases.{clash}
 use Rattle.graph.proofs.Targets.{chain-target}
-use Rattle.image.specs.declared.Opened.TheVariants.{Image}
 use Rattle.image.specs.Items.{Item}
 use Rattle.image.specs.Index.{entry_count, items_in}
 use Rattle.image.specs.Answer.{opened_of}
@@ -35,6 +34,7 @@ use Rattle.renumbered.proofs.Carried as carried
 use Rattle.renumbered.proofs.Images.{room-reads, good-question}
 use Rattle.renumbered.proofs.Rooms.{kept-matched, room-graph, room-matched, bytes-again, table-again}
 use Rattle.renumbered.proofs.Answers.{answers-match}
+use Rattle.image.proofs.Payloads.{an_image}
 
 -- An item that goes is, from that moment on, no usable anchor, no usable link or signer, and no CRL that counts.
 pub went :
@@ -146,10 +146,10 @@ module _ (moment later : ℕ) (since : moment ≤ later) (items : List Item) (n 
   unfolding chains
   best-before p s d = carried.best-from-first match s.inside s.kept
 
-module _ (moment : ℕ) (s : List ℕ) (n day version : ℕ) (o : Octets s) (e : opened_of s ≡ Image n day version) where
+module _ (moment : ℕ) (s : List ℕ) (n day version : ℕ) (o : Octets s) (e : opened_of s ≡ an_image n day version) where
   -- What is written is an image with the same day and version, and its items are those that stay.
   pub room-readable :
-      (opened_of (room_bytes moment s) ≡ Image (length (kept moment (items_in s))) day version)
+      (opened_of (room_bytes moment s) ≡ an_image (length (kept moment (items_in s))) day version)
       × (items_in (room_bytes moment s) ≡ kept moment (items_in s))
   room-readable = let reads = room-reads moment o e in (reads.opened, reads.items)
 

@@ -1,15 +1,15 @@
 -- The lines of a cut table, one by one.
 use Prim.Native.Nat.{ℕ, zero, suc, ◌+◌, ◌-◌, ◌*◌, ◌≤◌, ◌<◌}
-use mathlib.Core.Path.{◌≡◌, refl, ap}
-use mathlib.Core.List.{List, [], ◌∷◌, ◌++◌}
+use mathlib.Core.Path.{◌≡◌, refl, sym}
+use mathlib.Core.List.{List, [], ◌∷◌, ◌++◌, append_assoc, append-nil}
 use native.Mathlib.Nat.{mul-le-mul_right}
 use native.Mathlib.Omega.{arith}
-use lib.ListN.{length, get_or, drop, length-append}
-use Rattle.writer.proofs.Picked.{first_rest}
+use lib.ListN.{length, get_or, take, length-append, length-take}
+use Rattle.std.proofs.lemmas.List.{take_more}
 use Rattle.room.specs.Kept.{cut_line, cut_lines}
 
 -- the first of some numbers, and the others
-pub rest-fits : (n wide : ℕ) → (n ≡ 0 → ⊥) → n * wide ≡ wide + (n - 1) * wide
+rest-fits : (n wide : ℕ) → (n ≡ 0 → ⊥) → n * wide ≡ wide + (n - 1) * wide
 rest-fits n wide some =
     let most : suc (n - 1) ≤ n = omega arith in
     let least : n ≤ suc (n - 1) = omega arith in
@@ -27,17 +27,6 @@ module _ (n : ℕ) (table : List ℕ) where
   line-long row [] = refl
   line-long row (x ∷ l) = omega (arith, line-long row l)
 
-  pub lines_none : (columns rows : List ℕ) → length rows ≡ 0 → cut_lines n table columns rows ≡ []
-  unfolding cut_lines
-  lines_none columns [] e = refl
-  lines_none columns (x ∷ l) e = absurd (omega arith)
-
-  pub lines-on :
-      (columns rows : List ℕ) → (length rows ≡ 0 → ⊥)
-      → cut_lines n table columns rows ≡ cut_line n table (get_or rows 0 0) columns ++ cut_lines n table columns (drop 1 rows)
-  unfolding cut_lines
-  lines-on columns rows some = ap (cut_lines n table columns) (first_rest rows some)
-
   pub lines_long : (columns rows : List ℕ) → length (cut_lines n table columns rows) ≡ length rows * length columns
   unfolding cut_lines
   lines_long columns [] = omega arith
@@ -50,3 +39,22 @@ module _ (n : ℕ) (table : List ℕ) where
         lines_long columns l,
         rest-fits (length (x ∷ l)) (length columns) some,
       )
+
+  lines_append : (columns a b : List ℕ) → cut_lines n table columns (a ++ b) ≡ cut_lines n table columns a ++ cut_lines n table columns b
+  unfolding cut_lines
+  lines_append columns [] b = refl
+  lines_append columns (x ∷ a) b =
+      rw (lines_append columns a b) (sym (append_assoc (cut_line n table x columns) (cut_lines n table columns a) (cut_lines n table columns b)))
+
+  -- the first rows, and one more
+  module _ (columns rows : List ℕ) (i : ℕ) (h : i < length rows) where
+    pub lines-more :
+        cut_lines n table columns (take (i + 1) rows) ≡ cut_lines n table columns (take i rows) ++ cut_line n table (get_or rows i 0) columns
+    unfolding cut_lines
+    lines-more = rw (take_more rows i 0 h, lines_append, append-nil) refl
+
+    -- their lines are not more than those of all
+    pub lines-within : length (cut_lines n table columns (take (i + 1) rows)) ≤ length rows * length columns
+    lines-within =
+        let few : length (take (i + 1) rows) ≤ length rows = simp length-take (omega arith) in
+        rw (lines_long columns (take (i + 1) rows)) (mul-le-mul_right (length columns) few)

@@ -1,3 +1,4 @@
+pub mod Payloads
 pub mod Cut
 pub mod Stays
 pub mod Fitting

@@ -1,4 +1,6 @@
 -- The image and the table of the places that stay are those that are said, and the writer refuses them for want of room alone.
+use Rattle.std.specs.Prelude.{Result, Ok, Err}
+use Rattle.refusal.specs.declared.Refusal.{Refusal}
 use Prim.Native.Nat.{ℕ, suc, ◌+◌, ◌*◌, ◌≤◌, ◌<◌}
 use mathlib.Core.Path.{◌≡◌, refl, ap, ap₂, sym, ◌∙◌}
 use mathlib.Core.Bool.{Bool, true, false, cond}
@@ -10,25 +12,24 @@ use lib.ListN.{length, get_or}
 use Rattle.octets.specs.Octets.{Octets}
 use Rattle.refusal.specs.declared.Refusal.TheVariants as refusal
 use Rattle.calendar.specs.Days.{real_moment}
-use Rattle.image.specs.declared.Opened.TheVariants as opened
 use Rattle.image.specs.Answer.{opened_of}
 use Rattle.image.specs.Items.{Item, image_bytes}
 use Rattle.image.specs.Index.{entry_count, version_in, day_in, entry_in, item_at, items_in}
 use Rattle.image.specs.Chosen.{chosen, places_from}
 use Rattle.image.proofs.Few.{opened-told}
 use Rattle.image.proofs.Places.{length-items, item_in}
-use Rattle.writer.specs.declared.Written.TheVariants as written
 use Rattle.writer.specs.Picking.{picked, inside, picked_bytes, size_told, on_picked, picked_of}
 use Rattle.writer.proofs.PickedAnswers.{picked-many}
 use Rattle.roundtrip.proofs.Theorems.{write_again}
 use Rattle.usable.specs.Table.{table_good}
 use Rattle.room.specs.declared.Made.{Made}
-use Rattle.room.specs.declared.Made.TheVariants.{Image, Refused}
 use Rattle.room.specs.Kept.{stays, kept, kept_places, cut}
 use Rattle.room.specs.Making.{room_bytes, room_table, on_opened, made_of, on_made, image_out, table_out}
 use Rattle.room.specs.Inner.{on_put, put_of}
 use Rattle.room.proofs.Cut.{lines_long}
 use Rattle.room.proofs.Fitting.{either, chosen-fits}
+use Rattle.image.proofs.Payloads.{an_image}
+use Rattle.room.proofs.Payloads.{room_made}
 
 module _ (test : Item → Bool) (s : List ℕ) (none : Item) where
   -- the items at the places of those chosen are these
@@ -58,20 +59,20 @@ module _ (test : Item → Bool) (s : List ℕ) (none : Item) where
 -- the two outputs' room, asked for in either order
 put_both :
     (count size room : ℕ) → size ≤ 262144 → (a : Bool)
-    → cond a (on_put count (size_told size room)) (Refused refusal.Short)
-    ≡ cond (leb size room) (cond a (Image size (count * count) count) (Refused refusal.Short)) (Refused refusal.Short)
+    → cond a (on_put count (size_told size room)) (Err refusal.Short)
+    ≡ cond (leb size room) (cond a (room_made size (count * count) count) (Err refusal.Short)) (Err refusal.Short)
 unfolding size_told on_put
 put_both count size room small a = rw (le-leb size 262144 small) (go a (leb size room))
   where
     go :
-        (a b : Bool) → cond a (on_put count (cond b (written.Length size) (written.Refused refusal.Short))) (Refused refusal.Short)
-        ≡ cond b (cond a (Image size (count * count) count) (Refused refusal.Short)) (Refused refusal.Short)
+        (a b : Bool) → cond a (on_put count (cond b (Ok size) (Err refusal.Short))) (Err refusal.Short)
+        ≡ cond b (cond a (room_made size (count * count) count) (Err refusal.Short)) (Err refusal.Short)
     go true true = refl
     go true false = refl
     go false true = refl
     go false false = refl
 
-module _ (moment : ℕ) (s table : List ℕ) {n day version : ℕ} (o : Octets s) (is : opened_of s ≡ opened.Image n day version) where
+module _ (moment : ℕ) (s table : List ℕ) {n day version : ℕ} (o : Octets s) (is : opened_of s ≡ an_image n day version) where
   abbrev places : List ℕ
   places = kept_places moment (items_in s)
 
@@ -111,14 +112,14 @@ module _ (moment : ℕ) (s table : List ℕ) {n day version : ℕ} (o : Octets s
         (put_both (length places) (length (room_bytes moment s)) room kept_small (leb (length places * length places) more))
 
 -- what is put for the places is what is said
-pub record Put (moment : ℕ) (s table old more out lines : List ℕ) (r : Made) : Type 0 where
+pub record Put (moment : ℕ) (s table old more out lines : List ℕ) (r : Result Made Refusal) : Type 0 where
   pub answer : r ≡ made_of s table moment (length old) (length more)
   pub image : out ≡ image_out s table moment old more
   pub lined : lines ≡ table_out s table moment old more
 
 pub put_all :
-    (moment : ℕ) (s table old more : List ℕ) {n day version : ℕ} → Octets s → opened_of s ≡ opened.Image n day version
-    → table_good n table ≡ true → real_moment 1950 2099 moment ≡ true → {places out lines : List ℕ} {r : Made}
+    (moment : ℕ) (s table old more : List ℕ) {n day version : ℕ} → Octets s → opened_of s ≡ an_image n day version
+    → table_good n table ≡ true → real_moment 1950 2099 moment ≡ true → {places out lines : List ℕ} {r : Result Made Refusal}
     → places ≡ kept_places moment (items_in s) → length places ≤ 96 → r ≡ put_of s places (length old) (length more)
     → out ≡ on_made r (picked_bytes s places) old → lines ≡ on_made r (cut n table places) more
     → Put moment s table old more out lines r
@@ -133,6 +134,6 @@ put_all moment s table old more {n} {day} {version} o is good real {places} {out
     ap₂ (λ (m : ℕ) (l : List ℕ). cut m table l) count same in
     record {
       answer = answer;
-      image = image ∙ ap₂ (λ (a : Made) (l : List ℕ). on_made a l old) answer bytes;
-      lined = lined ∙ ap₂ (λ (a : Made) (l : List ℕ). on_made a l more) answer cuts;
+      image = image ∙ ap₂ (λ (a : Result Made Refusal) (l : List ℕ). on_made a l old) answer bytes;
+      lined = lined ∙ ap₂ (λ (a : Result Made Refusal) (l : List ℕ). on_made a l more) answer cuts;
     }

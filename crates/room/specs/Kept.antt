@@ -1,23 +1,22 @@
 -- What stays of an image at a moment: the items that pass their profile for their kind, and whose end, or a CRL's next update, does not
 -- lie before the moment. Starts, flags and letters play no part.
-use Rattle.std.specs.Prelude.{ℕ, ◌+◌, ◌*◌, Bool, false, cond, List, [], ◌∷◌, ◌++◌, leb, eqb, length, get_or, take}
+use Rattle.std.specs.Prelude.{ℕ, ◌+◌, ◌*◌, Bool, false, cond, List, [], ◌∷◌, ◌++◌, leb, eqb, length, get_or, take, Result, Ok, Err}
 use Rattle.der.specs.Forms.{paper}
-use Rattle.certificate.specs.declared.Judged.{Judged}
-use Rattle.certificate.specs.declared.Judged.TheVariants.{Passed, Refused}
+use Rattle.refusal.specs.declared.Refusal.{Refusal}
+use Rattle.certificate.specs.declared.Fields.{Fields}
 use Rattle.certificate.specs.Answer.{judged_of}
-use Rattle.crl.specs.declared.Judged as list-answer
-use Rattle.crl.specs.declared.Judged.TheVariants as list-judged
+use Rattle.crl.specs.declared.Fields as list-fields
 use Rattle.crl.specs.Answer as lists
 use Rattle.image.specs.Items.{Item}
 use Rattle.image.specs.Chosen.{chosen, places_from}
 
-unfoldable pub certificate_stays : ℕ → Judged → Bool
-certificate_stays moment (Refused refusal) = false
-certificate_stays moment (Passed f) = leb moment f.end
+unfoldable pub certificate_stays : ℕ → Result Fields Refusal → Bool
+certificate_stays moment (Err refusal) = false
+certificate_stays moment (Ok f) = leb moment f.end
 
-unfoldable pub list_stays : ℕ → list-answer.Judged → Bool
-list_stays moment (list-judged.Refused refusal) = false
-list_stays moment (list-judged.Passed f) = leb moment f.next_update
+unfoldable pub list_stays : ℕ → Result list-fields.Fields Refusal → Bool
+list_stays moment (Err refusal) = false
+list_stays moment (Ok f) = leb moment f.next_update
 
 -- of the octets of an item of a kind: kind 4 is a CRL, any other a certificate in that role
 unfoldable pub stays_of : ℕ → ℕ → List ℕ → Bool

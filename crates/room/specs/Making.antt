@@ -1,16 +1,15 @@
 -- Making room: the image of the items that stay, with the day and version of the old one, and the verdict table cut to them. Refusals: 5 as
 -- reading the image; 1 for the table, the moment; 9 where either output is too short.
-use Rattle.std.specs.Prelude.{ℕ, cond, List, ◌++◌, leb, length, drop}
+use Rattle.refusal.specs.declared.Refusal.{Refusal}
+use Rattle.std.specs.Prelude.{ℕ, cond, List, ◌++◌, leb, length, drop, Result, Ok, Err}
 use Rattle.refusal.specs.declared.Refusal.TheVariants as refusal
 use Rattle.calendar.specs.Days.{real_moment}
 use Rattle.image.specs.declared.Opened.{Opened}
-use Rattle.image.specs.declared.Opened.TheVariants as opened
 use Rattle.image.specs.Answer.{opened_of}
 use Rattle.image.specs.Items.{image_bytes}
 use Rattle.image.specs.Index.{entry_count, version_in, day_in, items_in}
 use Rattle.usable.specs.Table.{table_good}
 use Rattle.room.specs.declared.Made.{Made}
-use Rattle.room.specs.declared.Made.TheVariants.{Image, Refused}
 use Rattle.room.specs.Kept.{kept, kept_places, cut}
 
 -- the new image and the new table
@@ -21,26 +20,26 @@ unfoldable pub room_table : ℕ → List ℕ → List ℕ → List ℕ
 room_table moment s table = cut (entry_count s) table (kept_places moment (items_in s))
 
 -- what is told, with so much room in the two outputs
-unfoldable pub on_opened : List ℕ → List ℕ → ℕ → ℕ → ℕ → Opened → Made
-on_opened s table moment room more (opened.Refused refusal) = Refused refusal
-on_opened s table moment room more (opened.Image n day version) =
-    cond (table_good n table)
+unfoldable pub on_opened : List ℕ → List ℕ → ℕ → ℕ → ℕ → Result Opened Refusal → Result Made Refusal
+on_opened s table moment room more (Err refusal) = Err refusal
+on_opened s table moment room more (Ok o) =
+    cond (table_good o.entries table)
     (cond (real_moment 1950 2099 moment)
     (cond (leb (length (room_bytes moment s)) room)
     (cond (leb (length (room_table moment s table)) more)
-    (Image (length (room_bytes moment s)) (length (room_table moment s table)) (length (kept moment (items_in s))))
-    (Refused refusal.Short))
-    (Refused refusal.Short))
-    (Refused refusal.Argument))
-    (Refused refusal.Argument)
+    (Ok (record { length = (length (room_bytes moment s)); table_length = (length (room_table moment s table)); entries = (length (kept moment (items_in s))) }))
+    (Err refusal.Short))
+    (Err refusal.Short))
+    (Err refusal.Argument))
+    (Err refusal.Argument)
 
-unfoldable pub made_of : List ℕ → List ℕ → ℕ → ℕ → ℕ → Made
+unfoldable pub made_of : List ℕ → List ℕ → ℕ → ℕ → ℕ → Result Made Refusal
 made_of s table moment room more = on_opened s table moment room more (opened_of s)
 
 -- an output after the call: what is written and what stood beyond it; as it was on a refusal
-unfoldable pub on_made : Made → List ℕ → List ℕ → List ℕ
-on_made (Refused refusal) new old = old
-on_made (Image size table entries) new old = new ++ drop (length new) old
+unfoldable pub on_made : Result Made Refusal → List ℕ → List ℕ → List ℕ
+on_made (Err refusal) new old = old
+on_made (Ok m) new old = new ++ drop (length new) old
 
 -- both outputs after the call
 unfoldable pub image_out : List ℕ → List ℕ → ℕ → List ℕ → List ℕ → List ℕ

@@ -9,12 +9,11 @@ pub(crate) fn cut_lines(table: &[u8], n: usize, columns: &[u8], rows: &[u8], out
     requires { (n ≤ 96) × (length rows.now * length columns.now ≤ length out.old) }
     ensures { out.new ≡ cut_lines n table.now columns.now rows.now ++ drop (length rows.now * length columns.now) out.old }
 {
-    if rows.len() == 0 {
-        return;
+    let mut at = 0;
+    for row in rows {
+        cut_line(table, n, *row, columns, &mut out[at..]);
+        at += columns.len();
     }
-    cut_line(table, n, rows[0], columns, out);
-    let many = columns.len();
-    cut_lines(table, n, columns, &rows[1..], &mut out[many..]);
 }
 
 // Of one row.
@@ -23,9 +22,7 @@ fn cut_line(table: &[u8], n: usize, row: u8, columns: &[u8], out: &mut [u8])
     ensures { out.new ≡ cut_line n table.now row columns.now ++ drop (length columns.now) out.old }
 {
     let start = row as usize * n;
-    let mut i = 0;
-    while i < columns.len() {
+    for i in 0..columns.len() {
         out[i] = octet(table, start + columns[i] as usize);
-        i += 1;
     }
 }

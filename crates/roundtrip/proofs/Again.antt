@@ -1,4 +1,5 @@
 -- The entries that the rules let pass are those that their items are written with, one behind the other.
+use Rattle.std.specs.Prelude.{Some, None}
 use mathlib.Core.Path.{◌≡◌, refl, sym, ◌∙◌, ap, ap₂}
 use mathlib.Core.Bool.{Bool, true, false, cond, ◌&&◌, and-eq-true_iff}
 use mathlib.Core.List.{List, [], ◌∷◌, ◌++◌, append_assoc}
@@ -12,7 +13,6 @@ use Rattle.octets.specs.Octets.{Octets, no-octet, octet}
 use Rattle.tree.proofs.Cases.{by-test}
 use Rattle.tree.proofs.Numbers.{octets-take, octets-drop}
 use Rattle.image.specs.declared.IndexEntry.{IndexEntry}
-use Rattle.image.specs.declared.Total.TheVariants.{Sum, Unfit}
 use Rattle.image.specs.Items.{Item, packed, entry_bytes, index_bytes, trailer_bytes, image_bytes}
 use Rattle.image.specs.Index.{field, letter_at, entry_at, item_at, items_from, items_in, index_start, entry_count, version_in, day_in, width}
 use Rattle.image.specs.Rules.{fields_good, entry_good, padded, sum_of, total_of}
@@ -28,10 +28,10 @@ pub record Passed (version : ℕ) (s : List ℕ) (at left sum total : ℕ) : Typ
   pub fields : fields_good (entry_at version s at).kind (entry_at version s at).flags (entry_at version s at).length ≡ true
   pub offset : (entry_at version s at).offset ≡ sum
   pub blank : padded version s at ≡ true
-  pub others : sum_of version s (at + width version) left (sum + (entry_at version s at).length) ≡ Sum total
+  pub others : sum_of version s (at + width version) left (sum + (entry_at version s at).length) ≡ Some total
 
 pub passed :
-    (version : ℕ) (s : List ℕ) (at left sum total : ℕ) → sum_of version s at (suc left) sum ≡ Sum total
+    (version : ℕ) (s : List ℕ) (at left sum total : ℕ) → sum_of version s at (suc left) sum ≡ Some total
     → Passed version s at left sum total
 unfolding sum_of entry_good
 passed version s at left sum total e =
@@ -40,11 +40,11 @@ passed version s at left sum total e =
     (λ t. let both = (and-eq-true_iff (entry_good one sum) _).0 t in
     let good = (and-eq-true_iff (fields_good one.kind one.flags one.length) _).0 both.0 in
     record { fields = good.0; offset = eqb-true _ _ good.1; blank = both.1; others = rw t at e })
-    λ f. let unfit : Unfit ≡ Sum total = rw f at e in
+    λ f. let unfit : None ≡ Some total = rw f at e in
     let z : ◌≡◌ {A = ℕ} 0 1 = cc in
     absurd (omega arith)
 
-pub sum-grows : (version : ℕ) (s : List ℕ) (left at sum total : ℕ) → sum_of version s at left sum ≡ Sum total → sum ≤ total
+pub sum-grows : (version : ℕ) (s : List ℕ) (left at sum total : ℕ) → sum_of version s at left sum ≡ Some total → sum ≤ total
 unfolding sum_of
 sum-grows version s zero at sum total e = let same : sum ≡ total = cc in omega arith
 sum-grows version s (suc left) at sum total e =
@@ -79,7 +79,7 @@ cut s at n = ap (λ (l : List ℕ). take n (drop at s) ++ l) (sym (drop-drop n a
 
 items-again :
     (version : ℕ) (s : List ℕ) → Octets s → (left at sum total : ℕ) → at + width version * left ≤ length s → total ≤ length s
-    → sum_of version s at left sum ≡ Sum total → Again version s (items_from version s at left) at left sum total
+    → sum_of version s at left sum ≡ Some total → Again version s (items_from version s at left) at left sum total
 unfolding sum_of items_from item_at packed index_bytes entry_octets
 items-again version s o zero at sum total room limit e =
     let same : sum ≡ total = cc in

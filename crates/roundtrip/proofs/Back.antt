@@ -1,4 +1,5 @@
 -- Each entry that was written is read back with its item, so the items are, and their lengths sum up.
+use Rattle.std.specs.Prelude.{Some}
 use mathlib.Core.Path.{◌≡◌, refl, sym, ◌∙◌, ap, ap₂}
 use mathlib.Core.Bool.{true, cond, and-eq-true_iff}
 use mathlib.Core.List.{List, ◌∷◌, ◌++◌, append_assoc}
@@ -10,8 +11,6 @@ use lib.ListN.{length, take, drop, length-append}
 use lib.Seq.{take_at, drop_at}
 use Rattle.calendar.specs.Days.{real_day}
 use Rattle.image.specs.declared.IndexEntry.{IndexEntry}
-use Rattle.image.specs.declared.Opened.TheVariants.{Image}
-use Rattle.image.specs.declared.Total.TheVariants.{Sum}
 use Rattle.image.specs.Items.{Item, packed, entry_bytes, index_bytes, trailer_bytes, image_bytes}
 use Rattle.image.specs.Index.{version_in, width, entry_at, item_at, items_from, items_in}
 use Rattle.image.specs.Rules.{fields_good, entry_good, padded, sum_of, total_of}
@@ -24,6 +23,7 @@ use Rattle.roundtrip.proofs.Entries.{entry-at, padded-at, entry-back}
 use Rattle.image.proofs.Sizes.{length-image, length-index}
 use Rattle.roundtrip.proofs.Trailer.{Trailer, trailer_of, trailer-back}
 use Rattle.roundtrip.proofs.Opening.{Holds, holds_opened}
+use Rattle.image.proofs.Payloads.{an_image}
 
 pub version-known : (version : ℕ) → version_good version ≡ true → (1 ≤ version) × (version ≤ 2)
 unfolding version_good
@@ -71,14 +71,14 @@ item-at s item offset after e =
 
 record Back (version : ℕ) (s : List ℕ) (items : List Item) (at offset : ℕ) : Type 0 where
   same : items_from version s at (length items) ≡ items
-  sums : sum_of version s at (length items) offset ≡ Sum (offset + length (packed items))
+  sums : sum_of version s at (length items) offset ≡ Some (offset + length (packed items))
 
 items_back :
     (version : ℕ) (s : List ℕ) {items : List Item} → GoodItems version items → (at offset : ℕ) (behind after : List ℕ)
     → drop at s ≡ index_bytes version offset items ++ behind → drop offset s ≡ packed items ++ after → offset + length (packed items) ≤ 262144
     → Back version s items at offset
 unfolding items_from sum_of packed index_bytes
-items_back version s no_item at offset behind after index octets limit = record { same = refl; sums = ap Sum (omega arith) }
+items_back version s no_item at offset behind after index octets limit = record { same = refl; sums = ap Some (omega arith) }
 items_back version s (good-item {item} {rest} fields o pair letters good) at offset behind after index octets limit =
     let size : ℕ = length item.bytes in
     let e : IndexEntry = entry_of item offset in
@@ -99,7 +99,7 @@ items_back version s (good-item {item} {rest} fields o pair letters good) at off
     let next = items_back version s good (at + width version) (offset + size) behind after index' octets' (omega arith) in
     record {
       same = ap₂ ◌∷◌ (ap (item_at s) entry ∙ item-at s item offset _ parts) next.same;
-      sums = rw (entry, blank, entry-good e offset fields refl) (next.sums ∙ ap Sum long);
+      sums = rw (entry, blank, entry-good e offset fields refl) (next.sums ∙ ap Some long);
     }
 
 day-low : (day : ℕ) → real_day 1950 2099 day ≡ true → day < 4294967296
@@ -111,7 +111,7 @@ day-low day e =
 
 pub image-back :
     (version : ℕ) (items : List Item) (day : ℕ) → Fits version items day
-    → (opened_of (image_bytes version items day) ≡ Image (length items) day version) × (items_in (image_bytes version items day) ≡ items)
+    → (opened_of (image_bytes version items day) ≡ an_image (length items) day version) × (items_in (image_bytes version items day) ≡ items)
     × (version_in (image_bytes version items day) ≡ version)
 unfolding image_bytes items_in total_of trailer_of
 image-back version items day f =
@@ -139,6 +139,6 @@ image-back version items day f =
       few = rw t.entries few;
       real = rw t.day f.real;
       ends = rw (t.start, t.version, t.entries) (sym long);
-      sums = rw (t.start, t.version, t.entries) (b.sums ∙ ap Sum (omega arith));
+      sums = rw (t.start, t.version, t.entries) (b.sums ∙ ap Some (omega arith));
     } in
     (holds_opened 1 2 s h ∙ rw (t.entries, t.day, t.version), rw (t.start, t.version, t.entries) b.same, t.version)

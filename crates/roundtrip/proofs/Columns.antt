@@ -1,4 +1,5 @@
 -- Lengths that sum to the octets cut them into items with nothing left, so good columns give good items.
+use Rattle.std.specs.Prelude.{Result, Ok, Err}
 use mathlib.Core.Path.{◌≡◌, refl, sym, ◌∙◌, ap, subst}
 use mathlib.Core.Bool.{Bool, true, false, cond, ◌&&◌, and-eq-true_iff}
 use mathlib.Core.List.{List, [], ◌∷◌, ◌++◌}
@@ -13,8 +14,7 @@ use Rattle.tree.proofs.Cases.{cond-by}
 use Rattle.tree.proofs.Numbers.{octets-take, octets-drop}
 use Rattle.image.specs.Items.{Item, packed, image_bytes}
 use Rattle.image.specs.Rules.{fields_good}
-use Rattle.writer.specs.declared.Written.{Written}
-use Rattle.writer.specs.declared.Written.TheVariants.{Length, Refused}
+use Rattle.refusal.specs.declared.Refusal.{Refusal}
 use Rattle.writer.specs.Writing.{rows_good, sum_all, zeros, letters_good, arguments_good, size_of, written_of, items_of}
 use Rattle.writer.proofs.Columns.{arguments-tell}
 use Rattle.roundtrip.specs.Good.{GoodItems, no_item, good-item, Fits}
@@ -89,14 +89,14 @@ module _ (version : ℕ) (octets kinds flags lengths letters : List ℕ) (day : 
     pub room-left : size_of version octets kinds ≤ room
     pub same : size ≡ size_of version octets kinds
 
-  abbrev Told : ℕ → Written → Type 0
-  Told room (Length size) = Wrote room size
-  Told room (Refused refusal) = Unit {0}
+  abbrev Told : ℕ → Result ℕ Refusal → Type 0
+  Told room (Ok size) = Wrote room size
+  Told room (Err refusal) = Unit {0}
 
   told : (room : ℕ) → Told room (written_of version octets kinds flags lengths letters day room)
   unfolding written_of
   told room =
-      let P : Written → Type 0 = Told room in
+      let P : Result ℕ Refusal → Type 0 = Told room in
       cond-by P (arguments_good version octets kinds flags lengths letters day)
       (λ good. cond-by P (leb (size_of version octets kinds) 262144)
       (λ short. cond-by P (leb (size_of version octets kinds) room)
@@ -105,7 +105,7 @@ module _ (version : ℕ) (octets kinds flags lengths letters : List ℕ) (day : 
       λ long. tt)
       λ bad. tt
 
-  pub wrote : (room size : ℕ) → written_of version octets kinds flags lengths letters day room ≡ Length size → Wrote room size
+  pub wrote : (room size : ℕ) → written_of version octets kinds flags lengths letters day room ≡ Ok size → Wrote room size
   wrote room size e = subst (Told room) e (told room)
 
   pub columns-fit :

@@ -1,4 +1,5 @@
 -- A list's columns cut its octets into the same items, so the writer takes them and writes its image.
+use Rattle.std.specs.Prelude.{Result, Ok, Err}
 use mathlib.Core.Path.{◌≡◌, refl, sym, ◌∙◌, ap, ap₂}
 use mathlib.Core.Bool.{Bool, true, false, cond, ◌&&◌, and-eq-true_iff}
 use mathlib.Core.List.{List, [], ◌∷◌, ◌++◌}
@@ -12,8 +13,7 @@ use Rattle.image.specs.Items.{Item, packed, image_bytes}
 use Rattle.image.specs.Index.{width}
 use Rattle.refusal.specs.declared.Refusal.TheVariants.{Limit, Short}
 use Rattle.calendar.specs.Days.{real_day}
-use Rattle.writer.specs.declared.Written.{Written}
-use Rattle.writer.specs.declared.Written.TheVariants.{Length, Refused}
+use Rattle.refusal.specs.declared.Refusal.{Refusal}
 use Rattle.writer.specs.Writing.{rows_good, sum_all, version_good, counts_good, zeros, letters_good, arguments_good, size_of, written_of, items_of}
 use Rattle.roundtrip.specs.Good.{GoodItems, no_item, good-item, Fits}
 use Rattle.roundtrip.specs.Columns.{kinds_of, flags_of, lengths_of, letters_of}
@@ -82,8 +82,8 @@ columns {version} (good-item {item} {rest} fields o pair letters good) =
     }
 
 -- what the writer answers where nothing but the size may be refused
-abbrev pub sized_of : ℕ → ℕ → Written
-sized_of size room = cond (leb size 262144) (cond (leb size room) (Length size) (Refused Short)) (Refused (Limit 0))
+abbrev pub sized_of : ℕ → ℕ → Result ℕ Refusal
+sized_of size room = cond (leb size 262144) (cond (leb size room) (Ok size) (Err Short)) (Err (Limit 0))
 
 -- the columns of good items are refused for their size only
 pub columns-sized :
@@ -107,6 +107,6 @@ columns-sized version items day room known good few real =
 pub columns-written :
     (version : ℕ) (items : List Item) (day room : ℕ) → Fits version items day → length (image_bytes version items day) ≤ room
     → written_of version (packed items) (kinds_of items) (flags_of items) (lengths_of items) (letters_of items) day room
-    ≡ Length (length (image_bytes version items day))
+    ≡ Ok (length (image_bytes version items day))
 columns-written version items day room f h =
     columns-sized version items day room f.known f.good f.few f.real ∙ rw (le-leb _ _ f.small, le-leb _ _ h)

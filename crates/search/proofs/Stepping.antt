@@ -14,8 +14,8 @@ use Rattle.graph.proofs.Cases.{clash, either}
 use Rattle.graph.proofs.Steps.{from-signer, no_step, to-link, to-signer}
 use Rattle.usable.specs.declared.opened.Row.{Row}
 use Rattle.usable.specs.Table.{verdict_in}
-use Rattle.usable.specs.Rows.{flag, row_at, leads_of, led_of, fits_of, matched_of, step_of}
-use Rattle.usable.proofs.RowLaws.{flag_true, flag-false, step-asked, step-unasked, step-unled}
+use Rattle.usable.specs.Rows.{row_at, leads_of, led_of, fits_of, matched_of, step_of}
+use Rattle.usable.proofs.RowLaws.{step-asked, step-unasked, step-unled}
 use Rattle.search.specs.Tables.{tables_graph}
 
 -- what leads on is no signer
@@ -65,22 +65,22 @@ module _ (held : Row → List ℕ) (n : ℕ) (table : List ℕ) (rows : List (Li
     -- a place that leads nowhere
     pub leads-nowhere : leads_of (get_or roles u 0) ≡ false → followed n (tables_graph held n table rows roles) u v ≡ false
     leads-nowhere e =
-        followed-step ∙ flag-false (step_of held n table rows roles u v) (step-unled held n table rows roles u v refl e) (λ z. omega arith)
+        followed-step ∙ step-unled held n table rows roles u v refl e
 
     -- one that leads on, by the octet of the table and by whether the two fit
     module _ (lead : leads_of (get_or roles u 0) ≡ true) where
       pub no-verdict : (get_or table (u * n + v) 0 ≡ 1 → ⊥) → followed n (tables_graph held n table rows roles) u v ≡ false
       no-verdict d =
           followed-step
-          ∙ flag-false (step_of held n table rows roles u v) (step-unasked held n table rows roles u v refl lead refl d) (λ z. omega arith)
+          ∙ step-unasked held n table rows roles u v refl lead refl d
 
-      module _ {value : ℕ} (one : get_or table (u * n + v) 0 ≡ 1) (is : value ≡ flag (matched_of held (row_at rows u) (row_at rows v) (get_or roles v 0))) where
-        pub fitting : value ≡ 1 → followed n (tables_graph held n table rows roles) u v ≡ true
+      module _ {value : Bool} (one : get_or table (u * n + v) 0 ≡ 1) (is : value ≡ matched_of held (row_at rows u) (row_at rows v) (get_or roles v 0)) where
+        pub fitting : value ≡ true → followed n (tables_graph held n table rows roles) u v ≡ true
         fitting e =
             followed-step
-            ∙ flag_true (step_of held n table rows roles u v) (step-asked held n table rows roles u v refl refl refl refl lead refl one is) e
+            ∙ sym (step-asked held n table rows roles u v refl refl refl refl lead refl one is) ∙ e
 
-        pub unfitting : (value ≡ 1 → ⊥) → followed n (tables_graph held n table rows roles) u v ≡ false
+        pub unfitting : value ≡ false → followed n (tables_graph held n table rows roles) u v ≡ false
         unfitting d =
             followed-step
-            ∙ flag-false (step_of held n table rows roles u v) (step-asked held n table rows roles u v refl refl refl refl lead refl one is) d
+            ∙ sym (step-asked held n table rows roles u v refl refl refl refl lead refl one is) ∙ d

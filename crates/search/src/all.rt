@@ -8,7 +8,7 @@ ghost use Rattle.usable.specs.Rows.{held_in};
 ghost use Rattle.search.specs.Queue.{QueueTables, Paths};
 ghost use Rattle.search.specs.Tables.{tables_graph};
 
-use crate::{chain_in, search};
+use crate::{Marks, chain_in, search};
 
 // The tables as `chain_to` has them. Writes a record of 97 octets for each place, the length of the chain to it and its 96
 // slots; the output beyond stays, and all of it where it has no room for all records.
@@ -28,9 +28,7 @@ pub fn chains_to_all(
     if out.len() < 97 * places {
         return;
     }
-    let marks = search(octets, table, places, rows, roles);
-    let parent = marks.parent;
-    let distance = marks.distance;
+    let Marks { parent, distance } = search(octets, table, places, rows, roles);
     record_all(places, roles, &parent, &distance, out);
 }
 
@@ -45,13 +43,9 @@ fn record_all(
     requires { (places ≤ 96) × (97 * places ≤ length out.old) × Paths places parent.now distance.now }
     ensures { (step : ℕ → ℕ → Bool) → QueueTables places (followed places (graph_by places roles.now step)) parent.now distance.now → Records (graph_by places roles.now step) places out.old out.new }
 {
-    let mut done = 0;
-    while done < places {
-        done += 1;
-        let place = done - 1;
+    for place in 0..places {
         let found = chain_in(places, roles, parent, distance, place);
-        let slots = found.places;
-        put(found.length, slots, 97 * place, out);
+        put(found.length, found.places, 97 * place, out);
     }
 }
 
@@ -61,9 +55,5 @@ fn put(count: usize, slots: [u8; 96], at: usize, out: &mut [u8])
     ensures { (length slots ≡ 96) × (out.new ≡ paste out.old at (count ∷ slots) 97) }
 {
     out[at] = count as u8;
-    let mut i = 0;
-    while i < 96 {
-        out[at + 1 + i] = slots[i];
-        i += 1;
-    }
+    out[at + 1..at + 97].copy_from_slice(&slots);
 }

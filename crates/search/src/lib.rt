@@ -40,9 +40,7 @@ pub fn chain_to(
     if 96 < places {
         return no_chain();
     }
-    let marks = search(octets, table, places, rows, roles);
-    let parent = marks.parent;
-    let distance = marks.distance;
+    let Marks { parent, distance } = search(octets, table, places, rows, roles);
     chain_in(places, roles, &parent, &distance, target)
 }
 
@@ -94,15 +92,13 @@ fn anchors(
     ensures { (step : ℕ → ℕ → Bool) → At places (followed places (graph_by places roles.now step)) queue.new parent.new distance.new (result + 1) 0 places }
 {
     let mut end = 0;
-    let mut v = 0;
-    while v < places {
+    for v in 0..places {
         if roles[v] == 1 {
             parent[v] = places as u8;
             distance[v] = 1;
             end += 1;
             queue[end] = v as u8;
         }
-        v += 1;
     }
     end
 }
@@ -124,35 +120,22 @@ fn row(
     requires at { At places (followed places (tables_graph (held_in octets.now) places table.now rows.now roles.now)) queue.old parent.old distance.old (last + 1) head 0 }
     ensures { At places (followed places (tables_graph (held_in octets.now) places table.now rows.now roles.now)) queue.new parent.new distance.new (result + 1) head places }
 {
-    let u = wide(queue[head]);
+    let u = queue[head] as usize;
     if !leads(roles[u]) {
         return last;
     }
     let far = distance[u] + 1;
     let line = part(table, u * places, places);
     let mut end = last;
-    let mut column = 0;
-    while column < line.len() {
-        column += 1;
-        let v = column - 1;
-        if line[v] == 1 {
-            if parent[v] == 255 {
-                if matched(octets, rows, u, v, roles[v]) == 1 {
-                    parent[v] = u as u8;
-                    distance[v] = far;
-                    end += 1;
-                    queue[end] = v as u8;
-                }
-            }
+    for v in 0..line.len() {
+        if line[v] == 1 && parent[v] == 255 && matched(octets, rows, u, v, roles[v]) {
+            parent[v] = u as u8;
+            distance[v] = far;
+            end += 1;
+            queue[end] = v as u8;
         }
     }
     end
-}
-
-fn wide(x: u8) -> usize
-    ensures { result ≡ x }
-{
-    x as usize
 }
 
 // The chain to the target by the tables, whatever search filled them.
@@ -178,7 +161,7 @@ fn chain_in(
     }
     let slots = path_places(places, parent, distance, target);
     Found {
-        length: wide(distance[target]),
+        length: distance[target] as usize,
         places: slots,
     }
 }
@@ -193,11 +176,11 @@ fn path_places(places: usize, parent: &[u8; 96], distance: &[u8; 96], target: us
 {
     let mut slots = [255u8; 96];
     let mut place = target;
-    let mut left = wide(distance[target]);
+    let mut left = distance[target] as usize;
     while place != places {
         left -= 1;
         slots[left] = place as u8;
-        place = wide(parent[place]);
+        place = parent[place] as usize;
     }
     slots
 }

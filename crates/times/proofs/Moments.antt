@@ -1,4 +1,5 @@
 -- The moment that ten digits write after a year: its parts are the year and the five pairs, so it is real just if they are in their ranges.
+use Rattle.std.specs.Prelude.{Some, None}
 use Prim.Native.Nat.{ℕ, ◌+◌, ◌*◌, ◌/◌, ◌%◌, ◌≤◌}
 use mathlib.Core.Bool.{Bool, true, false, cond, and-eq-true_iff}
 use mathlib.Core.List.{List}
@@ -9,10 +10,9 @@ use lib.Dec.{leb}
 use lib.ListN.{length, get_or, drop, drop_of_length-le}
 use Rattle.calendar.specs.Days.{month_length, real_day, real_moment, year_of, month_of, day_of}
 use Rattle.calendar.proofs.Days.{Real, real, length_most}
-use Rattle.times.specs.declared.Time.TheVariants.{Moment, Untimely}
 use Rattle.times.specs.Pairs.{Pair}
 use Rattle.times.specs.Times.{Figures, Number, Wordy, figures, real_time, real_number}
-use Rattle.times.proofs.Pairs.{drop-two, pair_read, pair-was}
+use Rattle.times.proofs.Pairs.{drop-two, pair-few, pair_read, pair-was}
 
 abbrev pub moment_on : ℕ → ℕ → ℕ → ℕ → ℕ → ℕ → ℕ
 moment_on year month day hour minute second = ((((year * 100 + month) * 100 + day) * 100 + hour) * 100 + minute) * 100 + second
@@ -72,11 +72,11 @@ module _ (year : ℕ) (c : List ℕ) (ten : length c ≡ 10) where
   -- the parts of a number that is written so
   pub record Written (m : ℕ) : Type 0 where
     pub year-is : year_of (m / 1000000) ≡ year
-    pub month-is : {r : ℕ} → Pair (get_or c 0 0) (get_or c 1 0) r → month_of (m / 1000000) ≡ r
-    pub day-is : {r : ℕ} → Pair (get_or c 2 0) (get_or c 3 0) r → day_of (m / 1000000) ≡ r
-    pub hour-is : {r : ℕ} → Pair (get_or c 4 0) (get_or c 5 0) r → m / 10000 % 100 ≡ r
-    pub minute-is : {r : ℕ} → Pair (get_or c 6 0) (get_or c 7 0) r → m / 100 % 100 ≡ r
-    pub second_is : {r : ℕ} → Pair (get_or c 8 0) (get_or c 9 0) r → m % 100 ≡ r
+    pub month : Pair (get_or c 0 0) (get_or c 1 0) (month_of (m / 1000000))
+    pub day : Pair (get_or c 2 0) (get_or c 3 0) (day_of (m / 1000000))
+    pub hour : Pair (get_or c 4 0) (get_or c 5 0) (m / 10000 % 100)
+    pub minute : Pair (get_or c 6 0) (get_or c 7 0) (m / 100 % 100)
+    pub second : Pair (get_or c 8 0) (get_or c 9 0) (m % 100)
     -- the number that is written so after any year
     pub anew : (k : ℕ) → figures k c ≡ Number (k * 10000000000 + m % 10000000000)
 
@@ -86,15 +86,14 @@ module _ (year : ℕ) (c : List ℕ) (ten : length c ≡ 10) where
 
   -- the octets from i on begin with a pair that writes r
   record Starts (i r : ℕ) : Type 0 where
-    pub few : r ≤ 99
-    pub told : (p : ℕ) → Pair (get_or c i 0) (get_or c (i + 1) 0) p → r ≡ p
+    pub told : Pair (get_or c i 0) (get_or c (i + 1) 0) r
     pub goes : (k : ℕ) → figures k (drop i c) ≡ figures (k * 100 + r) (drop (i + 2) c)
 
   begins : (i n m : ℕ) → i + 2 ≤ length c → figures n (drop i c) ≡ Number m → (r : ℕ) × Starts i r × (figures (n * 100 + r) (drop (i + 2) c) ≡ Number m)
   begins i n m h e =
       let w = pair-was _ _ _ n m (ap (figures n) (sym (drop-two c i h)) ∙ e) in
       let goes : (k : ℕ) → figures k (drop i c) ≡ figures (k * 100 + w.read) (drop (i + 2) c) = λ k. ap (figures k) (drop-two c i h) ∙ w.goes_on k in
-      (w.read, record { few = w.few; told = λ p told. w.told told; goes = goes }, sym (goes n) ∙ e)
+      (w.read, record { told = w.told; goes = goes }, sym (goes n) ∙ e)
 
   figures-ended : (n m : ℕ) → figures n (drop 10 c) ≡ Number m → m ≡ n
   figures-ended n m e = let end : figures n (drop 10 c) ≡ Number n = figures-end n in cc
@@ -105,17 +104,22 @@ module _ (year : ℕ) (c : List ℕ) (ten : length c ≡ 10) where
     goes-all k = p1.goes k ∙ p2.goes _ ∙ p3.goes _ ∙ p4.goes _ ∙ p5.goes _ ∙ figures-end _
 
     again : (k : ℕ) → moment_on k r1 r2 r3 r4 r5 ≡ k * 10000000000 + moment_on year r1 r2 r3 r4 r5 % 10000000000
-    again k = moment-again k year r1 r2 r3 r4 r5 p1.few p2.few p3.few p4.few p5.few
+    again k = moment-again k year r1 r2 r3 r4 r5 (pair-few p1.told) (pair-few p2.told) (pair-few p3.told) (pair-few p4.told) (pair-few p5.told)
 
     parts-written : Written (moment_on year r1 r2 r3 r4 r5)
     parts-written =
+        let f1 = pair-few p1.told in
+        let f2 = pair-few p2.told in
+        let f3 = pair-few p3.told in
+        let f4 = pair-few p4.told in
+        let f5 = pair-few p5.told in
         record {
-          year-is = year-on year _ _ _ _ _ p1.few p2.few p3.few p4.few p5.few;
-          month-is = λ p. month-on year _ _ _ _ _ p1.few p2.few p3.few p4.few p5.few ∙ p1.told _ p;
-          day-is = λ p. day-on year _ _ _ _ _ p1.few p2.few p3.few p4.few p5.few ∙ p2.told _ p;
-          hour-is = λ p. hour-on year _ _ _ _ _ p1.few p2.few p3.few p4.few p5.few ∙ p3.told _ p;
-          minute-is = λ p. minute-on year _ _ _ _ _ p1.few p2.few p3.few p4.few p5.few ∙ p4.told _ p;
-          second_is = λ p. second-on year _ _ _ _ _ p1.few p2.few p3.few p4.few p5.few ∙ p5.told _ p;
+          year-is = year-on year r1 r2 r3 r4 r5 f1 f2 f3 f4 f5;
+          month = rw (month-on year r1 r2 r3 r4 r5 f1 f2 f3 f4 f5) p1.told;
+          day = rw (day-on year r1 r2 r3 r4 r5 f1 f2 f3 f4 f5) p2.told;
+          hour = rw (hour-on year r1 r2 r3 r4 r5 f1 f2 f3 f4 f5) p3.told;
+          minute = rw (minute-on year r1 r2 r3 r4 r5 f1 f2 f3 f4 f5) p4.told;
+          second = rw (second-on year r1 r2 r3 r4 r5 f1 f2 f3 f4 f5) p5.told;
           anew = λ k. goes-all k ∙ ap Number (again k);
         }
 
@@ -145,15 +149,15 @@ module _ (year : ℕ) (c : List ℕ) (ten : length c ≡ 10) where
       first (r1, p1, e1) = second p1 refl (begins 2 _ m (omega arith) e1)
 
   -- what no real moment can be is no time
-  pub none-real : ((m : ℕ) → Written m → RealAt m → ⊥) → Untimely ≡ real_number (figures year c)
+  pub none-real : ((m : ℕ) → Written m → RealAt m → ⊥) → None ≡ real_number (figures year c)
   unfolding real_number real_time
   none-real never = go (figures year c) refl
     where
-      go : (f : Figures) → figures year c ≡ f → Untimely ≡ real_number f
+      go : (f : Figures) → figures year c ≡ f → None ≡ real_number f
       go Wordy e = refl
       go (Number m) e = test (real_moment 0 9999 m) refl
         where
-          test : (t : Bool) → real_moment 0 9999 m ≡ t → Untimely ≡ cond t (Moment m) Untimely
+          test : (t : Bool) → real_moment 0 9999 m ≡ t → None ≡ cond t (Some m) None
           test true g = absurd (never m (written m e) (real-at m g))
           test false g = refl
 
@@ -174,17 +178,16 @@ module _ (year : ℕ) (c : List ℕ) (ten : length c ≡ 10) where
       (seconds : second ≤ 59) where
     number : figures year c ≡ Number (moment_on year month day hour minute second)
     number =
-        let days : day ≤ 31 = omega (arith, length_most year month) in
         let n1 = year * 100 + month in
         let n2 = n1 * 100 + day in
         let n3 = n2 * 100 + hour in
         let n4 = n3 * 100 + minute in
         let n5 = n4 * 100 + second in
-        ap (figures year) (drop-two c 0 (omega arith)) ∙ pair_read _ _ _ year month-told (omega arith)
-        ∙ ap (figures n1) (drop-two c 2 (omega arith)) ∙ pair_read _ _ _ n1 day-told (omega arith)
-        ∙ ap (figures n2) (drop-two c 4 (omega arith)) ∙ pair_read _ _ _ n2 hour-told (omega arith)
-        ∙ ap (figures n3) (drop-two c 6 (omega arith)) ∙ pair_read _ _ _ n3 minute-told (omega arith)
-        ∙ ap (figures n4) (drop-two c 8 (omega arith)) ∙ pair_read _ _ _ n4 second-told (omega arith)
+        ap (figures year) (drop-two c 0 (omega arith)) ∙ pair_read _ _ _ year month-told
+        ∙ ap (figures n1) (drop-two c 2 (omega arith)) ∙ pair_read _ _ _ n1 day-told
+        ∙ ap (figures n2) (drop-two c 4 (omega arith)) ∙ pair_read _ _ _ n2 hour-told
+        ∙ ap (figures n3) (drop-two c 6 (omega arith)) ∙ pair_read _ _ _ n3 minute-told
+        ∙ ap (figures n4) (drop-two c 8 (omega arith)) ∙ pair_read _ _ _ n4 second-told
         ∙ figures-end n5
 
     in-range : real_moment 0 9999 (moment_on year month day hour minute second) ≡ true
@@ -211,6 +214,6 @@ module _ (year : ℕ) (c : List ℕ) (ten : length c ≡ 10) where
           le-leb _ _ seconds,
         )
 
-    pub one-real : Moment (moment_on year month day hour minute second) ≡ real_number (figures year c)
+    pub one-real : Some (moment_on year month day hour minute second) ≡ real_number (figures year c)
     unfolding real_number real_time
     one-real = rw (number, in-range)

@@ -38,21 +38,26 @@ module _ (n : ℕ) (rest : List ℕ) where
       go true false l h f = let z : ◌≡◌ {A = ℕ} 0 1 = cc in absurd (omega arith)
       go false high l h f = let z : ◌≡◌ {A = ℕ} 0 1 = cc in absurd (omega arith)
 
+pub pair-few : {a b r : ℕ} → Pair a b r → r ≤ 99
+pair-few p = omega (arith, p.value, p.tens.high, p.ones.high)
+
+-- two digits write one number
+pub pair-same : {a b r t : ℕ} → Pair a b r → Pair a b t → r ≡ t
+pair-same p q = p.value ∙ sym q.value
+
 module _ (a b : ℕ) (rest : List ℕ) where
   digits-read : (n : ℕ) → Digit a → Digit b → figures n (a ∷ b ∷ rest) ≡ figures (n * 100 + value_of a b) rest
   digits-read n da db =
       let sum : (n * 10 + (a - 48)) * 10 + (b - 48) ≡ n * 100 + value_of a b = omega arith in
       digit-read n (b ∷ rest) a da ∙ digit-read (n * 10 + (a - 48)) rest b db ∙ ap (λ (k : ℕ). figures k rest) sum
 
-  pub pair_read : (n : ℕ) {r : ℕ} → Pair a b r → r ≤ 99 → figures n (a ∷ b ∷ rest) ≡ figures (n * 100 + r) rest
-  pair_read n p few =
-      rw (p.value (p.tens few) (p.ones few)) (digits-read n (p.tens few) (p.ones few))
+  pub pair_read : (n : ℕ) {r : ℕ} → Pair a b r → figures n (a ∷ b ∷ rest) ≡ figures (n * 100 + r) rest
+  pair_read n p = rw p.value (digits-read n p.tens p.ones)
 
   -- the two digits at the front, and how any number goes on by them
   pub record Begins : Type 0 where
     pub read : ℕ
-    pub few : read ≤ 99
-    pub told : {r : ℕ} → Pair a b r → read ≡ r
+    pub told : Pair a b read
     pub goes_on : (n : ℕ) → figures n (a ∷ b ∷ rest) ≡ figures (n * 100 + read) rest
 
   -- a number has begun with two digits
@@ -62,15 +67,14 @@ module _ (a b : ℕ) (rest : List ℕ) where
       let (db, g) = digit-was (n * 10 + (a - 48)) rest b m f in
       record {
         read = value_of a b;
-        few = omega (arith, da.high, db.high);
-        told = λ p. sym (p.value da db);
+        told = record { tens = da; ones = db; value = refl };
         goes_on = λ n. digits-read n da db;
       }
 
   -- other octets write no number
-  pub pair-wordy : (n : ℕ) {r : ℕ} → Pair a b r → 99 < r → figures n (a ∷ b ∷ rest) ≡ Wordy
-  pair-wordy n p many = go (figures n (a ∷ b ∷ rest)) refl
+  pub pair-wordy : (n : ℕ) → (Digit a → Digit b → ⊥) → figures n (a ∷ b ∷ rest) ≡ Wordy
+  pair-wordy n none = go (figures n (a ∷ b ∷ rest)) refl
     where
       go : (f : Figures) → figures n (a ∷ b ∷ rest) ≡ f → f ≡ Wordy
       go Wordy e = refl
-      go (Number m) e = let w = pair-was n m e in absurd (omega (arith, w.few, w.told p))
+      go (Number m) e = let w = pair-was n m e in absurd (none w.told.tens w.told.ones)

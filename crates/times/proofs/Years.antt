@@ -1,4 +1,5 @@
 -- The year in front: two digits of a UTCTime, four of a GeneralizedTime, and what ten digits after it come to.
+use Rattle.std.specs.Prelude.{None}
 use Prim.Native.Nat.{ℕ, ◌+◌, ◌*◌, ◌-◌, ◌%◌, ◌<◌, ◌≤◌}
 use mathlib.Core.List.{List, [], ◌∷◌}
 use mathlib.Core.Path.{◌≡◌, refl, ap, ◌∙◌}
@@ -7,23 +8,18 @@ use native.Mathlib.Omega.{arith}
 use borrow.Author.Tests.{lt-ltb, le-ltb}
 use lib.ListN.{length, get_or, take, drop, length-drop}
 use lib.Seq.{length-take-le}
-use Rattle.times.specs.declared.Time.TheVariants.{Untimely}
-use Rattle.times.specs.Pairs.{Pair, YearOf}
+use Rattle.times.specs.Pairs.{Digit, Pair, Year}
 use Rattle.times.specs.Times.{Figures, Number, Wordy, figures, decimal_of, real_time, real_number, in_century, in_full, time_in}
 use Rattle.times.proofs.Pairs.{pair_read, pair-wordy}
 use Rattle.times.proofs.Moments.{written}
 
--- what is no time has no year
-pub no-year : (tag : ℕ) (c : List ℕ) → time_in tag c ≡ Untimely → YearOf tag c 10000
-no-year tag c e = record { long = λ h. absurd (omega arith); some = λ h. absurd (omega arith); none = λ h. e }
-
 -- the year takes i octets of a time
 pub a-year :
     (tag : ℕ) (c : List ℕ) (i r : ℕ) → length c ≡ 11 + i → r ≤ 9999 → time_in tag c ≡ real_number (figures r (take 10 (drop i c)))
-    → YearOf tag c r
+    → Year tag c r
 a-year tag c i r h few e =
     let left : length c - 11 ≡ i = omega arith in
-    record { long = λ f. omega arith; some = λ f. rw left e; none = λ f. absurd (omega arith) }
+    record { few = few; long = omega arith; is = rw left e }
 
 take-two : (c : List ℕ) → 2 ≤ length c → take 12 c ≡ get_or c 0 0 ∷ get_or c 1 0 ∷ take 10 (drop 2 c)
 take-two [] h = absurd (omega arith)
@@ -37,31 +33,31 @@ take-four (a ∷ b ∷ []) h = absurd (omega arith)
 take-four (a ∷ b ∷ x ∷ []) h = absurd (omega arith)
 take-four (a ∷ b ∷ x ∷ y ∷ c) h = refl
 
-first-pair : (a b : ℕ) (rest : List ℕ) {r : ℕ} → Pair a b r → r ≤ 99 → figures 0 (a ∷ b ∷ rest) ≡ figures r rest
-first-pair a b rest p few = rw zero-add at (pair_read a b rest 0 p few)
+first-pair : (a b : ℕ) (rest : List ℕ) {r : ℕ} → Pair a b r → figures 0 (a ∷ b ∷ rest) ≡ figures r rest
+first-pair a b rest p = rw zero-add at (pair_read a b rest 0 p)
 
-module _ (c : List ℕ) (two : 2 ≤ length c) {year : ℕ} (told : Pair (get_or c 0 0) (get_or c 1 0) year) where
-  pub short-wordy : 99 < year → decimal_of (take 12 c) ≡ Wordy
+module _ (c : List ℕ) (two : 2 ≤ length c) where
+  pub short-wordy : (Digit (get_or c 0 0) → Digit (get_or c 1 0) → ⊥) → decimal_of (take 12 c) ≡ Wordy
   unfolding decimal_of
-  short-wordy h = rw (take-two c two) (pair-wordy _ _ _ 0 told h)
+  short-wordy none = rw (take-two c two) (pair-wordy _ _ _ 0 none)
 
-  pub short-read : year ≤ 99 → decimal_of (take 12 c) ≡ figures year (take 10 (drop 2 c))
+  pub short-read : {year : ℕ} → Pair (get_or c 0 0) (get_or c 1 0) year → decimal_of (take 12 c) ≡ figures year (take 10 (drop 2 c))
   unfolding decimal_of
-  short-read h = rw (take-two c two) (first-pair _ _ _ told h)
+  short-read told = rw (take-two c two) (first-pair _ _ _ told)
 
-module _ (c : List ℕ) (four : 4 ≤ length c) {century : ℕ} (told : Pair (get_or c 0 0) (get_or c 1 0) century) where
-  pub front-wordy : 99 < century → decimal_of (take 14 c) ≡ Wordy
+module _ (c : List ℕ) (four : 4 ≤ length c) where
+  pub front-wordy : (Digit (get_or c 0 0) → Digit (get_or c 1 0) → ⊥) → decimal_of (take 14 c) ≡ Wordy
   unfolding decimal_of
-  front-wordy h = rw (take-four c four) (pair-wordy _ _ _ 0 told h)
+  front-wordy none = rw (take-four c four) (pair-wordy _ _ _ 0 none)
 
-  module _ (few : century ≤ 99) {rest : ℕ} (also : Pair (get_or c 2 0) (get_or c 3 0) rest) where
-    pub back-wordy : 99 < rest → decimal_of (take 14 c) ≡ Wordy
+  module _ {century : ℕ} (told : Pair (get_or c 0 0) (get_or c 1 0) century) where
+    pub back-wordy : (Digit (get_or c 2 0) → Digit (get_or c 3 0) → ⊥) → decimal_of (take 14 c) ≡ Wordy
     unfolding decimal_of
-    back-wordy h = rw (take-four c four) (first-pair _ _ _ told few ∙ pair-wordy _ _ _ _ also h)
+    back-wordy none = rw (take-four c four) (first-pair _ _ _ told ∙ pair-wordy _ _ _ _ none)
 
-    pub long-read : rest ≤ 99 → decimal_of (take 14 c) ≡ figures (century * 100 + rest) (take 10 (drop 4 c))
+    pub long-read : {rest : ℕ} → Pair (get_or c 2 0) (get_or c 3 0) rest → decimal_of (take 14 c) ≡ figures (century * 100 + rest) (take 10 (drop 4 c))
     unfolding decimal_of
-    long-read h = rw (take-four c four) (first-pair _ _ _ told few ∙ pair_read _ _ _ _ also h)
+    long-read also = rw (take-four c four) (first-pair _ _ _ told ∙ pair_read _ _ _ _ also)
 
 pub ten-left : (c : List ℕ) (i : ℕ) → i + 10 ≤ length c → length (take 10 (drop i c)) ≡ 10
 ten-left c i h = length-take-le 10 (drop i c) (rw length-drop (omega arith))
@@ -96,11 +92,11 @@ module _ (t : List ℕ) (ten : length t ≡ 10) where
       go (neither e f) = rw (e, f)
       go (either k few e f) = rw (e, f) (simp (le-ltb (year * 10000000000 + k) 500000000000 (omega arith)) (ap real_time (omega arith)))
 
-  pub too-early : (year : ℕ) → year < 2050 → Untimely ≡ in_full (figures year t)
+  pub too-early : (year : ℕ) → year < 2050 → None ≡ in_full (figures year t)
   unfolding in_full
   too-early year h = go (both year year)
     where
-      go : Both year year t → Untimely ≡ in_full (figures year t)
+      go : Both year year t → None ≡ in_full (figures year t)
       go (neither e f) = rw e
       go (either k few e f) = rw e (simp (lt-ltb (year * 10000000000 + k) 20500000000000 (omega arith)))
 

@@ -1,6 +1,6 @@
 -- The answers of a replay, each from its case; numbers that are stored stand at the front, and there are no more of them than records.
+use Rattle.std.specs.Prelude.{Ok, Err}
 use Prim.Native.Nat.{ℕ, zero, suc, ◌+◌, ◌/◌, ◌%◌, ◌≤◌, ◌<◌}
-use mathlib.Core.Bool.{true, false}
 use mathlib.Core.Path.{◌≡◌, refl, ap, sym, ◌∙◌}
 use mathlib.Core.List.{List, [], ◌∷◌, ◌++◌}
 use native.Mathlib.Omega.{arith}
@@ -9,10 +9,11 @@ use lib.ListN.{length, drop, length-append}
 use lib.Seq.{set_at, append_snoc}
 use Rattle.refusal.specs.declared.Refusal.TheVariants.{Argument, Short}
 use Rattle.calendar.proofs.Days.{by-test}
-use Rattle.tray.specs.declared.Replayed.TheVariants.{Faulty, Refused}
-use Rattle.tray.specs.Machine.{Entry, State, at_first, good_record, done, faulty_from}
+use Rattle.tray.specs.Machine.{at_first, good_record, done, faulty_from}
+use Rattle.tray.specs.declared.Entry.{Entry}
+use Rattle.tray.specs.declared.State.{State}
 use Rattle.tray.specs.Records.{entries_from, entries_of}
-use Rattle.tray.specs.Listing.{stored, listed_if}
+use Rattle.tray.specs.Listing.{stored}
 use Rattle.tray.specs.Answer.{faulty_of, replay_of, on_replayed, list_of}
 use Rattle.tray.proofs.Turns.{good-next, faulty-next}
 
@@ -49,35 +50,30 @@ unfolding faulty_of entries_of
 no_more log =
     omega (arith, faulty-few 0 at_first (entries_from (length log / 8) log 0), entries-count (length log / 8) log 0)
 
-nothing : (old numbers : List ℕ) → length numbers ≡ 0 → old ≡ listed_if true 0 old numbers
-unfolding listed_if stored
+nothing : (old numbers : List ℕ) → length numbers ≡ 0 → old ≡ stored 0 old numbers
+unfolding stored
 nothing old [] z = refl
 nothing old (n ∷ rest) z = absurd (omega arith)
 
--- a pass that only counts leaves the list
-pub kept : (old numbers : List ℕ) → listed_if false 0 old numbers ≡ old
-unfolding listed_if
-kept old numbers = refl
-
 module _ (log old : List ℕ) where
-  pub refused-argument : (length log % 8 ≡ 0 → ⊥) → (Refused Argument ≡ replay_of log (length old)) × (old ≡ list_of log old)
+  pub refused-argument : (length log % 8 ≡ 0 → ⊥) → (Err Argument ≡ replay_of log (length old)) × (old ≡ list_of log old)
   unfolding replay_of list_of on_replayed
   refused-argument n = (simp (ne_eqb _ _ n), simp (ne_eqb _ _ n))
 
   module _ (whole : length log % 8 ≡ 0) where
-    pub refused-short : length old < length (faulty_of log) → (Refused Short ≡ replay_of log (length old)) × (old ≡ list_of log old)
+    pub refused-short : length old < length (faulty_of log) → (Err Short ≡ replay_of log (length old)) × (old ≡ list_of log old)
     unfolding replay_of list_of on_replayed
     refused-short h = (simp (eq-eqb _ _ whole, lt-leb _ _ h), simp (eq-eqb _ _ whole, lt-leb _ _ h))
 
     pub all_listed :
         length (faulty_of log) ≤ length old
-        → (Faulty (length (faulty_of log)) ≡ replay_of log (length old)) × (listed_if true 0 old (faulty_of log) ≡ list_of log old)
-    unfolding replay_of list_of on_replayed listed_if
+        → (Ok (length (faulty_of log)) ≡ replay_of log (length old)) × (stored 0 old (faulty_of log) ≡ list_of log old)
+    unfolding replay_of list_of on_replayed
     all_listed h =
         (simp (eq-eqb _ _ whole, le-leb _ _ h), simp (eq-eqb _ _ whole, le-leb _ _ h) (stored-behind [] old (faulty_of log) h))
 
-    pub none-listed : length (faulty_of log) ≡ 0 → (Faulty 0 ≡ replay_of log (length old)) × (old ≡ list_of log old)
+    pub none-listed : length (faulty_of log) ≡ 0 → (Ok 0 ≡ replay_of log (length old)) × (old ≡ list_of log old)
     none-listed e =
         let fits : length (faulty_of log) ≤ length old = omega arith in
         let all = all_listed fits in
-        (ap Faulty (sym e) ∙ all.0, nothing old (faulty_of log) e ∙ all.1)
+        (ap Ok (sym e) ∙ all.0, nothing old (faulty_of log) e ∙ all.1)

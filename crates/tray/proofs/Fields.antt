@@ -2,7 +2,6 @@
 use Prim.Native.Nat.{ℕ, suc, ◌+◌, ◌*◌, ◌<◌, ◌≤◌}
 use mathlib.Core.Path.{◌≡◌, refl, ap, ◌∙◌}
 use mathlib.Core.List.{List}
-use native.Mathlib.Nat.{add_assoc}
 use native.Mathlib.Omega.{arith}
 use lib.ListN.{length, get_or, take, drop, length-drop}
 use lib.Seq.{get_or-drop}
@@ -19,25 +18,25 @@ nothing : (s : List ℕ) (at : ℕ) → number (take 0 (drop at s)) ≡ 0
 unfolding number
 nothing s at = refl
 
-pub field-two : (s : List ℕ) (at : ℕ) → at + 2 ≤ length s → number (take 2 (drop at s)) ≡ get_or s at 0 * 256 + get_or s (at + 1) 0
-field-two s at h =
-    let here : at + 0 ≡ at = omega arith in
-    omega (
-      arith,
-      nothing s at,
-      field_next s at 0 (omega arith),
-      field_next s at 1 (omega arith),
-      ap (λ (i : ℕ). get_or s i 0) here,
-    )
+module _ (s : List ℕ) (at : ℕ) where
+  pub field-two : at + 2 ≤ length s → number (take 2 (drop at s)) ≡ get_or s at 0 * 256 + get_or s (at + 1) 0
+  field-two h =
+      let here : at + 0 ≡ at = omega arith in
+      omega (
+        arith,
+        nothing s at,
+        field_next s at 0 (omega arith),
+        field_next s at 1 (omega arith),
+        ap (λ (i : ℕ). get_or s i 0) here,
+      )
 
-pub field-four :
-    (s : List ℕ) (at : ℕ) → at + 4 ≤ length s
-    → number (take 4 (drop at s)) ≡ number (take 2 (drop at s)) * 65536 + number (take 2 (drop (at + 2) s))
-field-four s at h =
-    omega (
-      arith,
-      field_next s at 3 (omega arith),
-      field_next s at 2 (omega arith),
-      field-two s (at + 2) (omega arith),
-      ap (λ (i : ℕ). get_or s i 0) (add_assoc at 2 1),
-    )
+  pub field-four :
+      at + 4 ≤ length s
+      → number (take 4 (drop at s)) ≡ ((get_or s at 0 * 256 + get_or s (at + 1) 0) * 256 + get_or s (at + 2) 0) * 256 + get_or s (at + 3) 0
+  field-four h =
+      omega (
+        arith,
+        field-two (omega arith),
+        field_next s at 2 (omega arith),
+        field_next s at 3 (omega arith),
+      )

@@ -1,4 +1,5 @@
 -- An element takes two octets or more and ends within what holds it, and it is counted only below the limit.
+use Rattle.std.specs.Prelude.{Result, Ok, Err}
 use mathlib.Core.Path.{subst}
 use mathlib.Core.Bool.{Bool}
 use mathlib.Core.List.{List}
@@ -6,9 +7,7 @@ use Prim.Native.Nat.{ℕ, zero, suc, ◌≤◌}
 use native.Mathlib.Omega.{arith}
 use lib.ListN.{length}
 use Rattle.der.specs.declared.walking.Read.{Read}
-use Rattle.der.specs.declared.walking.Read.TheVariants.{Past, Fault}
-use Rattle.der.specs.declared.walking.Walked.{Walked}
-use Rattle.der.specs.declared.walking.Walked.TheVariants.{Passed, Refused}
+use Rattle.refusal.specs.declared.Refusal.{Refusal}
 use Rattle.der.specs.Forms.{Forms}
 use Rattle.der.specs.Walk.{element_at, list_at}
 use Rattle.tree.proofs.Written.{Headed, heading-fits}
@@ -19,13 +18,13 @@ pub record Bound (forms : Forms) (s : List ℕ) (used m : ℕ) : Type 0 where
   pub fits : used ≤ length s
   pub few : m ≤ forms.elements
 
-abbrev pub ReadBound : Forms → List ℕ → Read → Type 0
-ReadBound forms s (Past used m) = Bound forms s used m
-ReadBound forms s (Fault refusal) = Unit {0}
+abbrev pub ReadBound : Forms → List ℕ → Result Read Refusal → Type 0
+ReadBound forms s (Ok r) = Bound forms s r.used r.count
+ReadBound forms s (Err refusal) = Unit {0}
 
-abbrev pub WalkedBound : Forms → Walked → Type 0
-WalkedBound forms (Passed m) = m ≤ forms.elements
-WalkedBound forms (Refused refusal) = Unit {0}
+abbrev pub WalkedBound : Forms → Result ℕ Refusal → Type 0
+WalkedBound forms (Ok m) = m ≤ forms.elements
+WalkedBound forms (Err refusal) = Unit {0}
 
 module _ (forms : Forms) where
   mutual

@@ -1,4 +1,5 @@
 -- What the walk passes is a sound tree: each header read is one that `tagged` writes, over members found before.
+use Rattle.std.specs.Prelude.{Result, Ok, Err}
 use mathlib.Core.Path.{◌≡◌, refl, sym, subst, ◌∙◌, ap}
 use mathlib.Core.Bool.{Bool, true, false}
 use mathlib.Core.List.{List, [], ◌∷◌, ◌++◌}
@@ -7,9 +8,7 @@ use native.Mathlib.Omega.{arith}
 use lib.ListN.{length, take, drop}
 use lib.Seq.{take_at}
 use Rattle.der.specs.declared.walking.Read.{Read}
-use Rattle.der.specs.declared.walking.Read.TheVariants.{Past, Fault}
-use Rattle.der.specs.declared.walking.Walked.{Walked}
-use Rattle.der.specs.declared.walking.Walked.TheVariants.{Passed, Refused}
+use Rattle.refusal.specs.declared.Refusal.{Refusal}
 use Rattle.der.specs.Forms.{Forms}
 use Rattle.octets.specs.Octets.{Octets}
 use Rattle.der.specs.Order.{smaller, is_set, handed}
@@ -39,13 +38,13 @@ pub record FoundAll (forms : Forms) (set : Bool) (prior s : List ℕ) (d n m : �
   pub count : n + size_all trees ≡ m
   pub shallow : d + depth_all trees ≤ forms.depth + 1
 
-abbrev pub ReadFound : Forms → List ℕ → List ℕ → ℕ → ℕ → Read → Type 0
-ReadFound forms prior s d n (Past used m) = Found forms prior s d n used m
-ReadFound forms prior s d n (Fault refusal) = Unit {0}
+abbrev pub ReadFound : Forms → List ℕ → List ℕ → ℕ → ℕ → Result Read Refusal → Type 0
+ReadFound forms prior s d n (Ok r) = Found forms prior s d n r.used r.count
+ReadFound forms prior s d n (Err refusal) = Unit {0}
 
-abbrev pub WalkedFound : Forms → Bool → List ℕ → List ℕ → ℕ → ℕ → Walked → Type 0
-WalkedFound forms set prior s d n (Passed m) = FoundAll forms set prior s d n m
-WalkedFound forms set prior s d n (Refused refusal) = Unit {0}
+abbrev pub WalkedFound : Forms → Bool → List ℕ → List ℕ → ℕ → ℕ → Result ℕ Refusal → Type 0
+WalkedFound forms set prior s d n (Ok m) = FoundAll forms set prior s d n m
+WalkedFound forms set prior s d n (Err refusal) = Unit {0}
 
 length_none : (s : List ℕ) → length s ≡ 0 → [] ≡ s
 length_none [] e = refl

@@ -1,4 +1,5 @@
 -- Each call is on fewer octets, so fuel that is enough at the start is enough all the way, and more changes nothing.
+use Rattle.std.specs.Prelude.{Option, Some, None, Result, Ok, Err}
 use mathlib.Core.Path.{◌≡◌, refl, subst}
 use mathlib.Core.Bool.{Bool}
 use mathlib.Core.List.{List, []}
@@ -6,29 +7,29 @@ use Prim.Native.Nat.{ℕ, zero, suc, ◌+◌, ◌*◌, ◌≤◌}
 use native.Mathlib.Omega.{arith}
 use lib.ListN.{length, take, drop, length-take, length-drop}
 use Rattle.der.specs.declared.heading.Heading.{Heading}
-use Rattle.der.specs.declared.heading.Heading.TheVariants.{Header, Bad}
 use Rattle.der.specs.declared.walking.Read.{Read}
-use Rattle.der.specs.declared.walking.Read.TheVariants.{Past, Fault}
-use Rattle.der.specs.declared.walking.Walked.{Walked}
+use Rattle.refusal.specs.declared.Refusal.{Refusal}
 use Rattle.der.specs.Forms.{Forms}
 use Rattle.der.specs.Heading.{heading_of}
 use Rattle.der.specs.Order.{is_set, handed}
 use Rattle.der.specs.Walk.{opened, after, element_at, list_at}
 use Rattle.tree.proofs.Written.{Headed, heading-fits}
 use Rattle.tree.proofs.Bounds.{Bound, ReadBound, element-bound}
+use Rattle.der.proofs.Payloads.{a_heading}
+use Rattle.der.proofs.Payloads.{a_read}
 
 opened-same :
-    (h : Heading) (fault : Read) {next other : ℕ → ℕ → ℕ → Read}
-    → ((tag skip size : ℕ) → h ≡ Header tag skip size → next tag skip size ≡ other tag skip size) → opened h fault next ≡ opened h fault other
+    (h : Option Heading) (fault : Result Read Refusal) {next other : ℕ → ℕ → ℕ → Result Read Refusal}
+    → ((tag skip size : ℕ) → h ≡ a_heading tag skip size → next tag skip size ≡ other tag skip size) → opened h fault next ≡ opened h fault other
 unfolding opened
-opened-same Bad fault q = refl
-opened-same (Header tag skip size) fault q = q tag skip size refl
+opened-same None fault q = refl
+opened-same (Some h) fault q = q h.tag h.skip h.size refl
 
 after_same :
-    (r : Read) {next other : ℕ → ℕ → Walked} → ((used m : ℕ) → r ≡ Past used m → next used m ≡ other used m) → after r next ≡ after r other
+    (r : Result Read Refusal) {next other : ℕ → ℕ → Result ℕ Refusal} → ((used m : ℕ) → r ≡ a_read used m → next used m ≡ other used m) → after r next ≡ after r other
 unfolding after
-after_same (Past used m) q = q used m refl
-after_same (Fault refusal) q = refl
+after_same (Ok r) q = q r.used r.count refl
+after_same (Err refusal) q = refl
 
 module _ (forms : Forms) where
   mutual
@@ -40,7 +41,7 @@ module _ (forms : Forms) where
     element-fuel zero g prior s base d n p q = absurd (omega arith)
     element-fuel (suc f) zero prior s base d n p q = absurd (omega arith)
     element-fuel (suc f) (suc g) prior s base d n p q =
-        opened-same (heading_of forms s) (Fault _) λ tag skip size e.
+        opened-same (heading_of forms s) (Err _) λ tag skip size e.
         let h : Headed forms s tag skip size = heading-fits forms s tag skip size e in
         let c : List ℕ = take size (drop skip s) in
         let short : 2 * length c + 4 ≤ 2 * length s = omega (arith, length-take size (drop skip s), length-drop skip s, h.some, h.fits) in

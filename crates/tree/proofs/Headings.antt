@@ -9,7 +9,6 @@ use borrow.Author.Tests.{lt-ltb, le-ltb, le-leb, lt-leb, ltb-true, ltb-false}
 use lib.Dec.{ltb}
 use lib.ListN.{length, get_or, take, drop, length-append, length-drop}
 use lib.Seq.{take_at, drop_at, take-append_seam, drop-append_seam, get_or-drop, drop-drop}
-use Rattle.der.specs.declared.heading.Heading.TheVariants.{Header}
 use Rattle.der.specs.Forms.{Forms}
 use Rattle.octets.specs.Octets.{number, big}
 use Rattle.der.specs.Heading.{within, smallest, long, sized, heading_of}
@@ -18,6 +17,7 @@ use Rattle.tree.proofs.Cases.{by-test, cond-by}
 use Rattle.tree.proofs.Tags.{leading-first, heading-tag}
 use Rattle.tree.proofs.Numbers.{length-big, number-big}
 use Rattle.tree.proofs.Lengths.{Width, width_fits, width-told}
+use Rattle.der.proofs.Payloads.{a_heading}
 
 -- one more than the longest length that the forms can tell
 abbrev pub told : Forms → ℕ
@@ -47,7 +47,7 @@ seam s at x t e =
     }
 
 module _ (forms : Forms) (s : List ℕ) (tag at size : ℕ) (t : List ℕ) where
-  sized-short : drop at s ≡ size ∷ t → size < 128 → size ≤ length t → sized forms s tag at ≡ Header tag (at + 1) size
+  sized-short : drop at s ≡ size ∷ t → size < 128 → size ≤ length t → sized forms s tag at ≡ a_heading tag (at + 1) size
   unfolding sized within
   sized-short e small fits =
       let m : Seam s at size t = seam s at size t e in
@@ -57,7 +57,7 @@ module _ (forms : Forms) (s : List ℕ) (tag at size : ℕ) (t : List ℕ) where
 
   sized-long :
       (k : ℕ) → drop at s ≡ (128 + k) ∷ t → 1 ≤ k → k ≤ forms.length_octets → number (take k t) ≡ size → smallest k ≤ size → k + size ≤ length t
-      → sized forms s tag at ≡ Header tag (at + 1 + k) size
+      → sized forms s tag at ≡ a_heading tag (at + 1 + k) size
   unfolding sized long within
   sized-long k e some most value needed fits =
       let m : Seam s at (128 + k) t = seam s at (128 + k) t e in
@@ -72,7 +72,7 @@ module _ (forms : Forms) (s : List ℕ) (tag at size : ℕ) (t : List ℕ) where
 sized-of :
     (forms : Forms) → forms.length_octets ≤ 3 → (s : List ℕ) (tag at : ℕ) (c rest : List ℕ)
     → drop at s ≡ (length_encoded (length c) ++ c) ++ rest → length c < told forms
-    → sized forms s tag at ≡ Header tag (at + length (length_encoded (length c))) (length c)
+    → sized forms s tag at ≡ a_heading tag (at + length (length_encoded (length c))) (length c)
 sized-of forms limit s tag at c rest e below =
     let n = length c in
     by-test (ltb n 128)
@@ -103,7 +103,7 @@ skipped tag n = length (identifier tag) + length (length_encoded n)
 -- the header of an encoded element, whatever follows it
 pub heading-of :
     (forms : Forms) → forms.length_octets ≤ 3 → (tag : ℕ) (c rest : List ℕ) → tag_good forms tag ≡ true → length c < told forms
-    → heading_of forms (tagged tag c ++ rest) ≡ Header tag (skipped tag (length c)) (length c)
+    → heading_of forms (tagged tag c ++ rest) ≡ a_heading tag (skipped tag (length c)) (length c)
 unfolding tagged
 heading-of forms limit tag c rest good below =
     let i : List ℕ = identifier tag in

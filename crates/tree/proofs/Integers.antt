@@ -1,4 +1,5 @@
 -- A passed item is one tree, and its header tells whether that is an INTEGER of at most eight octets.
+use Rattle.std.specs.Prelude.{Result, Ok, Err}
 use mathlib.Core.Path.{◌≡◌, refl, sym, ◌∙◌, ap, subst}
 use mathlib.Core.Bool.{true}
 use mathlib.Core.List.{List, [], ◌++◌, append-nil}
@@ -8,11 +9,7 @@ use borrow.Author.Tests.{le-ltb, eqb-true, ltb-false}
 use lib.Dec.{eqb, ltb}
 use lib.IntN.{ℤ}
 use lib.ListN.{length, take, drop}
-use Rattle.der.specs.declared.heading.Heading.TheVariants.{Header}
-use Rattle.der.specs.declared.walking.Walked.{Walked}
-use Rattle.der.specs.declared.walking.Walked.TheVariants as walked
-use Rattle.der.specs.declared.numbers.Number.{Number}
-use Rattle.der.specs.declared.numbers.Number.TheVariants.{Value, Refused}
+use Rattle.refusal.specs.declared.Refusal.{Refusal}
 use Rattle.der.specs.Forms.{Forms}
 use Rattle.octets.specs.Octets.{Octets}
 use Rattle.der.specs.Heading.{heading_of}
@@ -25,15 +22,16 @@ use Rattle.tree.proofs.Parts.{encoded-parts, heading-tree, leaf-two}
 use Rattle.tree.proofs.Members.{part_at}
 use Rattle.tree.proofs.Minimal.{twos-same}
 use Rattle.tree.proofs.Passes.{passed-encodes, encodes-passed}
+use Rattle.der.proofs.Payloads.{a_heading}
 
-abbrev pub NumberEncodes : Forms → List ℕ → Number → Type 0
-NumberEncodes forms item (Value v) = EncodesInteger forms item v
-NumberEncodes forms item (Refused refusal) = Unit {0}
+abbrev pub NumberEncodes : Forms → List ℕ → Result ℤ Refusal → Type 0
+NumberEncodes forms item (Ok v) = EncodesInteger forms item v
+NumberEncodes forms item (Err refusal) = Unit {0}
 
 -- the header and the contents of a whole item
 whole-heading :
     (forms : Forms) → forms.length_octets ≤ 3 → (item : List ℕ) (x : Tree) → Sound forms x → encoded x ≡ item
-    → (heading_of forms item ≡ Header (tag_of x) (length (header_of x)) (length (contents_of x)))
+    → (heading_of forms item ≡ a_heading (tag_of x) (length (header_of x)) (length (contents_of x)))
     × (take (length (contents_of x)) (drop (length (header_of x)) item) ≡ contents_of x)
 whole-heading forms limit item x sound bytes =
     let back : encoded x ++ [] ≡ item = append-nil (encoded x) ∙ bytes in (
@@ -47,7 +45,7 @@ module _ (forms : Forms) (limit : forms.length_octets ≤ 3) (item : List ℕ) w
   held-encodes n e =
       let x : Tree = e.tree in
       let (header, contents) = whole-heading forms limit item x e.sound e.bytes in
-      let P : Number → Type 0 = NumberEncodes forms item in
+      let P : Result ℤ Refusal → Type 0 = NumberEncodes forms item in
       rw (header, contents)
       (cond-by P (eqb (tag_of x) 2)
       (λ two. cond-by P (ltb 8 (length (contents_of x))) (λ wide. tt) λ narrow.
@@ -68,15 +66,15 @@ module _ (forms : Forms) (limit : forms.length_octets ≤ 3) (item : List ℕ) w
   unfolding integer_of asked
   integer-encodes o = go (walk_of forms item) refl
     where
-      go : (w : Walked) → walk_of forms item ≡ w → NumberEncodes forms item (asked w (held item (heading_of forms item)))
-      go (walked.Refused refusal) e = tt
-      go (walked.Passed n) e = held-encodes n (passed-encodes forms limit item n o e)
+      go : (w : Result ℕ Refusal) → walk_of forms item ≡ w → NumberEncodes forms item (asked w (held item (heading_of forms item)))
+      go (Err refusal) e = tt
+      go (Ok n) e = held-encodes n (passed-encodes forms limit item n o e)
 
-  pub encodes-integer : (v : ℤ) → EncodesInteger forms item v → integer_of forms item ≡ Value v
+  pub encodes-integer : (v : ℤ) → EncodesInteger forms item v → integer_of forms item ≡ Ok v
   unfolding integer_of asked held size depth tag_of contents_of
   encodes-integer v e =
       let x : Tree = leaf 2 e.contents in
-      let passed : walk_of forms item ≡ walked.Passed 1 =
+      let passed : walk_of forms item ≡ Ok 1 =
       encodes-passed forms limit item 1
       record { tree = x; bytes = e.bytes; sound = e.sound; count = refl; shallow = e.shallow; few = e.few; short = e.short } in
       let (header, contents) = whole-heading forms limit item x e.sound e.bytes in

@@ -1,4 +1,5 @@
 -- The outermost element fills the item, so the walk passes what it reads as one tree, and nothing else.
+use Rattle.std.specs.Prelude.{Result, Ok, Err}
 use mathlib.Core.Path.{◌≡◌, refl, sym, ◌∙◌, ap, ap₂, subst}
 use mathlib.Core.List.{List, [], ◌++◌, append-nil}
 use Prim.Native.Nat.{ℕ, ◌+◌, ◌*◌, ◌≤◌}
@@ -6,9 +7,7 @@ use native.Mathlib.Omega.{arith}
 use borrow.Author.Tests.{le-ltb, eq-eqb}
 use lib.ListN.{length}
 use lib.Seq.{drop-length}
-use Rattle.der.specs.declared.walking.Read.TheVariants.{Past}
-use Rattle.der.specs.declared.walking.Walked.{Walked}
-use Rattle.der.specs.declared.walking.Walked.TheVariants.{Passed, Refused}
+use Rattle.refusal.specs.declared.Refusal.{Refusal}
 use Rattle.der.specs.Forms.{Forms}
 use Rattle.octets.specs.Octets.{Octets}
 use Rattle.der.specs.Walk.{element_at, whole, walk_of}
@@ -18,10 +17,11 @@ use Rattle.tree.proofs.Reading.{reads}
 use Rattle.tree.proofs.Answers.{walk-by}
 use Rattle.tree.proofs.Bounds.{Bound, ReadBound, element-bound}
 use Rattle.tree.proofs.Found.{Found, ReadFound, element-found}
+use Rattle.der.proofs.Payloads.{a_read}
 
-abbrev WalkedEncodes : Forms → List ℕ → Walked → Type 0
-WalkedEncodes forms item (Passed n) = Encodes forms item n
-WalkedEncodes forms item (Refused refusal) = Unit {0}
+abbrev WalkedEncodes : Forms → List ℕ → Result ℕ Refusal → Type 0
+WalkedEncodes forms item (Ok n) = Encodes forms item n
+WalkedEncodes forms item (Err refusal) = Unit {0}
 
 walked-encodes : (forms : Forms) → forms.length_octets ≤ 3 → (item : List ℕ) → Octets item → WalkedEncodes forms item (walk_of forms item)
 walked-encodes forms limit item o =
@@ -38,16 +38,16 @@ walked-encodes forms limit item o =
       short = short;
     }
 
-pub passed-encodes : (forms : Forms) → forms.length_octets ≤ 3 → (item : List ℕ) (n : ℕ) → Octets item → walk_of forms item ≡ Passed n → Encodes forms item n
+pub passed-encodes : (forms : Forms) → forms.length_octets ≤ 3 → (item : List ℕ) (n : ℕ) → Octets item → walk_of forms item ≡ Ok n → Encodes forms item n
 passed-encodes forms limit item n o e = subst (WalkedEncodes forms item) e (walked-encodes forms limit item o)
 
-pub encodes-passed : (forms : Forms) → forms.length_octets ≤ 3 → (item : List ℕ) (n : ℕ) → Encodes forms item n → walk_of forms item ≡ Passed n
+pub encodes-passed : (forms : Forms) → forms.length_octets ≤ 3 → (item : List ℕ) (n : ℕ) → Encodes forms item n → walk_of forms item ≡ Ok n
 unfolding walk_of whole
 encodes-passed forms limit item n e =
     let x : Tree = e.tree in
     let back : encoded x ++ [] ≡ item = append-nil (encoded x) ∙ e.bytes in
-    let read : element_at (2 * length item + 2) forms [] item 0 1 0 ≡ Past (length item) n =
+    let read : element_at (2 * length item + 2) forms [] item 0 1 0 ≡ a_read (length item) n =
     rw back at (reads forms limit x e.sound [] [] (smaller-none (encoded x)) (2 * length item + 2) 0 1 0
     (omega (arith, ap length back)) (omega (arith, e.shallow)) (omega (arith, e.count, e.few)))
-    ∙ ap₂ Past (ap length e.bytes) (omega (arith, e.count)) in
+    ∙ ap₂ a_read (ap length e.bytes) (omega (arith, e.count)) in
     simp (le-ltb _ _ e.short, read, eq-eqb (length item) (length item) refl)

@@ -1,4 +1,5 @@
 -- The walk reads a sound tree: each header tells the very contents that were written, and the fuel, the depth and the count last.
+use Rattle.std.specs.Prelude.{Ok}
 use mathlib.Core.Path.{◌≡◌, refl, sym, subst, ◌∙◌, ap, ap₂}
 use mathlib.Core.Bool.{Bool, true, false}
 use mathlib.Core.List.{List, [], ◌++◌}
@@ -6,8 +7,6 @@ use Prim.Native.Nat.{ℕ, zero, suc, ◌+◌, ◌*◌, ◌≤◌}
 use native.Mathlib.Omega.{arith}
 use lib.ListN.{length, take, length-append}
 use lib.Seq.{take_at, take-append_seam, drop-append_seam}
-use Rattle.der.specs.declared.walking.Read.TheVariants.{Past}
-use Rattle.der.specs.declared.walking.Walked.TheVariants.{Passed}
 use Rattle.der.specs.Forms.{Forms}
 use Rattle.der.specs.Order.{smaller, is_set}
 use Rattle.der.specs.Walk.{filled, element_at, list_at}
@@ -17,6 +16,7 @@ use Rattle.tree.specs.Tree.{size, size_all, depth, depth_all, Sound, sound-leaf,
 use Rattle.tree.proofs.Rising.{rises, rises-first, rises-rest, ordered-rises}
 use Rattle.tree.proofs.Tags.{identifier-some}
 use Rattle.tree.proofs.Headings.{skipped, heading-of, length-tagged, length-encoded-some, tagged-contents, tagged-first}
+use Rattle.der.proofs.Payloads.{a_read}
 
 pub encoded-some : (x : Tree) → 2 ≤ length (encoded x)
 unfolding encoded
@@ -36,7 +36,7 @@ module _ (forms : Forms) (limit : forms.length_octets ≤ 3) where
     pub reads :
         (x : Tree) → Sound forms x → (prior rest : List ℕ) → smaller (encoded x) prior ≡ false → (fuel base d n : ℕ) → 2 * length (encoded x ++ rest) + 1 ≤ fuel
         → d + depth x ≤ forms.depth + 1 → n + size x ≤ forms.elements
-        → element_at fuel forms prior (encoded x ++ rest) base d n ≡ Past (length (encoded x)) (n + size x)
+        → element_at fuel forms prior (encoded x ++ rest) base d n ≡ a_read (length (encoded x)) (n + size x)
     reads (leaf tag c) sound prior rest risen zero base d n f deep many = absurd (omega arith)
     reads (leaf tag c) (sound-leaf b good primitive o below contents) prior rest risen (suc fuel) base d n f deep many =
         rw (length-tagged tag c)
@@ -52,16 +52,16 @@ module _ (forms : Forms) (limit : forms.length_octets ≤ 3) where
         (omega arith) in
         element-node forms fuel prior _ base d n tag skip (length c) (heading-of forms limit tag c rest good below) (omega arith) (omega arith)
         (first-risen tag c rest prior risen) (rw (tagged-first tag c rest) built)
-        ∙ rw (tagged-contents tag c rest, inner) (ap₂ Past (sym (length-tagged tag c)) (omega arith))
+        ∙ rw (tagged-contents tag c rest, inner) (ap₂ a_read (sym (length-tagged tag c)) (omega arith))
 
     pub reads_all :
         (xs : Trees) → SoundAll forms xs → (set : Bool) (prior : List ℕ) → rises set prior xs ≡ true → (fuel base d n : ℕ) → 2 * length
         (encoded_all xs) + 2 ≤ fuel
         → d + depth_all xs ≤ forms.depth + 1 → n + size_all xs ≤ forms.elements
-        → list_at fuel forms set prior (encoded_all xs) base d n ≡ Passed (n + size_all xs)
+        → list_at fuel forms set prior (encoded_all xs) base d n ≡ Ok (n + size_all xs)
     reads_all none sound set prior order zero base d n f deep many = absurd (omega arith)
     reads_all none sound_none set prior order (suc fuel) base d n f deep many =
-        list_done forms fuel set prior [] base d n refl ∙ ap Passed (omega arith)
+        list_done forms fuel set prior [] base d n refl ∙ ap Ok (omega arith)
     reads_all (more x xs) sound set prior order zero base d n f deep many = absurd (omega arith)
     reads_all (more x xs) (sound_more sound rest) set prior order (suc fuel) base d n f deep many =
         let s : List ℕ = encoded x ++ encoded_all xs in
@@ -70,4 +70,4 @@ module _ (forms : Forms) (limit : forms.length_octets ≤ 3) where
         let others = reads_all xs rest set _ (rises-rest set prior x xs order) fuel (base + length (encoded x)) d (n + size x)
         (omega (arith, encoded-some x)) (omega arith) (omega arith) in
         list-more forms fuel set prior s base d n (omega (arith, encoded-some x)) _ _ first
-        ∙ rw (drop-append_seam, take-append_seam) (others ∙ ap Passed (omega arith))
+        ∙ rw (drop-append_seam, take-append_seam) (others ∙ ap Ok (omega arith))

@@ -9,6 +9,7 @@ use lib.ListN.{length, take, drop, length-append}
 use lib.Seq.{drop-append_seam}
 use Rattle.der.specs.Forms.{Forms}
 use Rattle.der.specs.Heading.{heading_of, constructed}
+use Rattle.der.proofs.Payloads.{tag_in, size_in}
 use Rattle.tree.specs.Tree.{Tree, leaf, node, Trees, none, more, leading, tagged, encoded, encoded_all, tag_good, Sound, sound-leaf, sound-node, SoundAll, sound_more}
 use Rattle.tree.proofs.Headings.{told, skipped, heading-of, tagged-contents}
 use Rattle.tree.proofs.Reading.{encoded-some}
@@ -43,8 +44,8 @@ module _ (forms : Forms) (limit : forms.length_octets ≤ 3) where
       let hc = heading-of forms limit x c r gx bc in
       let hk = heading-of forms limit y k q gy bk in
       let same : heading_of forms (tagged x c ++ r) ≡ heading_of forms (tagged y k ++ q) = ap (heading_of forms) e in
-      let tags : x ≡ y = cc in
-      let sizes : length c ≡ length k = cc in
+      let tags : x ≡ y = sym (ap tag_in hc) ∙ ap tag_in same ∙ ap tag_in hk in
+      let sizes : length c ≡ length k = sym (ap size_in hc) ∙ ap size_in same ∙ ap size_in hk in
       let contents : c ≡ k =
       sym (tagged-contents x c r) ∙ ap (λ (s : List ℕ). take (length c) (drop (skipped x (length c)) s)) e
       ∙ rw (tags, sizes) (tagged-contents y k q) in

@@ -1,4 +1,5 @@
 -- What the walk means, as theorems over the definitions.
+use Rattle.std.specs.Prelude.{None, Result, Ok}
 use mathlib.Core.Path.{◌≡◌, refl, sym, ◌∙◌, ap, subst}
 use mathlib.Core.Bool.{Bool, true}
 use mathlib.Core.Logic.{◌↔◌}
@@ -7,10 +8,7 @@ use Prim.Native.Nat.{ℕ, ◌+◌, ◌-◌, ◌*◌, ◌≤◌}
 use native.Mathlib.Omega.{arith}
 use lib.IntN.{ℤ}
 use lib.ListN.{length, take, drop, length-append}
-use Rattle.der.specs.declared.walking.Walked.{Walked}
-use Rattle.der.specs.declared.walking.Walked.TheVariants.{Passed}
-use Rattle.der.specs.declared.stepping.Step.TheVariants.{At, Nothing}
-use Rattle.der.specs.declared.numbers.Number.TheVariants.{Value}
+use Rattle.refusal.specs.declared.Refusal.{Refusal}
 use Rattle.der.specs.Forms.{Forms}
 use Rattle.octets.specs.Octets.{Octets, twos}
 use Rattle.der.specs.Contents.{integer_good}
@@ -30,10 +28,11 @@ use Rattle.tree.proofs.Parts.{encoded-parts, length-parts, heading-tree}
 use Rattle.tree.proofs.Members.{part_at, member-at}
 use Rattle.tree.proofs.Integers.{NumberEncodes, integer-encodes, encodes-integer, one-item}
 use Rattle.tree.proofs.Minimal.{twos-same}
+use Rattle.der.proofs.Payloads.{a_step}
 
 -- The walk passes, and counts n, exactly when the octets are those of a sound tree of n elements within the limits.
 pub walk-passes :
-    (forms : Forms) → forms.length_octets ≤ 3 → (item : List ℕ) (n : ℕ) → Octets item → (walk_of forms item ≡ Passed n) ↔ Encodes forms item n
+    (forms : Forms) → forms.length_octets ≤ 3 → (item : List ℕ) (n : ℕ) → Octets item → (walk_of forms item ≡ Ok n) ↔ Encodes forms item n
 walk-passes forms limit item n o =
     (passed-encodes forms limit item n o, encodes-passed forms limit item n)
 
@@ -49,8 +48,8 @@ reordered-octets forms limit a b sa sb r = ap encoded (reordered-one forms limit
 -- Of an item that passes, and one whose tree is the same but for the order of a SET's members, both pass only where they are the same
 -- octets.
 pub reordered-items :
-    (forms : Forms) (limit : forms.length_octets ≤ 3) (item : List ℕ) (n m : ℕ) (o : Octets item) (passes : walk_of forms item ≡ Passed n) (other : Tree)
-    → Reordered ((walk-passes forms limit item n o).0 passes).tree other → Octets (encoded other) → walk_of forms (encoded other) ≡ Passed m
+    (forms : Forms) (limit : forms.length_octets ≤ 3) (item : List ℕ) (n m : ℕ) (o : Octets item) (passes : walk_of forms item ≡ Ok n) (other : Tree)
+    → Reordered ((walk-passes forms limit item n o).0 passes).tree other → Octets (encoded other) → walk_of forms (encoded other) ≡ Ok m
     → encoded other ≡ item
 reordered-items forms limit item n m o passes other r octets e =
     let a = (walk-passes forms limit item n o).0 passes in
@@ -65,7 +64,7 @@ reordered-items forms limit item n m o passes other r octets e =
 pub counted-limit : (forms : Forms) (item : List ℕ) → counted (walk_of forms item) ≤ forms.elements
 unfolding counted
 counted-limit forms item =
-    walk-by forms item (λ (w : Walked). counted w ≤ forms.elements) (λ refusal. omega arith) λ m short e.
+    walk-by forms item (λ (w : Result ℕ Refusal). counted w ≤ forms.elements) (λ refusal. omega arith) λ m short e.
     let b : Bound forms item (length item) m = subst (ReadBound forms item) e (element-bound forms _ [] item 0 1 0) in
     b.few
 
@@ -79,7 +78,7 @@ fuel-enough forms f g set prior s base d n = (element-fuel forms f g prior s bas
 -- Stepping ends where no member is left.
 pub step-none :
     (forms : Forms) (before behind : List ℕ)
-    → member_of forms (before ++ encoded_all none ++ behind) (length before) (length before + length (encoded_all none)) ≡ Nothing
+    → member_of forms (before ++ encoded_all none ++ behind) (length before) (length before + length (encoded_all none)) ≡ None
 unfolding encoded_all placed heading_of
 step-none forms before behind = member-at forms before [] behind
 
@@ -87,12 +86,12 @@ step-none forms before behind = member-at forms before [] behind
 pub step-more :
     (forms : Forms) → forms.length_octets ≤ 3 → (before behind : List ℕ) (tree : Tree) (trees : Trees) → Sound forms tree
     → member_of forms (before ++ encoded_all (more tree trees) ++ behind) (length before) (length before + length (encoded_all (more tree trees)))
-    ≡ At (tag_of tree) (length before + length (header_of tree)) (length before + length (encoded tree))
+    ≡ a_step (tag_of tree) (length before + length (header_of tree)) (length before + length (encoded tree))
 unfolding encoded_all placed
 step-more forms limit before behind tree trees sound =
     member-at forms before (encoded tree ++ encoded_all trees) behind
     ∙ rw (heading-tree forms limit tree (encoded_all trees) sound)
-    (ap (At (tag_of tree) (length before + length (header_of tree))) (omega (arith, length-parts tree)))
+    (ap (a_step (tag_of tree) (length before + length (header_of tree))) (omega (arith, length-parts tree)))
 
 -- The next step, from the end of the first member, sees the members after it.
 pub step-next :
@@ -122,7 +121,7 @@ step-contents before behind tree trees =
 
 -- An item is read as the number v exactly when it is one INTEGER of at most eight octets that write v, within the limits.
 pub integer-value :
-    (forms : Forms) → forms.length_octets ≤ 3 → (item : List ℕ) → Octets item → (v : ℤ) → (integer_of forms item ≡ Value v) ↔ EncodesInteger forms item v
+    (forms : Forms) → forms.length_octets ≤ 3 → (item : List ℕ) → Octets item → (v : ℤ) → (integer_of forms item ≡ Ok v) ↔ EncodesInteger forms item v
 integer-value forms limit item o v =
     (λ e. subst (NumberEncodes forms item) e (integer-encodes forms limit item o), encodes-integer forms limit item v)
 
@@ -133,6 +132,6 @@ twos-one = twos-same
 -- Two items that are read as one value are the same item.
 pub integer-one :
     (forms : Forms) → forms.length_octets ≤ 3 → (a b : List ℕ) → Octets a → Octets b → (v : ℤ)
-    → integer_of forms a ≡ Value v → integer_of forms b ≡ Value v → a ≡ b
+    → integer_of forms a ≡ Ok v → integer_of forms b ≡ Ok v → a ≡ b
 integer-one forms limit a b oa ob v e f =
     one-item forms a b v ((integer-value forms limit a oa v).0 e) ((integer-value forms limit b ob v).0 f)

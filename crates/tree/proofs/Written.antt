@@ -1,4 +1,5 @@
 -- Lengths are written in one way only, so what a header is read from is what `tagged` writes.
+use Rattle.std.specs.Prelude.{Option, Some, None}
 use mathlib.Core.Path.{◌≡◌, refl, sym, ◌∙◌, ap, subst}
 use mathlib.Core.Bool.{true, ◌&&◌, and-eq-true_iff}
 use mathlib.Core.List.{List, [], ◌∷◌, ◌++◌, append_assoc}
@@ -10,7 +11,6 @@ use lib.Dec.{ltb, leb}
 use lib.ListN.{length, get_or, take, drop, length-drop, length-append, take-append-drop}
 use lib.Seq.{take-add, length-take-le}
 use Rattle.der.specs.declared.heading.Heading.{Heading}
-use Rattle.der.specs.declared.heading.Heading.TheVariants.{Header, Bad}
 use Rattle.der.specs.Forms.{Forms}
 use Rattle.octets.specs.Octets.{Octets, octet, number, big}
 use Rattle.der.specs.Heading.{identifier_good, wide_good, within, smallest, long, sized, wide_heading, heading_of}
@@ -20,6 +20,7 @@ use Rattle.tree.proofs.Tags.{Tagged, tagged-one-octet, tagged-two-octets}
 use Rattle.tree.proofs.Numbers.{number-below, big-number, octets-take, octets-drop}
 use Rattle.tree.proofs.Lengths.{Width, width_one, width-large}
 use Rattle.tree.proofs.Headings.{told, encoded-short, encoded-long, Seam, seam, length-tagged}
+use Rattle.der.proofs.Payloads.{a_heading}
 
 -- the tag that the first octets tell, and where the length octets start
 data Front (forms : Forms) (s : List ℕ) (tag at : ℕ) : Type 0 where
@@ -42,14 +43,14 @@ pub record Headed (forms : Forms) (s : List ℕ) (tag skip size : ℕ) : Type 0 
   front : Front forms s tag at
   form : Form forms s at skip size
 
-abbrev Told : Forms → List ℕ → Heading → Type 0
-Told forms s Bad = Unit {0}
-Told forms s (Header tag skip size) = Headed forms s tag skip size
+abbrev Told : Forms → List ℕ → Option Heading → Type 0
+Told forms s None = Unit {0}
+Told forms s (Some h) = Headed forms s h.tag h.skip h.size
 
 sized-told : (forms : Forms) (s : List ℕ) (tag at : ℕ) → 1 ≤ at → Front forms s tag at → Told forms s (sized forms s tag at)
 unfolding sized long within
 sized-told forms s tag at there front =
-    let P : Heading → Type 0 = Told forms s in
+    let P : Option Heading → Type 0 = Told forms s in
     cond-by P (leb (length s) at) (λ none. tt) λ more.
     cond-by P (ltb (get_or s at 0) 128)
     (λ small. cond-by P (leb (at + 1 + get_or s at 0) (length s))
@@ -77,7 +78,7 @@ sized-told forms s tag at there front =
 heading-told : (forms : Forms) (s : List ℕ) → Told forms s (heading_of forms s)
 unfolding heading_of wide_heading
 heading-told forms s =
-    let P : Heading → Type 0 = Told forms s in
+    let P : Option Heading → Type 0 = Told forms s in
     cond-by P (ltb (length s) 2) (λ none. tt) λ more.
     cond-by P (identifier_good (get_or s 0 0)) (λ good. sized-told forms s _ 1 (omega arith) (one refl refl good)) λ bad.
     cond-by P forms.wide_tags
@@ -93,7 +94,7 @@ pub record Taken (forms : Forms) (s : List ℕ) (tag skip size : ℕ) : Type 0 w
   pub good : tag_good forms tag ≡ true
   pub leads : leading tag ≡ get_or s 0 0
 
-pub heading-fits : (forms : Forms) (s : List ℕ) (tag skip size : ℕ) → heading_of forms s ≡ Header tag skip size → Headed forms s tag skip size
+pub heading-fits : (forms : Forms) (s : List ℕ) (tag skip size : ℕ) → heading_of forms s ≡ a_heading tag skip size → Headed forms s tag skip size
 heading-fits forms s tag skip size e = subst (Told forms s) e (heading-told forms s)
 
 front-octets : (forms : Forms) (s : List ℕ) (tag at : ℕ) → Octets s → 2 ≤ length s → Front forms s tag at → Tagged forms tag (get_or s 0 0) (take at s)
@@ -139,7 +140,7 @@ module _ (forms : Forms) (limit : forms.length_octets ≤ 3) (s : List ℕ) (at 
           }
 
 module _ (forms : Forms) (limit : forms.length_octets ≤ 3) (tag skip size : ℕ) where
-  pub heading-taken : (s : List ℕ) → Octets s → heading_of forms s ≡ Header tag skip size → Taken forms s tag skip size
+  pub heading-taken : (s : List ℕ) → Octets s → heading_of forms s ≡ a_heading tag skip size → Taken forms s tag skip size
   unfolding tagged
   heading-taken s o e =
       let c : List ℕ = take size (drop skip s) in

@@ -1,5 +1,6 @@
 -- One counting CRL lists more: the same CRLs count and cover, and what is listed was listed before or is listed now; so a chain that
 -- is good afterwards was good before.
+use Rattle.std.specs.Prelude.{Result, Ok, Err}
 use Prim.Native.Nat.{ℕ}
 use mathlib.Core.Path.{◌≡◌, refl, sym, ap, ◌∙◌}
 use mathlib.Core.Bool.{Bool, true, false, ◌&&◌, ◌||◌}
@@ -7,8 +8,7 @@ use mathlib.Core.List.{List}
 use borrow.Author.Tests.{eqb-true}
 use lib.Dec.{eqb}
 use Rattle.certificate.specs.declared.Fields.{Fields}
-use Rattle.certificate.specs.declared.Judged.{Judged}
-use Rattle.certificate.specs.declared.Judged.TheVariants.{Passed, Refused}
+use Rattle.refusal.specs.declared.Refusal.{Refusal}
 use Rattle.image.specs.Items.{Item}
 use Rattle.usable.specs.Items.{item_at, on_certificate, certificate_at, on_list, list_at, part_of}
 use Rattle.usable.specs.Usable.{valid, same_country, usable_anchor, counts, covers, lists, speaks_of, usable}
@@ -24,10 +24,10 @@ use Rattle.trust.proofs.Standing.{vouches, counts_same, usable-kept}
 
 -- a certificate that meets one test meets another
 certificate-more :
-    (j : Judged) (a b : Fields → Bool) → ((f : Fields) → a f ≡ true → b f ≡ true) → on_certificate j a ≡ true → on_certificate j b ≡ true
+    (j : Result Fields Refusal) (a b : Fields → Bool) → ((f : Fields) → a f ≡ true → b f ≡ true) → on_certificate j a ≡ true → on_certificate j b ≡ true
 unfolding on_certificate
-certificate-more (Refused refusal) a b more e = e
-certificate-more (Passed fields) a b more e = more fields e
+certificate-more (Err refusal) a b more e = e
+certificate-more (Ok fields) a b more e = more fields e
 
 -- what counts is a CRL
 is-list : (q : Question) (crl : ℕ) → Counting q crl → (item_at q.items crl).kind ≡ 4

@@ -1,10 +1,9 @@
 -- The two statements of the answers of `best_chain` themselves: two calls, each of an image, a table, a moment and a target, that are
 -- both good questions. What days and versions the two images have plays no part.
-use Rattle.std.specs.Prelude.{ℕ, ◌≤◌, ◌≡◌, List}
+use Rattle.std.specs.Prelude.{ℕ, ◌≤◌, ◌≡◌, List, Ok}
 use Rattle.refusal.specs.declared.Refusal.TheVariants as refusal
 use Rattle.image.specs.Index.{entry_count, items_in}
 use Rattle.usable.specs.Table.{verdict_in}
-use Rattle.chain.specs.declared.asking.Asked.TheVariants as asked
 use Rattle.chain.specs.declared.Answer.{Answer}
 use Rattle.chain.specs.declared.Outcome.TheVariants.{Shown, Refused}
 use Rattle.chain.specs.Answer.{asked_of, Answered}
@@ -18,7 +17,7 @@ asks s table moment = record { items = items_in s; verdict = verdict_in (entry_c
 pub record Call (s table : List ℕ) (moment target : ℕ) (r : Answer) : Type 0 where
   pub places : ℕ
   pub version : ℕ
-  pub good : asked_of s table moment target ≡ asked.Over places version
+  pub good : asked_of s table moment target ≡ Ok (record { places = places; version = version })
   pub answer : Answered s table moment target r
 
 -- if the call before showed a chain, the call after shows one that is not longer

@@ -1,10 +1,9 @@
 -- What a longer list can do: two questions alike but that one counting CRL lists more serials beside the old ones, its issuer's country
 -- the same. A signer without a chain stays without one. Its octets may differ in any other way: what is asked of the two is
 -- what they report.
-use Rattle.std.specs.Prelude.{ℕ, ◌≡◌, true, List, length}
+use Rattle.std.specs.Prelude.{ℕ, ◌≡◌, true, List, length, Ok}
 use Rattle.der.specs.Forms.{paper}
 use Rattle.crl.specs.declared.Fields.{Fields}
-use Rattle.crl.specs.declared.Judged.TheVariants.{Passed}
 use Rattle.crl.specs.Answer.{judged_of}
 use Rattle.crl.specs.Listed.{listed_of}
 use Rattle.graph.specs.Chains.{Chain}
@@ -15,7 +14,7 @@ use Rattle.trust.specs.Trust.{Question, Place, chains_of}
 -- a CRL at a place, what it reports, and that it counts
 pub record Counting (q : Question) (crl : ℕ) : Type 0 where
   pub fields : Fields
-  pub passes : judged_of paper (item_at q.items crl).bytes ≡ Passed fields
+  pub passes : judged_of paper (item_at q.items crl).bytes ≡ Ok fields
   pub counting : counts q.items q.verdict q.moment crl ≡ true
 
 pub record MoreListed (q r : Question) : Type 0 where

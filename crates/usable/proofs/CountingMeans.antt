@@ -1,4 +1,5 @@
 -- The table of counting CRLs tells which CRLs within count: an anchor that vouches for one is within, so it is open too.
+use Rattle.std.specs.Prelude.{Ok}
 use Prim.Native.Nat.{ℕ, zero, suc, ◌<◌}
 use mathlib.Core.Path.{◌≡◌, refl, ap, ap₂, sym, ◌∙◌}
 use mathlib.Core.Bool.{Bool, true, false, cond, ◌&&◌, ◌||◌}
@@ -10,10 +11,8 @@ use lib.Dec.{eqb}
 use lib.ListN.{length, get_or}
 use Rattle.der.specs.Forms.{paper}
 use Rattle.certificate.specs.declared.Fields as certificates
-use Rattle.certificate.specs.declared.Judged.TheVariants.{Passed}
 use Rattle.certificate.specs.Answer.{judged_of}
 use Rattle.crl.specs.declared.Fields as crls
-use Rattle.crl.specs.declared.Judged.TheVariants as list-judged
 use Rattle.crl.specs.Answer as lists
 use Rattle.image.specs.Items.{Item}
 use Rattle.usable.specs.Items.{item_at, on_certificate, certificate_at, on_list, list_at, some_below, some_place}
@@ -39,22 +38,22 @@ flag_one false = refl
 -- what the row of a place tells of the certificate, or of the CRL, that stands there
 abbrev pub Certificate : List Item → (ℕ → ℕ) → List (List ℕ) → ℕ → Type 0
 Certificate items at rows p =
-    (f : certificates.Fields) × (judged_of (item_at items p).bytes (item_at items p).kind ≡ Passed f)
+    (f : certificates.Fields) × (judged_of (item_at items p).bytes (item_at items p).kind ≡ Ok f)
     × (row_at rows p ≡ certificate_told (item_at items p) (at p) f)
 
 abbrev pub Crl : List Item → (ℕ → ℕ) → List (List ℕ) → ℕ → Type 0
 Crl items at rows p =
-    (f : crls.Fields) × (lists.judged_of paper (item_at items p).bytes ≡ list-judged.Passed f) × (row_at rows p ≡ list_told (item_at items p) (at p) f)
+    (f : crls.Fields) × (lists.judged_of paper (item_at items p).bytes ≡ Ok f) × (row_at rows p ≡ list_told (item_at items p) (at p) f)
 
 -- a test of a certificate that passes, and of a CRL
 pub certificate-told :
-    (items : List Item) (p : ℕ) (f : certificates.Fields) → judged_of (item_at items p).bytes (item_at items p).kind ≡ Passed f
+    (items : List Item) (p : ℕ) (f : certificates.Fields) → judged_of (item_at items p).bytes (item_at items p).kind ≡ Ok f
     → (test : certificates.Fields → Bool) → certificate_at items p test ≡ test f
 unfolding certificate_at on_certificate
 certificate-told items p f j test = rw j
 
 pub list-told :
-    (items : List Item) (p : ℕ) (f : crls.Fields) → lists.judged_of paper (item_at items p).bytes ≡ list-judged.Passed f
+    (items : List Item) (p : ℕ) (f : crls.Fields) → lists.judged_of paper (item_at items p).bytes ≡ Ok f
     → (test : crls.Fields → Bool) → list_at items p test ≡ test f
 unfolding list_at on_list
 list-told items p f j test = rw j

@@ -17,7 +17,29 @@ use Rattle.crl.specs.Listed.{listed_of}
 use Rattle.octets.specs.Alike.{alike}
 use Rattle.usable.specs.declared.opened.Row.{Row}
 use Rattle.usable.specs.Items.{some_below}
-use Rattle.usable.specs.Rows.{blank, flag, row_from, row_at, same_letters, vouched_by, counted_of, piece_of, lists_of, spoken_of, spoken_below, signed_of, role_by, role_of, role_in, is_near, led_of, fits_of, matched_of, leads_of, step_of}
+use Rattle.usable.specs.Rows.{
+  blank,
+  flag,
+  row_from,
+  row_at,
+  same_letters,
+  vouched_by,
+  counted_of,
+  piece_of,
+  lists_of,
+  spoken_of,
+  spoken_below,
+  signed_of,
+  role_by,
+  role_of,
+  role_in,
+  is_near,
+  led_of,
+  fits_of,
+  matched_of,
+  leads_of,
+  step_of,
+}
 use Rattle.usable.specs.Table.{verdict_in}
 
 -- the rows of a table of nothing but 0
@@ -64,16 +86,6 @@ module _ {f : ℕ → Row} {old rows : List (List ℕ)} {p : ℕ} where
     where
       least : (c : ℕ) → c < p + 1 → c ≤ p
       least c h = omega arith
-
-pub flag_true : {value : ℕ} (b : Bool) → value ≡ flag b → value ≡ 1 → b ≡ true
-unfolding flag
-flag_true true e f = refl
-flag_true false e f = absurd (omega arith)
-
-pub flag-false : {value : ℕ} (b : Bool) → value ≡ flag b → (value ≡ 1 → ⊥) → b ≡ false
-unfolding flag
-flag-false true e f = absurd (f e)
-flag-false false e f = refl
 
 pub leads-anchor : {role : ℕ} → role ≡ 1 → leads_of role ≡ true
 unfolding leads_of
@@ -145,17 +157,13 @@ module _ (held : Row → List ℕ) (u v : Row) where
   fits-named e f g = let k = sym e ∙ f in rw k g
 
 module _ (held : Row → List ℕ) (u v : Row) (role : ℕ) where
-  pub matched-unled : led_of role ≡ false → flag (matched_of held u v role) ≡ 0
-  unfolding flag matched_of
+  pub matched-unled : led_of role ≡ false → matched_of held u v role ≡ false
+  unfolding matched_of
   matched-unled e = rw e
 
-  pub matched-fits : led_of role ≡ true → fits_of held u v ≡ true → flag (matched_of held u v role) ≡ 1
-  unfolding flag matched_of
-  matched-fits e f = rw (e, f)
-
-  pub matched-unfit : led_of role ≡ true → fits_of held u v ≡ false → flag (matched_of held u v role) ≡ 0
-  unfolding flag matched_of
-  matched-unfit e f = rw (e, f)
+  pub matched-led : led_of role ≡ true → matched_of held u v role ≡ fits_of held u v
+  unfolding matched_of
+  matched-led e = rw e
 
 -- a test that holds of one place holds of some
 pub some-there : (n : ℕ) (test : ℕ → Bool) (i : ℕ) → i < n → test i ≡ true → some_below n test ≡ true
@@ -182,8 +190,8 @@ module _ (n : ℕ) (table : List ℕ) (rows : List (List ℕ)) (list : ℕ) wher
   pub vouched-there :
       (anchor : ℕ) {standing octet : ℕ} → anchor < n → standing ≡ (row_at rows anchor).standing → standing ≡ 1
       → octet ≡ get_or table (anchor * n + list) 0 → octet ≡ 1 → same_letters (row_at rows anchor) (row_at rows list) ≡ true
-      → 1 ≡ flag (some_below n (vouched_by n table rows list))
-  unfolding vouched_by verdict_in flag
+      → true ≡ some_below n (vouched_by n table rows list)
+  unfolding vouched_by verdict_in
   vouched-there anchor h e one f same letters =
       let is : vouched_by n table rows list anchor ≡ true = rw (eq-eqb _ _ (sym e ∙ one), eq-eqb _ _ (sym f ∙ same)) letters in
       rw (some-there n (vouched_by n table rows list) anchor h is)
@@ -206,24 +214,26 @@ module _ (n : ℕ) (table : List ℕ) (rows : List (List ℕ)) (list : ℕ) wher
   unfolding vouched_by verdict_in
   vouched-passed anchor e one f other = rw (eq-eqb _ _ (sym e ∙ one), ne_eqb _ _ (λ z. other (f ∙ z)))
 
-  pub vouched-none : ((i : ℕ) → i < n → vouched_by n table rows list i ≡ false) → 0 ≡ flag (some_below n (vouched_by n table rows list))
-  unfolding flag
+  pub vouched-none : ((i : ℕ) → i < n → vouched_by n table rows list i ≡ false) → false ≡ some_below n (vouched_by n table rows list)
   vouched-none e = rw (some-none n (vouched_by n table rows list) e)
 
-  -- a CRL, and what is none
+  -- a CRL that is vouched for, one that is not, and what is none
   pub counted-all :
-      {vouched standing : ℕ} → standing ≡ (row_at rows list).standing → standing ≡ 4
-      → vouched ≡ flag (some_below n (vouched_by n table rows list)) → vouched ≡ flag (counted_of n table rows list)
-  unfolding counted_of
-  counted-all e four f =
-      let is-4 : eqb (row_at rows list).standing 4 ≡ true = eq-eqb _ _ (sym e ∙ four) in
-      rw is-4 f
-
-  pub counted-other : {standing : ℕ} → standing ≡ (row_at rows list).standing → (standing ≡ 4 → ⊥) → 0 ≡ flag (counted_of n table rows list)
+      {vouched : Bool} {standing : ℕ} → standing ≡ (row_at rows list).standing → standing ≡ 4
+      → vouched ≡ some_below n (vouched_by n table rows list) → vouched ≡ true → 1 ≡ flag (counted_of n table rows list)
   unfolding counted_of flag
-  counted-other e not-four =
-      let not-4 : eqb (row_at rows list).standing 4 ≡ false = ne_eqb _ _ (λ f. not-four (e ∙ f)) in
-      rw not-4
+  counted-all e four f so = rw (eq-eqb _ _ (sym e ∙ four), ← f, so)
+
+  pub counted-unvouched :
+      {vouched : Bool} {standing : ℕ} → standing ≡ (row_at rows list).standing → standing ≡ 4
+      → vouched ≡ some_below n (vouched_by n table rows list) → vouched ≡ false → 0 ≡ flag (counted_of n table rows list)
+  unfolding counted_of flag
+  counted-unvouched e four f so = rw (eq-eqb _ _ (sym e ∙ four), ← f, so)
+
+  pub counted-other :
+      {standing : ℕ} → standing ≡ (row_at rows list).standing → (standing ≡ 4 → ⊥) → 0 ≡ flag (counted_of n table rows list)
+  unfolding counted_of flag
+  counted-other e not-four = rw (ne_eqb (row_at rows list).standing 4 (λ f. not-four (e ∙ f)))
 
 -- where no CRL before counts
 pub spoken-none :
@@ -284,9 +294,9 @@ role-shut held n rows counting row e = simp e
 
 module _ (held : Row → List ℕ) (n : ℕ) (table : List ℕ) (rows : List (List ℕ)) (roles : List ℕ) (u v : ℕ) where
   pub step-asked :
-      {a b : Row} {role lead octet value : ℕ} → a ≡ row_at rows u → b ≡ row_at rows v → role ≡ get_or roles v 0
+      {a b : Row} {role lead octet : ℕ} {value : Bool} → a ≡ row_at rows u → b ≡ row_at rows v → role ≡ get_or roles v 0
       → lead ≡ get_or roles u 0 → leads_of lead ≡ true → octet ≡ get_or table (u * n + v) 0 → octet ≡ 1
-      → value ≡ flag (matched_of held a b role) → value ≡ flag (step_of held n table rows roles u v)
+      → value ≡ matched_of held a b role → value ≡ step_of held n table rows roles u v
   unfolding step_of verdict_in
   step-asked e f g h lead i one k =
       let is-1 : eqb (get_or table (u * n + v) 0) 1 ≡ true = eq-eqb _ _ (sym i ∙ one) in
@@ -295,15 +305,15 @@ module _ (held : Row → List ℕ) (n : ℕ) (table : List ℕ) (rows : List (Li
 
   pub step-unasked :
       {lead octet : ℕ} → lead ≡ get_or roles u 0 → leads_of lead ≡ true → octet ≡ get_or table (u * n + v) 0 → (octet ≡ 1 → ⊥)
-      → 0 ≡ flag (step_of held n table rows roles u v)
-  unfolding step_of flag verdict_in
+      → step_of held n table rows roles u v ≡ false
+  unfolding step_of verdict_in
   step-unasked h lead i not-one =
       let not-1 : eqb (get_or table (u * n + v) 0) 1 ≡ false = ne_eqb _ _ (λ z. not-one (i ∙ z)) in
       let leading : leads_of (get_or roles u 0) ≡ true = ap leads_of (sym h) ∙ lead in
       rw (leading, not-1)
 
-  pub step-unled : {lead : ℕ} → lead ≡ get_or roles u 0 → leads_of lead ≡ false → 0 ≡ flag (step_of held n table rows roles u v)
-  unfolding step_of flag
+  pub step-unled : {lead : ℕ} → lead ≡ get_or roles u 0 → leads_of lead ≡ false → step_of held n table rows roles u v ≡ false
+  unfolding step_of
   step-unled h lead =
       let not-leading : leads_of (get_or roles u 0) ≡ false = ap leads_of (sym h) ∙ lead in
       rw not-leading

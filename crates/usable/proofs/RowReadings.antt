@@ -1,5 +1,6 @@
 -- A row is that of a certificate, that of a CRL, or blank, and each says what its item passed, since a row is made by these tests.
 -- A place that is shut has a blank row, whatever its item.
+use Rattle.std.specs.Prelude.{Result, Ok, Err}
 use Prim.Native.Nat.{ℕ, ◌≤◌}
 use mathlib.Core.Path.{◌≡◌, refl}
 use mathlib.Core.Bool.{Bool, true, false, cond, ◌&&◌}
@@ -11,12 +12,10 @@ use Rattle.refusal.specs.declared.Refusal.TheVariants.{Argument}
 use Rattle.der.specs.Forms.{paper}
 use Rattle.der.specs.Walk.{walk_of}
 use Rattle.certificate.specs.declared.Fields as certificates
-use Rattle.certificate.specs.declared.Judged.{Judged}
-use Rattle.certificate.specs.declared.Judged.TheVariants.{Passed, Refused}
+use Rattle.refusal.specs.declared.Refusal.{Refusal}
+use Rattle.certificate.specs.declared.Fields.{Fields}
 use Rattle.certificate.specs.Answer.{on_walk, profile_of, judged_of}
 use Rattle.crl.specs.declared.Fields as crls
-use Rattle.crl.specs.declared.Judged as list-answer
-use Rattle.crl.specs.declared.Judged.TheVariants as list-judged
 use Rattle.crl.specs.Answer as lists
 use Rattle.image.specs.Items.{Item}
 use Rattle.usable.specs.declared.opened.Row.{Row}
@@ -36,22 +35,22 @@ anchor_of moment item = eqb item.kind 1 && (eqb item.flags 1 && valid_of moment 
 
 pub data Reading (moment : ℕ) (item : Item) (at : ℕ) (there : Bool) (row : Row) : Type 0 where
   certificate :
-      (f : certificates.Fields) → there ≡ true → judged_of item.bytes item.kind ≡ Passed f → valid_of moment item ≡ true → 1 ≤ item.kind → item.kind ≤ 3
+      (f : certificates.Fields) → there ≡ true → judged_of item.bytes item.kind ≡ Ok f → valid_of moment item ≡ true → 1 ≤ item.kind → item.kind ≤ 3
       → (item.kind ≡ 1 → item.flags ≡ 1) → row ≡ certificate_told item at f → Reading moment item at there row
   list :
-      (f : crls.Fields) → there ≡ true → item.kind ≡ 4 → lists.judged_of paper item.bytes ≡ list-judged.Passed f → current_of moment item ≡ true
+      (f : crls.Fields) → there ≡ true → item.kind ≡ 4 → lists.judged_of paper item.bytes ≡ Ok f → current_of moment item ≡ true
       → row ≡ list_told item at f → Reading moment item at there row
   neither :
       (there && anchor_of moment item) ≡ false → ((k : ℕ) → 2 ≤ k → k ≤ 3 → (there && (eqb item.kind k && valid_of moment item)) ≡ false)
       → (there && (eqb item.kind 4 && current_of moment item)) ≡ false → row ≡ blank → Reading moment item at there row
 
 -- only the roles 1 to 3 pass
-role-bounds : (bytes : List ℕ) (k : ℕ) (f : certificates.Fields) → judged_of bytes k ≡ Passed f → (1 ≤ k) × (k ≤ 3)
+role-bounds : (bytes : List ℕ) (k : ℕ) (f : certificates.Fields) → judged_of bytes k ≡ Ok f → (1 ≤ k) × (k ≤ 3)
 unfolding judged_of
 role-bounds bytes k f e = go (leb 1 k) (leb k 3) refl refl (on_walk (walk_of paper bytes) (profile_of bytes k)) e
   where
     go :
-        (a b : Bool) → leb 1 k ≡ a → leb k 3 ≡ b → (rest : Judged) → cond (a && b) rest (Refused Argument) ≡ Passed f
+        (a b : Bool) → leb 1 k ≡ a → leb k 3 ≡ b → (rest : Result Fields Refusal) → cond (a && b) rest (Err Argument) ≡ Ok f
         → (1 ≤ k) × (k ≤ 3)
     go true true x y rest h = (leb-true 1 k x, leb-true k 3 y)
     go true false x y rest h = absurd (let z : ◌≡◌ {A = ℕ} 0 1 = cc in omega arith)
@@ -66,11 +65,11 @@ module _ (moment : ℕ) (item : Item) (at : ℕ) where
       (rw four) refl
 
   on-certificate :
-      (j : Judged) → judged_of item.bytes item.kind ≡ j → eqb item.kind 4 ≡ false → (item.kind ≡ 1 → item.flags ≡ 1)
+      (j : Result Fields Refusal) → judged_of item.bytes item.kind ≡ j → eqb item.kind 4 ≡ false → (item.kind ≡ 1 → item.flags ≡ 1)
       → Reading moment item at true (certificate_row moment item at j)
   unfolding certificate_row valid_of on_certificate
-  on-certificate (Refused refusal) j four enabled = invalid (rw j) four
-  on-certificate (Passed f) j four enabled = go (within f.start f.end moment) refl
+  on-certificate (Err refusal) j four enabled = invalid (rw j) four
+  on-certificate (Ok f) j four enabled = go (within f.start f.end moment) refl
     where
       go :
           (b : Bool) → within f.start f.end moment ≡ b
@@ -85,10 +84,10 @@ module _ (moment : ℕ) (item : Item) (at : ℕ) where
       neither (rw four) (λ k l h. rw (ne_eqb item.kind k (λ z. omega arith))) (rw (v, and-false (eqb item.kind 4))) refl
 
   on-list :
-      (j : list-answer.Judged) → lists.judged_of paper item.bytes ≡ j → item.kind ≡ 4 → Reading moment item at true (list_row moment item at j)
+      (j : Result crls.Fields Refusal) → lists.judged_of paper item.bytes ≡ j → item.kind ≡ 4 → Reading moment item at true (list_row moment item at j)
   unfolding list_row current_of on_list
-  on-list (list-judged.Refused refusal) j four = stale (rw j) four
-  on-list (list-judged.Passed f) j four = go (within f.this_update f.next_update moment) refl
+  on-list (Err refusal) j four = stale (rw j) four
+  on-list (Ok f) j four = go (within f.this_update f.next_update moment) refl
     where
       go :
           (b : Bool) → within f.this_update f.next_update moment ≡ b

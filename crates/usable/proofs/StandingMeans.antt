@@ -1,4 +1,5 @@
 -- What a row's standing says of its item, case by case of the readings of a row.
+use Rattle.std.specs.Prelude.{Ok}
 use Prim.Native.Nat.{ℕ, ◌≤◌}
 use mathlib.Core.Path.{◌≡◌, refl, ap, sym}
 use mathlib.Core.Bool.{Bool, true, false, ◌&&◌}
@@ -7,10 +8,8 @@ use borrow.Author.Tests.{eqb-true, eq-eqb, ne_eqb}
 use lib.Dec.{eqb}
 use Rattle.der.specs.Forms.{paper}
 use Rattle.certificate.specs.declared.Fields as certificates
-use Rattle.certificate.specs.declared.Judged.TheVariants.{Passed}
 use Rattle.certificate.specs.Answer.{judged_of}
 use Rattle.crl.specs.declared.Fields as crls
-use Rattle.crl.specs.declared.Judged.TheVariants as list-judged
 use Rattle.crl.specs.Answer as lists
 use Rattle.image.specs.Items.{Item}
 use Rattle.usable.specs.declared.opened.Row.{Row}
@@ -62,7 +61,7 @@ module _ {moment : ℕ} {item : Item} {at : ℕ} {there : Bool} {row : Row} wher
   -- the row of a certificate
   pub certificate-row :
       Reading moment item at there row → 1 ≤ row.standing → row.standing ≤ 3
-      → (f : certificates.Fields) × (judged_of item.bytes item.kind ≡ Passed f) × (row ≡ certificate_told item at f)
+      → (f : certificates.Fields) × (judged_of item.bytes item.kind ≡ Ok f) × (row ≡ certificate_told item at f)
   unfolding blank
   certificate-row (certificate f n j v lo hi on h) l m = (f, j, h)
   certificate-row (list f n four j v h) l m =
@@ -73,7 +72,7 @@ module _ {moment : ℕ} {item : Item} {at : ℕ} {there : Bool} {row : Row} wher
   -- the row of a CRL
   pub list-row :
       Reading moment item at there row → row.standing ≡ 4
-      → (f : crls.Fields) × (lists.judged_of paper item.bytes ≡ list-judged.Passed f) × (row ≡ list_told item at f)
+      → (f : crls.Fields) × (lists.judged_of paper item.bytes ≡ Ok f) × (row ≡ list_told item at f)
   unfolding blank
   list-row (certificate f n j v lo hi on h) l =
       absurd (let z : row.standing ≡ item.kind = ap (λ (r : Row). r.standing) h in omega arith)

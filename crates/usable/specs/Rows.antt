@@ -1,14 +1,12 @@
 -- What is kept of the items of places and made of it, table by table. Promises between crates cite this, and none that a user can
 -- call: that the tables mean the definitions of usable places and good steps is proved.
-use Rattle.std.specs.Prelude.{ℕ, zero, suc, ◌+◌, ◌*◌, ◌<◌, ◌≡◌, Bool, true, false, cond, List, [], ◌∷◌, eqb, length, get_or, take, drop}
+use Rattle.std.specs.Prelude.{ℕ, zero, suc, ◌+◌, ◌*◌, ◌<◌, ◌≡◌, Bool, true, false, cond, List, [], ◌∷◌, eqb, length, get_or, take, drop, Result, Ok, Err}
 use Rattle.der.specs.Forms.{paper}
 use Rattle.certificate.specs.declared.Fields as certificate
-use Rattle.certificate.specs.declared.Judged.{Judged}
-use Rattle.certificate.specs.declared.Judged.TheVariants.{Passed, Refused}
+use Rattle.refusal.specs.declared.Refusal.{Refusal}
+use Rattle.certificate.specs.declared.Fields.{Fields}
 use Rattle.certificate.specs.Answer.{judged_of}
 use Rattle.crl.specs.declared.Fields as list
-use Rattle.crl.specs.declared.Judged as list-answer
-use Rattle.crl.specs.declared.Judged.TheVariants as list-judged
 use Rattle.crl.specs.Answer as lists
 use Rattle.crl.specs.Listed.{listed_of}
 use Rattle.octets.specs.Alike.{alike}
@@ -61,14 +59,14 @@ list_told item at f =
     common 4 f.first f.second item at f.issuer_at f.issuer_len (f.entries_from ∷ f.entries_end ∷ [])
 
 -- a certificate that passes, at a moment within its times
-unfoldable pub certificate_row : ℕ → Item → ℕ → Judged → Row
-certificate_row moment item at (Refused refusal) = blank
-certificate_row moment item at (Passed f) = cond (within f.start f.end moment) (certificate_told item at f) blank
+unfoldable pub certificate_row : ℕ → Item → ℕ → Result Fields Refusal → Row
+certificate_row moment item at (Err refusal) = blank
+certificate_row moment item at (Ok f) = cond (within f.start f.end moment) (certificate_told item at f) blank
 
 -- a CRL that passes, at a moment from this update to next update
-unfoldable pub list_row : ℕ → Item → ℕ → list-answer.Judged → Row
-list_row moment item at (list-judged.Refused refusal) = blank
-list_row moment item at (list-judged.Passed f) = cond (within f.this_update f.next_update moment) (list_told item at f) blank
+unfoldable pub list_row : ℕ → Item → ℕ → Result list.Fields Refusal → Row
+list_row moment item at (Err refusal) = blank
+list_row moment item at (Ok f) = cond (within f.this_update f.next_update moment) (list_told item at f) blank
 
 -- the row of an item; a disabled anchor has none
 unfoldable pub row_of : ℕ → Item → ℕ → Row

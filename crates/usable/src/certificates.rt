@@ -3,7 +3,7 @@ ghost use Rattle.std.specs.Prelude.{◌≡◌, ℕ};
 ghost use Rattle.usable.specs.Rows.{row_from, certificate_row};
 ghost use Rattle.certificate.specs.Answer.{judged_of};
 
-use certificate::{Judged, judge};
+use certificate::judge;
 
 pub(crate) fn certificate_row(
     item: &[u8],
@@ -14,7 +14,7 @@ pub(crate) fn certificate_row(
 ) -> [usize; 17]
     ensures { (a b : ℕ) → row_from result ≡ certificate_row moment (record { kind = kind; flags = flags; bytes = item.now; first = a; second = b }) at (judged_of item.now kind) }
 {
-    let Judged::Passed(f) = judge(item, kind as u64) else {
+    let Ok(f) = judge(item, kind as u64) else {
         return [0; 17];
     };
     if moment < f.start {

@@ -12,7 +12,7 @@ pub fn of_country(item: &[u8], kind: usize, first: usize, second: usize) -> bool
 }
 
 // The letters of the item's issuer.
-fn country_of(item: &[u8], kind: usize) -> Letters
+fn country_of(item: &[u8], kind: usize) -> Option<Letters>
     ensures { (flags a b : ℕ) → result ≡ country_of (record { kind = kind; flags = flags; bytes = item.now; first = a; second = b }) }
 {
     if kind == 4 {
@@ -22,18 +22,17 @@ fn country_of(item: &[u8], kind: usize) -> Letters
 }
 
 // Whether letters are those two.
-fn is_of(letters: Letters, first: usize, second: usize) -> bool
+fn is_of(letters: Option<Letters>, first: usize, second: usize) -> bool
     ensures { result ≡ is_of first second letters }
 {
-    let Letters::Two {
-        first: a,
-        second: b,
-    } = letters
+    let Some(
+        Letters {
+            first: a,
+            second: b,
+        },
+    ) = letters
     else {
         return false;
     };
-    if a as usize != first {
-        return false;
-    }
-    b as usize == second
+    a as usize == first && b as usize == second
 }

@@ -4,12 +4,12 @@ ghost use Rattle.der.specs.Forms.{paper};
 ghost use Rattle.usable.specs.Rows.{row_from, list_row};
 ghost use Rattle.crl.specs.Answer.{judged_of};
 
-use crl::{Judged, judge};
+use crl::judge;
 
 pub(crate) fn list_row(item: &[u8], at: usize, moment: u64) -> [usize; 17]
     ensures { (kind flags a b : ℕ) → row_from result ≡ list_row moment (record { kind = kind; flags = flags; bytes = item.now; first = a; second = b }) at (judged_of paper item.now) }
 {
-    let Judged::Passed(f) = judge(item) else {
+    let Ok(f) = judge(item) else {
         return [0; 17];
     };
     if moment < f.this_update {

@@ -1,48 +1,33 @@
 // Whether the certificates of two places fit.
-ghost use Rattle.std.specs.Prelude.{◌≡◌, ◌≤◌, ◌<◌};
-ghost use Rattle.usable.specs.Rows.{flag, held_in, row_at, leads_of, led_of, fits_of, matched_of};
+ghost use Rattle.std.specs.Prelude.{◌≡◌, false, ◌≤◌, ◌<◌};
+ghost use Rattle.usable.specs.Rows.{held_in, row_at, leads_of, led_of, fits_of, matched_of};
 
 use crate::opened::{Row, row_at};
 use crate::roles::piece;
 use octets::same;
 
-// 1 where the second place, of that role, can be led to and fits the first; 0 also where a place is not in the table.
-pub fn matched(octets: &[u8], rows: &[[usize; 17]; 96], u: usize, v: usize, role: u8) -> u8
-    ensures { (u < 96 → v < 96 → result ≡ flag (matched_of (held_in octets.now) (row_at rows.now u) (row_at rows.now v) role)) × (96 ≤ u → result ≡ 0) × (96 ≤ v → result ≡ 0) }
+// Whether the second place, of that role, can be led to and fits the first; no also where a place is not in the table.
+pub fn matched(octets: &[u8], rows: &[[usize; 17]; 96], u: usize, v: usize, role: u8) -> bool
+    ensures { (u < 96 → v < 96 → result ≡ matched_of (held_in octets.now) (row_at rows.now u) (row_at rows.now v) role) × (96 ≤ u → result ≡ false) × (96 ≤ v → result ≡ false) }
 {
-    if 96 <= u {
-        return 0;
+    if 96 <= u || 96 <= v {
+        return false;
     }
-    if 96 <= v {
-        return 0;
-    }
-    if !led(role) {
-        return 0;
-    }
-    if fits(octets, row_at(rows, u), row_at(rows, v)) {
-        return 1;
-    }
-    0
+    led(role) && fits(octets, row_at(rows, u), row_at(rows, v))
 }
 
 // An anchor or a link.
 pub fn leads(role: u8) -> bool
     ensures { result ≡ leads_of role }
 {
-    if role == 1 {
-        return true;
-    }
-    role == 2
+    role == 1 || role == 2
 }
 
 // A link or a signer.
 pub fn led(role: u8) -> bool
     ensures { result ≡ led_of role }
 {
-    if role == 2 {
-        return true;
-    }
-    role == 3
+    role == 2 || role == 3
 }
 
 // The key identifiers are equal, and the issuer's name is the subject's.

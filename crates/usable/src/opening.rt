@@ -13,10 +13,8 @@ pub fn open_item(item: &[u8], kind: usize, flags: usize, at: usize, moment: u64)
     if kind == 4 {
         return list_row(item, at, moment);
     }
-    if kind == 1 {
-        if flags != 1 {
-            return [0; 17];
-        }
+    if kind == 1 && flags != 1 {
+        return [0; 17];
     }
     certificate_row(item, kind, flags, at, moment)
 }

@@ -24,14 +24,12 @@ pub fn roles_of(
         return more;
     }
     let first = first_list(places, counting);
-    let mut place = 0;
-    while place < places {
-        if before[place] == 1 {
-            more[place] = roles[place];
+    for place in 0..places {
+        more[place] = if before[place] == 1 {
+            roles[place]
         } else {
-            more[place] = role_at(octets, places, first, rows, counting, place);
-        }
-        place += 1;
+            role_at(octets, places, first, rows, counting, place)
+        };
     }
     more
 }
@@ -71,12 +69,10 @@ fn spoken_of(
     ensures { result ≡ spoken_below (held_in octets.now) rows.now counting own places }
 {
     let mut spoken = 0;
-    let mut list = first;
-    while list < places {
+    for list in first..places {
         if counting[list] == 1 {
             spoken = spoken_by(octets, row_at(rows, list), own, spoken);
         }
-        list += 1;
     }
     spoken
 }
@@ -86,12 +82,10 @@ fn first_list(places: usize, counting: [u8; 96]) -> usize
     requires { places ≤ 96 }
     ensures { (result ≤ places) × ((c : ℕ) → c < result → get_or counting c 0 ≡ 1 → ⊥) }
 {
-    let mut list = 0;
-    while list < places {
+    for list in 0..places {
         if counting[list] == 1 {
             return list;
         }
-        list += 1;
     }
     places
 }
@@ -100,10 +94,7 @@ fn first_list(places: usize, counting: [u8; 96]) -> usize
 fn signed(row: Row) -> bool
     ensures { result ≡ signed_of row }
 {
-    if row.standing == 2 {
-        return true;
-    }
-    row.standing == 3
+    row.standing == 2 || row.standing == 3
 }
 
 // The role of a place, by what the CRLs say of it.

@@ -20,13 +20,8 @@ fn all_bits(table: &[u8]) -> bool
     ensures { result ≡ bits table.now }
 {
     let mut most = 0;
-    let mut i = 0;
-    while i < table.len() {
-        let octet = table[i];
-        if most < octet {
-            most = octet;
-        }
-        i += 1;
+    for octet in table {
+        most = most.max(*octet);
     }
     most <= 1
 }

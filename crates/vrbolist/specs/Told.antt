@@ -1,28 +1,11 @@
 -- What the C interface tells of each answer: number 0 and the fields of a pass, or a refusal's number and detail and zeros.
-use Rattle.std.specs.Prelude.{cond, [], ◌∷◌, pos}
+use Rattle.std.specs.Prelude.{cond, [], ◌∷◌, pos, ℕ, ℤ, Bool, Result, Ok, Err}
 use Rattle.refusal.specs.Numbers.{number_of, detail_of}
-use Rattle.der.specs.declared.walking.Walked.{Walked}
-use Rattle.der.specs.declared.walking.Walked.TheVariants as walked
-use Rattle.der.specs.declared.numbers.Number.{Number}
-use Rattle.der.specs.declared.numbers.Number.TheVariants as number
-use Rattle.calendar.specs.declared.Difference.{Difference}
-use Rattle.calendar.specs.declared.Difference.TheVariants as difference
+use Rattle.refusal.specs.declared.Refusal.{Refusal}
 use Rattle.certificate.specs.declared.Fields as certificate
-use Rattle.certificate.specs.declared.Judged as certificate-answer
-use Rattle.certificate.specs.declared.Judged.TheVariants as certificate-judged
 use Rattle.crl.specs.declared.Fields as crl
-use Rattle.crl.specs.declared.Judged as crl-answer
-use Rattle.crl.specs.declared.Judged.TheVariants as crl-judged
 use Rattle.image.specs.declared.Opened.{Opened}
-use Rattle.image.specs.declared.Opened.TheVariants as opened
-use Rattle.image.specs.declared.Place.{Place}
-use Rattle.image.specs.declared.Place.TheVariants as placed
-use Rattle.writer.specs.declared.Written.{Written}
-use Rattle.writer.specs.declared.Written.TheVariants as written
-use Rattle.letters.specs.declared.checking.Checked.{Checked}
-use Rattle.letters.specs.declared.checking.Checked.TheVariants as checked
-use Rattle.tray.specs.declared.Replayed.{Replayed}
-use Rattle.tray.specs.declared.Replayed.TheVariants as replayed
+use Rattle.image.specs.declared.IndexEntry.{IndexEntry}
 use Rattle.vrbolist.specs.declared.items.WalkAnswer.{WalkAnswer}
 use Rattle.vrbolist.specs.declared.items.IntegerAnswer.{IntegerAnswer}
 use Rattle.vrbolist.specs.declared.items.DaysAnswer.{DaysAnswer}
@@ -34,17 +17,17 @@ use Rattle.vrbolist.specs.declared.images.WriteAnswer.{WriteAnswer}
 use Rattle.vrbolist.specs.declared.versions.LettersAnswer.{LettersAnswer}
 use Rattle.vrbolist.specs.declared.trays.ReplayAnswer.{ReplayAnswer}
 
-unfoldable pub walk_told : Walked → WalkAnswer
-walk_told (walked.Passed count) = record { number = 0; detail = 0; count = count }
-walk_told (walked.Refused why) = record { number = number_of why; detail = detail_of why; count = 0 }
+unfoldable pub walk_told : Result ℕ Refusal → WalkAnswer
+walk_told (Ok count) = record { number = 0; detail = 0; count = count }
+walk_told (Err why) = record { number = number_of why; detail = detail_of why; count = 0 }
 
-unfoldable pub integer_told : Number → IntegerAnswer
-integer_told (number.Value value) = record { number = 0; detail = 0; value = value }
-integer_told (number.Refused why) = record { number = number_of why; detail = detail_of why; value = pos 0 }
+unfoldable pub integer_told : Result ℤ Refusal → IntegerAnswer
+integer_told (Ok value) = record { number = 0; detail = 0; value = value }
+integer_told (Err why) = record { number = number_of why; detail = detail_of why; value = pos 0 }
 
-unfoldable pub days_told : Difference → DaysAnswer
-days_told (difference.Days days) = record { number = 0; detail = 0; days = days }
-days_told (difference.Refused why) = record { number = number_of why; detail = detail_of why; days = pos 0 }
+unfoldable pub days_told : Result ℤ Refusal → DaysAnswer
+days_told (Ok days) = record { number = 0; detail = 0; days = days }
+days_told (Err why) = record { number = number_of why; detail = detail_of why; days = pos 0 }
 
 unfoldable pub certificate_passed : certificate.Fields → CertificateAnswer
 certificate_passed f =
@@ -68,9 +51,9 @@ certificate_passed f =
       country = f.first ∷ f.second ∷ [];
     }
 
-unfoldable pub certificate_told : certificate-answer.Judged → CertificateAnswer
-certificate_told (certificate-judged.Passed f) = certificate_passed f
-certificate_told (certificate-judged.Refused why) =
+unfoldable pub certificate_told : Result certificate.Fields Refusal → CertificateAnswer
+certificate_told (Ok f) = certificate_passed f
+certificate_told (Err why) =
     record {
       number = number_of why;
       detail = detail_of why;
@@ -104,9 +87,9 @@ crl_passed f =
       country = f.first ∷ f.second ∷ [];
     }
 
-unfoldable pub crl_told : crl-answer.Judged → CrlAnswer
-crl_told (crl-judged.Passed f) = crl_passed f
-crl_told (crl-judged.Refused why) =
+unfoldable pub crl_told : Result crl.Fields Refusal → CrlAnswer
+crl_told (Ok f) = crl_passed f
+crl_told (Err why) =
     record {
       number = number_of why;
       detail = detail_of why;
@@ -118,14 +101,14 @@ crl_told (crl-judged.Refused why) =
       country = 0 ∷ 0 ∷ [];
     }
 
-unfoldable pub image_told : Opened → ImageAnswer
-image_told (opened.Image entries day version) =
-    record { number = 0; detail = 0; entries = entries; day = day; version = version }
-image_told (opened.Refused why) =
+unfoldable pub image_told : Result Opened Refusal → ImageAnswer
+image_told (Ok o) =
+    record { number = 0; detail = 0; entries = o.entries; day = o.day; version = o.version }
+image_told (Err why) =
     record { number = number_of why; detail = detail_of why; entries = 0; day = 0; version = 0 }
 
-unfoldable pub entry_told : Place → EntryAnswer
-entry_told (placed.Is e) =
+unfoldable pub entry_told : Result IndexEntry Refusal → EntryAnswer
+entry_told (Ok e) =
     record {
       number = 0;
       detail = 0;
@@ -135,7 +118,7 @@ entry_told (placed.Is e) =
       offset = e.offset;
       country = e.first ∷ e.second ∷ [];
     }
-entry_told (placed.Refused why) =
+entry_told (Err why) =
     record {
       number = number_of why;
       detail = detail_of why;
@@ -146,14 +129,14 @@ entry_told (placed.Refused why) =
       country = 0 ∷ 0 ∷ [];
     }
 
-unfoldable pub write_told : Written → WriteAnswer
-write_told (written.Length size) = record { number = 0; detail = 0; length = size }
-write_told (written.Refused why) = record { number = number_of why; detail = detail_of why; length = 0 }
+unfoldable pub write_told : Result ℕ Refusal → WriteAnswer
+write_told (Ok size) = record { number = 0; detail = 0; length = size }
+write_told (Err why) = record { number = number_of why; detail = detail_of why; length = 0 }
 
-unfoldable pub letters_told : Checked → LettersAnswer
-letters_told (checked.Told so) = record { number = 0; detail = 0; letters_true = cond so 1 0 }
-letters_told (checked.Refused why) = record { number = number_of why; detail = detail_of why; letters_true = 0 }
+unfoldable pub letters_told : Result Bool Refusal → LettersAnswer
+letters_told (Ok so) = record { number = 0; detail = 0; letters_true = cond so 1 0 }
+letters_told (Err why) = record { number = number_of why; detail = detail_of why; letters_true = 0 }
 
-unfoldable pub replay_told : Replayed → ReplayAnswer
-replay_told (replayed.Faulty count) = record { number = 0; detail = 0; faulty = count }
-replay_told (replayed.Refused why) = record { number = number_of why; detail = detail_of why; faulty = 0 }
+unfoldable pub replay_told : Result ℕ Refusal → ReplayAnswer
+replay_told (Ok count) = record { number = 0; detail = 0; faulty = count }
+replay_told (Err why) = record { number = number_of why; detail = detail_of why; faulty = 0 }

@@ -3,7 +3,7 @@ ghost use Rattle.std.specs.Prelude.{◌≡◌};
 ghost use Rattle.certificate.specs.Answer.{judged_of};
 ghost use Rattle.vrbolist.specs.Told.{certificate_passed, certificate_told};
 
-use certificate::{Fields, Judged};
+use certificate::Fields;
 
 #[repr(C)]
 #[derive(Clone, Copy)]
@@ -32,8 +32,8 @@ pub extern "C" fn vrbolist_certificate(item: &[u8], role: u64) -> CertificateAns
     ensures { result ≡ certificate_told (judged_of item.now role) }
 {
     match certificate::judge(item, role) {
-        Judged::Passed(fields) => passed(fields),
-        Judged::Refused(refusal) => CertificateAnswer {
+        Ok(fields) => passed(fields),
+        Err(refusal) => CertificateAnswer {
             number: refusal::number(refusal),
             detail: refusal::detail(refusal),
             start: 0,

@@ -3,8 +3,10 @@ ghost use Rattle.std.specs.Prelude.{◌≡◌};
 ghost use Rattle.anchors.specs.Listing.{anchors_of, anchors_by_index};
 ghost use Rattle.vrbolist.specs.Anchors.{anchors_told};
 
-use anchors::{Listing, Outcome};
+use anchors::Listing;
+use refusal::Refusal;
 
+// In a refusal count 0 and all slots 255.
 #[repr(C)]
 #[derive(Clone, Copy)]
 pub struct AnchorsAnswer {
@@ -29,24 +31,24 @@ pub extern "C" fn vrbolist_anchors_by_index(image: &[u8], first: u64, second: u6
     anchors_told(anchors::anchors_by_index(image, first, second))
 }
 
-fn anchors_told(listing: Listing) -> AnchorsAnswer
+fn anchors_told(listing: Result<Listing, Refusal>) -> AnchorsAnswer
     ensures { result ≡ anchors_told listing }
 {
-    let outcome = listing.outcome;
-    let count = listing.count;
-    let places = listing.places;
-    match outcome {
-        Outcome::Listed => AnchorsAnswer {
-            number: 0,
-            detail: 0,
-            count: count as u64,
-            places,
-        },
-        Outcome::Refused(refusal) => AnchorsAnswer {
+    match listing {
+        Ok(found) => {
+            let places = found.places;
+            AnchorsAnswer {
+                number: 0,
+                detail: 0,
+                count: found.count as u64,
+                places,
+            }
+        }
+        Err(refusal) => AnchorsAnswer {
             number: refusal::number(refusal),
             detail: refusal::detail(refusal),
-            count: count as u64,
-            places,
+            count: 0,
+            places: [255; 96],
         },
     }
 }

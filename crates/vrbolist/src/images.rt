@@ -4,8 +4,8 @@ ghost use Rattle.image.specs.Answer.{opened_of, opened_for, place_of};
 ghost use Rattle.writer.specs.Writing.{written_of, output_of};
 ghost use Rattle.vrbolist.specs.Told.{image_told, entry_told, write_told};
 
-use image::{Opened, Place};
-use writer::Written;
+use image::Opened;
+use refusal::Refusal;
 
 #[repr(C)]
 #[derive(Clone, Copy)]
@@ -51,22 +51,24 @@ pub extern "C" fn vrbolist_image_for_day(image: &[u8], wanted: u64) -> ImageAnsw
     image_told(image::open_for(image, wanted))
 }
 
-fn image_told(opened: Opened) -> ImageAnswer
+fn image_told(opened: Result<Opened, Refusal>) -> ImageAnswer
     ensures { result ≡ image_told opened }
 {
     match opened {
-        Opened::Image {
-            entries,
-            day,
-            version,
-        } => ImageAnswer {
+        Ok(
+            Opened {
+                entries,
+                day,
+                version,
+            },
+        ) => ImageAnswer {
             number: 0,
             detail: 0,
             entries: entries as u64,
             day,
             version: version as u64,
         },
-        Opened::Refused(refusal) => ImageAnswer {
+        Err(refusal) => ImageAnswer {
             number: refusal::number(refusal),
             detail: refusal::detail(refusal),
             entries: 0,
@@ -81,7 +83,7 @@ pub extern "C" fn vrbolist_entry(image: &[u8], place: u64) -> EntryAnswer
     ensures { result ≡ entry_told (place_of image.now place) }
 {
     match image::entry(image, place) {
-        Place::Is(found) => EntryAnswer {
+        Ok(found) => EntryAnswer {
             number: 0,
             detail: 0,
             kind: found.kind as u64,
@@ -90,7 +92,7 @@ pub extern "C" fn vrbolist_entry(image: &[u8], place: u64) -> EntryAnswer
             offset: found.offset as u64,
             country: [found.first, found.second],
         },
-        Place::Refused(refusal) => EntryAnswer {
+        Err(refusal) => EntryAnswer {
             number: refusal::number(refusal),
             detail: refusal::detail(refusal),
             kind: 0,
@@ -119,16 +121,16 @@ pub extern "C" fn vrbolist_write(
     write_told(writer::write(items, kinds, flags, lengths, letters, version, day, out))
 }
 
-pub(crate) fn write_told(written: Written) -> WriteAnswer
+pub(crate) fn write_told(written: Result<usize, Refusal>) -> WriteAnswer
     ensures { result ≡ write_told written }
 {
     match written {
-        Written::Length(length) => WriteAnswer {
+        Ok(length) => WriteAnswer {
             number: 0,
             detail: 0,
             length: length as u64,
         },
-        Written::Refused(refusal) => WriteAnswer {
+        Err(refusal) => WriteAnswer {
             number: refusal::number(refusal),
             detail: refusal::detail(refusal),
             length: 0,

@@ -7,8 +7,7 @@ ghost use Rattle.der.specs.Integer.{integer_of};
 ghost use Rattle.der.specs.Walk.{walk_of};
 ghost use Rattle.vrbolist.specs.Told.{walk_told, integer_told, days_told};
 
-use calendar::Difference;
-use der::{Number, Walked};
+use refusal::Refusal;
 
 // In every answer `number` is 0 for a pass, else the refusal's, and `detail` what it tells beside.
 #[repr(C)]
@@ -40,12 +39,12 @@ pub extern "C" fn vrbolist_walk(item: &[u8]) -> WalkAnswer
     ensures { result ≡ walk_told (walk_of paper item.now) }
 {
     match der::walk(item) {
-        Walked::Passed { count } => WalkAnswer {
+        Ok(count) => WalkAnswer {
             number: 0,
             detail: 0,
             count: count as u64,
         },
-        Walked::Refused(refusal) => WalkAnswer {
+        Err(refusal) => WalkAnswer {
             number: refusal::number(refusal),
             detail: refusal::detail(refusal),
             count: 0,
@@ -58,12 +57,12 @@ pub extern "C" fn vrbolist_integer(item: &[u8]) -> IntegerAnswer
     ensures { result ≡ integer_told (integer_of paper item.now) }
 {
     match der::integer(item) {
-        Number::Value(value) => IntegerAnswer {
+        Ok(value) => IntegerAnswer {
             number: 0,
             detail: 0,
             value,
         },
-        Number::Refused(refusal) => IntegerAnswer {
+        Err(refusal) => IntegerAnswer {
             number: refusal::number(refusal),
             detail: refusal::detail(refusal),
             value: 0,
@@ -85,16 +84,16 @@ pub extern "C" fn vrbolist_crl_age(item: &[u8], day: u64) -> DaysAnswer
     days_told(crl::age(item, day))
 }
 
-fn days_told(difference: Difference) -> DaysAnswer
+fn days_told(difference: Result<i64, Refusal>) -> DaysAnswer
     ensures { result ≡ days_told difference }
 {
     match difference {
-        Difference::Days(days) => DaysAnswer {
+        Ok(days) => DaysAnswer {
             number: 0,
             detail: 0,
             days,
         },
-        Difference::Refused(refusal) => DaysAnswer {
+        Err(refusal) => DaysAnswer {
             number: refusal::number(refusal),
             detail: refusal::detail(refusal),
             days: 0,

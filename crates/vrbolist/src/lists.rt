@@ -4,7 +4,7 @@ ghost use Rattle.der.specs.Forms.{paper};
 ghost use Rattle.crl.specs.Answer.{judged_of};
 ghost use Rattle.vrbolist.specs.Told.{crl_passed, crl_told};
 
-use crl::{Fields, Judged};
+use crl::Fields;
 
 #[repr(C)]
 #[derive(Clone, Copy)]
@@ -24,8 +24,8 @@ pub extern "C" fn vrbolist_crl(item: &[u8]) -> CrlAnswer
     ensures { result ≡ crl_told (judged_of paper item.now) }
 {
     match crl::judge(item) {
-        Judged::Passed(fields) => passed(fields),
-        Judged::Refused(refusal) => CrlAnswer {
+        Ok(fields) => passed(fields),
+        Err(refusal) => CrlAnswer {
             number: refusal::number(refusal),
             detail: refusal::detail(refusal),
             this_update: 0,

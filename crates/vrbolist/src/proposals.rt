@@ -3,7 +3,7 @@ ghost use Rattle.std.specs.Prelude.{◌≡◌};
 ghost use Rattle.vrbolist.specs.Proposals.{proposal_told, Weighed};
 
 use crate::told::ToldAnswer;
-use chain::Proposal;
+use refusal::Refusal;
 
 #[unsafe(no_mangle)]
 pub extern "C" fn vrbolist_proposal(
@@ -18,15 +18,15 @@ pub extern "C" fn vrbolist_proposal(
     proposal_told(chain::propose(image, table, moment, target, places))
 }
 
-fn proposal_told(proposal: Proposal) -> ToldAnswer
+fn proposal_told(proposal: Result<(), Refusal>) -> ToldAnswer
     ensures { result ≡ proposal_told proposal }
 {
     match proposal {
-        Proposal::Accepted => ToldAnswer {
+        Ok(()) => ToldAnswer {
             number: 0,
             detail: 0,
         },
-        Proposal::Refused(refusal) => ToldAnswer {
+        Err(refusal) => ToldAnswer {
             number: refusal::number(refusal),
             detail: refusal::detail(refusal),
         },

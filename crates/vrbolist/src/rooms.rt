@@ -3,6 +3,7 @@ ghost use Rattle.std.specs.Prelude.{◌≡◌, length};
 ghost use Rattle.room.specs.Making.{made_of, image_out, table_out};
 ghost use Rattle.vrbolist.specs.Rooms.{room_told};
 
+use refusal::Refusal;
 use room::Made;
 
 #[repr(C)]
@@ -30,22 +31,24 @@ pub extern "C" fn vrbolist_make_room(
     room_told(room::make_room(image, table, moment, out, lines))
 }
 
-fn room_told(made: Made) -> RoomAnswer
+fn room_told(made: Result<Made, Refusal>) -> RoomAnswer
     ensures { result ≡ room_told made }
 {
     match made {
-        Made::Image {
-            length,
-            table_length,
-            entries,
-        } => RoomAnswer {
+        Ok(
+            Made {
+                length,
+                table_length,
+                entries,
+            },
+        ) => RoomAnswer {
             number: 0,
             detail: 0,
             length: length as u64,
             table_length: table_length as u64,
             entries: entries as u64,
         },
-        Made::Refused(refusal) => RoomAnswer {
+        Err(refusal) => RoomAnswer {
             number: refusal::number(refusal),
             detail: refusal::detail(refusal),
             length: 0,

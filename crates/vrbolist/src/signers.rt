@@ -1,8 +1,6 @@
 // Every signer of an image in one call.
 ghost use Rattle.vrbolist.specs.Signers.{AllForwarded};
 
-use chain::Signers;
-
 #[repr(C)]
 #[derive(Clone, Copy)]
 pub struct SignersAnswer {
@@ -21,12 +19,12 @@ pub extern "C" fn vrbolist_all_signers(
     ensures { AllForwarded image.now table.now moment out.old out.new result }
 {
     match chain::all_signers(image, table, moment, out) {
-        Signers::Length(length) => SignersAnswer {
+        Ok(length) => SignersAnswer {
             number: 0,
             detail: 0,
             length: length as u64,
         },
-        Signers::Refused(refusal) => SignersAnswer {
+        Err(refusal) => SignersAnswer {
             number: refusal::number(refusal),
             detail: refusal::detail(refusal),
             length: 0,

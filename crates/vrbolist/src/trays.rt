@@ -3,8 +3,6 @@ ghost use Rattle.std.specs.Prelude.{◌≡◌, length};
 ghost use Rattle.tray.specs.Answer.{replay_of, list_of};
 ghost use Rattle.vrbolist.specs.Told.{replay_told};
 
-use tray::Replayed;
-
 #[repr(C)]
 #[derive(Clone, Copy)]
 pub struct ReplayAnswer {
@@ -19,12 +17,12 @@ pub extern "C" fn vrbolist_replay(log: &[u8], list: &mut [u64]) -> ReplayAnswer
     ensures output { list.new ≡ list_of log.now list.old }
 {
     match tray::replay(log, list) {
-        Replayed::Faulty(faulty) => ReplayAnswer {
+        Ok(faulty) => ReplayAnswer {
             number: 0,
             detail: 0,
             faulty: faulty as u64,
         },
-        Replayed::Refused(refusal) => ReplayAnswer {
+        Err(refusal) => ReplayAnswer {
             number: refusal::number(refusal),
             detail: refusal::detail(refusal),
             faulty: 0,

@@ -5,7 +5,6 @@ ghost use Rattle.moves.specs.Moving.{moved_of, output_of};
 ghost use Rattle.vrbolist.specs.Told.{write_told, letters_told};
 
 use crate::images::{WriteAnswer, write_told};
-use letters::Checked;
 
 #[repr(C)]
 #[derive(Clone, Copy)]
@@ -36,12 +35,12 @@ pub extern "C" fn vrbolist_letters(image: &[u8]) -> LettersAnswer
     ensures { result ≡ letters_told (checked_of image.now) }
 {
     match letters::letters_true(image) {
-        Checked::Told(so) => LettersAnswer {
+        Ok(so) => LettersAnswer {
             number: 0,
             detail: 0,
             letters_true: one_if(so),
         },
-        Checked::Refused(refusal) => LettersAnswer {
+        Err(refusal) => LettersAnswer {
             number: refusal::number(refusal),
             detail: refusal::detail(refusal),
             letters_true: 0,

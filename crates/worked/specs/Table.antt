@@ -1,15 +1,11 @@
 -- The cases in bold type of "Both sides of the line", and the order of a SET's members: what is asked, and what comes out.
-use Rattle.std.specs.Prelude.{ℕ, Bool, true, false, ◌≡◌, List, [], ◌∷◌, ℤ, pos, negsuc}
+use Rattle.std.specs.Prelude.{ℕ, Bool, true, false, ◌≡◌, List, [], ◌∷◌, ℤ, pos, negsuc, Ok, Err}
 use Rattle.refusal.specs.declared.Refusal.TheVariants.{Der}
-use Rattle.calendar.specs.declared.Difference.TheVariants.{Days}
 use Rattle.calendar.specs.Difference.{difference_of}
-use Rattle.der.specs.declared.numbers.Number.TheVariants.{Value}
-use Rattle.der.specs.declared.walking.Walked.TheVariants.{Passed, Refused}
 use Rattle.der.specs.Forms.{paper}
 use Rattle.der.specs.Integer.{integer_of}
 use Rattle.der.specs.Order.{smaller}
 use Rattle.der.specs.Walk.{walk_of}
-use Rattle.image.specs.declared.Opened.TheVariants.{Image}
 use Rattle.image.specs.Answer.{opened_of}
 
 pub data Case : Type 0 where
@@ -27,11 +23,11 @@ pub data Case : Type 0 where
   compares : List ℕ → List ℕ → Bool → Case
 
 abbrev pub Holds : Case → Type 0
-Holds (passes item n) = walk_of paper item ≡ Passed n
-Holds (breaks item at) = walk_of paper item ≡ Refused (Der at)
-Holds (is item value) = integer_of paper item ≡ Value value
-Holds (from-to first second days) = difference_of first second ≡ Days days
-Holds (reads image entries day version) = opened_of image ≡ Image entries day version
+Holds (passes item n) = walk_of paper item ≡ Ok n
+Holds (breaks item at) = walk_of paper item ≡ Err (Der at)
+Holds (is item value) = integer_of paper item ≡ Ok value
+Holds (from-to first second days) = difference_of first second ≡ Ok days
+Holds (reads image entries day version) = opened_of image ≡ Ok (record { entries = entries; day = day; version = version })
 Holds (compares a b answer) = smaller a b ≡ answer
 
 abbrev pub AllHold : List Case → Type 0

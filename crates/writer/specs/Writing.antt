@@ -1,13 +1,12 @@
 -- Writing an image of a version from packed items, their kinds, flags, lengths and letters, and a day: refusals 1, 3 and 9 in that
 -- order; the image, and every octet of the lent output.
-use Rattle.std.specs.Prelude.{ℕ, ◌+◌, ◌*◌, Bool, true, cond, ◌&&◌, List, [], ◌∷◌, ◌++◌, leb, eqb, length, get_or, take, drop}
+use Rattle.std.specs.Prelude.{ℕ, ◌+◌, ◌*◌, Bool, true, cond, ◌&&◌, List, [], ◌∷◌, ◌++◌, leb, eqb, length, get_or, take, drop, Result, Ok, Err}
 use Rattle.refusal.specs.declared.Refusal.TheVariants.{Argument, Limit, Short}
 use Rattle.calendar.specs.Days.{real_day}
 use Rattle.image.specs.Items.{Item, image_bytes}
 use Rattle.image.specs.Index.{width}
 use Rattle.image.specs.Rules.{fields_good}
-use Rattle.writer.specs.declared.Written.{Written}
-use Rattle.writer.specs.declared.Written.TheVariants.{Length, Refused}
+use Rattle.refusal.specs.declared.Refusal.{Refusal}
 
 -- kind, flags and length of each item in their ranges
 unfoldable pub rows_good : List ℕ → List ℕ → List ℕ → Bool
@@ -50,13 +49,13 @@ unfoldable pub size_of : ℕ → List ℕ → List ℕ → ℕ
 size_of version packed kinds = length packed + width version * length kinds + 12
 
 -- 3 for an image over 262,144 octets, 9 for an output without room for it
-unfoldable pub written_of : ℕ → List ℕ → List ℕ → List ℕ → List ℕ → List ℕ → ℕ → ℕ → Written
+unfoldable pub written_of : ℕ → List ℕ → List ℕ → List ℕ → List ℕ → List ℕ → ℕ → ℕ → Result ℕ Refusal
 written_of version packed kinds flags lengths letters day room =
     cond (arguments_good version packed kinds flags lengths letters day)
     (cond (leb (size_of version packed kinds) 262144)
-    (cond (leb (size_of version packed kinds) room) (Length (size_of version packed kinds)) (Refused Short))
-    (Refused (Limit 0)))
-    (Refused Argument)
+    (cond (leb (size_of version packed kinds) room) (Ok (size_of version packed kinds)) (Err Short))
+    (Err (Limit 0)))
+    (Err Argument)
 
 -- the items, cut from the packed octets
 unfoldable pub items_of : List ℕ → List ℕ → List ℕ → List ℕ → List ℕ → List Item
@@ -72,9 +71,9 @@ items_of (kind ∷ rest) flags lengths letters packed =
     ∷ items_of rest (drop 1 flags) (drop 1 lengths) (drop 2 letters) (drop (get_or lengths 0 0) packed)
 
 -- the output after the call: the image and what stood beyond it; as it was on a refusal
-unfoldable pub on_written : Written → List ℕ → List ℕ → List ℕ
-on_written (Refused refusal) image old = old
-on_written (Length size) image old = image ++ drop size old
+unfoldable pub on_written : Result ℕ Refusal → List ℕ → List ℕ → List ℕ
+on_written (Err refusal) image old = old
+on_written (Ok size) image old = image ++ drop size old
 
 unfoldable pub output_of : ℕ → List ℕ → List ℕ → List ℕ → List ℕ → List ℕ → ℕ → List ℕ → List ℕ
 output_of version packed kinds flags lengths letters day old =

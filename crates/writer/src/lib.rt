@@ -17,13 +17,6 @@ use image::{fields_good, width};
 pub use picking::write_places;
 use refusal::Refusal;
 
-// The length of the image that was written.
-#[derive(Clone, Copy)]
-pub enum Written {
-    Length(usize),
-    Refused(Refusal),
-}
-
 // Writes the image of a version of some items, packed back to back, with their kinds, flags, lengths and letters, and a day. The
 // output beyond the image stays; on a refusal all of it stays.
 pub fn write(
@@ -35,12 +28,12 @@ pub fn write(
     version: u64,
     day: u64,
     out: &mut [u8],
-) -> Written
+) -> Result<usize, Refusal>
     ensures answer { result ≡ written_of version packed.now kinds.now flags.now lengths.now letters.now day (length out.old) }
     ensures output { out.new ≡ output_of version packed.now kinds.now flags.now lengths.now letters.now day out.old }
 {
     if !arguments_good(packed, kinds, flags, lengths, letters, version, day) {
-        return Written::Refused(Refusal::Argument);
+        return Err(Refusal::Argument);
     }
     let form = version as usize;
     let start = packed.len();
@@ -48,15 +41,15 @@ pub fn write(
     let trailer = start + width(form) * count;
     let size = trailer + 12;
     if 262144 < size {
-        return Written::Refused(Refusal::Limit { at: 0 });
+        return Err(Refusal::Limit { at: 0 });
     }
     if out.len() < size {
-        return Written::Refused(Refusal::Short);
+        return Err(Refusal::Short);
     }
     copy(packed, out);
     put_index(form, kinds, flags, lengths, letters, &mut out[start..]);
     put_trailer(form, start, count, day, &mut out[trailer..]);
-    Written::Length(size)
+    Ok(size)
 }
 
 // The version, the day, the columns, the sum of the lengths, and the letters.
@@ -89,40 +82,28 @@ fn arguments_good(
     letters_good(version, letters)
 }
 
+#[tactic(auto, unfolding(crate::specs::Writing::version_good))]
 fn version_good(version: u64) -> bool
     ensures { result ≡ version_good version }
 {
-    if version < 1 {
-        return false;
-    }
-    version <= 2
+    1 <= version && version <= 2
 }
 
 // At most 96 items, and as many flags and lengths, and two letters an item.
+#[tactic(auto, unfolding(crate::specs::Writing::counts_good))]
 fn counts_good(kinds: &[u8], flags: &[u8], lengths: &[u32], letters: &[u8]) -> bool
     ensures { result ≡ counts_good kinds.now flags.now lengths.now letters.now }
 {
     let count = kinds.len();
-    if 96 < count {
-        return false;
-    }
-    if flags.len() != count {
-        return false;
-    }
-    if lengths.len() != count {
-        return false;
-    }
-    letters.len() == 2 * count
+    count <= 96 && flags.len() == count && lengths.len() == count && letters.len() == 2 * count
 }
 
 // Any letters in version 2, zeros in version 1.
+#[tactic(auto, unfolding(crate::specs::Writing::letters_good))]
 fn letters_good(version: u64, letters: &[u8]) -> bool
     ensures { result ≡ letters_good version letters.now }
 {
-    if version == 2 {
-        return true;
-    }
-    all_zeros(letters)
+    version == 2 || all_zeros(letters)
 }
 
 // With no exit before the last octet.
@@ -130,10 +111,8 @@ fn all_zeros(letters: &[u8]) -> bool
     ensures { result ≡ zeros letters.now }
 {
     let mut good = true;
-    let mut i = 0;
-    while i < letters.len() {
-        good = good & (letters[i] == 0);
-        i += 1;
+    for letter in letters {
+        good &= *letter == 0;
     }
     good
 }
@@ -157,10 +136,8 @@ fn sum_all(lengths: &[u32]) -> usize
     ensures { result ≡ sum_all lengths.now }
 {
     let mut sum = 0;
-    let mut i = 0;
-    while i < lengths.len() {
-        sum += lengths[i] as usize;
-        i += 1;
+    for size in lengths {
+        sum += *size as usize;
     }
     sum
 }

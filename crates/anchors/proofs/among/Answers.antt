@@ -1,78 +1,37 @@
 -- Each turn adds the place to those found if it is asked for, and else nothing.
-use Prim.Native.Nat.{◌<◌}
-use mathlib.Core.Path.{◌≡◌, refl, sym, ap, ◌∙◌}
+use Prim.Native.Nat.{◌<◌, ◌≤◌}
+use mathlib.Core.Path.{◌≡◌, refl}
 use native.Mathlib.Omega.{arith}
 use lib.ListN.{get_or}
-use Rattle.image.specs.declared.IndexEntry.{IndexEntry}
-use Rattle.image.specs.Index.{entry_in}
-use Rattle.image.proofs.Places.{entry-own}
+use Rattle.image.specs.Index.{entry_count, entry_in}
 use Rattle.image.proofs.Choosing.{start, skip, take}
 use Rattle.anchors.proofs.Tests.{other-kind}
 use Rattle.anchors.proofs.Turns.{end_of}
 use Rattle.anchors.proofs.among.Goals as goal
-use Rattle.anchors.proofs.among.Goals.{In-loop-next}
+use Rattle.anchors.proofs.among.Goals.{then-kinds-place-eq1+then-asked_for, else-kinds-place-eq1, else-kinds-place-eq1-via-then-kinds-place-eq1+else-asked_for, else-kinds-place-eq1-via-else-kinds-place-eq1}
 
--- the kind that was found is that of the place
-kind-told : (c : In-loop-next) →
-    let now = c.loop-next in
-    let a = c.args in
-    get_or c.kinds_in-kinds.result now.next 0 ≡ (entry_in a.image.now now.next).kind
-kind-told c =
-    let now = c.loop-next in
+pub loop-place-init : goal.loop-place-init
+loop-place-init c = start _ _ _ refl (omega (arith, c.entries-place-end.ensures.count, c.entries-place-end.ensures.few))
+
+pub loop-place-preserved : goal.loop-place-preserved
+loop-place-preserved c =
+    let place = c.loop-place.place in
     let s = c.args.image.now in
-    let below : now.next < 96 = omega (arith, now.invariant.1.small, c.loop-next-test.true) in
-    c.kinds_in-kinds.ensures now.next below ∙ ap (λ (e : IndexEntry). e.kind) (entry-own s now.invariant.0 now.next)
-
-pub loop-next-init : goal.loop-next-init
-loop-next-init c =
-    let pre = c.requires in
-    (pre.2, start _ _ _ pre.0 pre.1)
-
-pub overflow_add-next : goal.overflow_add-next
-overflow_add-next c = omega (arith, c.loop-next.invariant.1.small, c.loop-next-test.true)
-
-pub bounds-kinds-place : goal.bounds-kinds-place
-bounds-kinds-place c = omega (arith, c.loop-next.invariant.1.small, c.loop-next-test.true)
-
-pub asked_for-requires : goal.asked_for-requires
-asked_for-requires c = (c.loop-next.invariant.0, sym (kind-told (goal.at.asked_for-requires c).In-loop-next) ∙ c.if-kinds-place-eq1.true)
-
-pub overflow_cast-places : goal.overflow_cast-places
-overflow_cast-places c = omega (arith, c.loop-next.invariant.1.small, c.loop-next-test.true)
-
-pub bounds-places-count : goal.bounds-places-count
-bounds-places-count c =
-    let inv = c.loop-next.invariant.1 in
-    omega (arith, inv.small, inv.fewer, c.loop-next-test.true)
-
-pub overflow_add-count : goal.overflow_add-count
-overflow_add-count c =
-    let inv = c.loop-next.invariant.1 in
-    omega (arith, inv.small, inv.fewer, c.loop-next-test.true)
-
-pub loop-next-smaller-then-asked_for : goal.loop-next-smaller-then-asked_for
-loop-next-smaller-then-asked_for c = omega (arith, c.loop-next-test.true)
-
-pub loop-next-preserved-then-asked_for : goal.loop-next-preserved-then-asked_for
-loop-next-preserved-then-asked_for c =
-    let inv = c.loop-next.invariant in
-    (inv.0, take inv.1 c.loop-next-test.true c.asked_for.ensures c.if-asked_for.true)
-
-pub loop-next-smaller-else-asked_for : goal.loop-next-smaller-else-asked_for
-loop-next-smaller-else-asked_for c = omega (arith, c.loop-next-test.true)
-
-pub loop-next-preserved-else-asked_for : goal.loop-next-preserved-else-asked_for
-loop-next-preserved-else-asked_for c =
-    let inv = c.loop-next.invariant in
-    (inv.0, skip inv.1 c.loop-next-test.true c.asked_for.ensures c.if-asked_for.false)
-
-pub loop-next-smaller : goal.loop-next-smaller
-loop-next-smaller c = omega (arith, c.loop-next-test.true)
-
-pub loop-next-preserved : goal.loop-next-preserved
-loop-next-preserved c =
-    let inv = c.loop-next.invariant in
-    (inv.0, skip inv.1 c.loop-next-test.true (other-kind _ _ (kind-told (goal.at.loop-next-preserved c).In-loop-next) _ _ _ c.if-kinds-place-eq1.false) refl)
+    let t = c.loop-place.invariant in
+    let inside : place < entry_count s = omega (arith, c.entries-place-end.ensures.count) in
+    let few : place < 96 = omega (arith, c.entries-place-end.ensures.few) in
+    let kind : get_or c.kinds-kinds.result place 0 ≡ (entry_in s place).kind = c.kinds-kinds.ensures place few in
+    elim c.if-kinds-place-eq1.branch [
+      | then-kinds-place-eq1+then-asked_for w ↦ rw (w.places-is, w.count-is) (take t inside w.asked_for.ensures w.if-asked_for.true)
+      | else-kinds-place-eq1 w ↦
+          rw (w.places-is, w.count-is)
+          (elim w.else-kinds-place-eq1.branch [
+            | else-kinds-place-eq1-via-then-kinds-place-eq1+else-asked_for v ↦ skip t inside v.asked_for.ensures v.if-asked_for.false
+            | else-kinds-place-eq1-via-else-kinds-place-eq1 v ↦ skip t inside (other-kind _ _ kind _ _ _ v.if-kinds-place-eq1.false) refl
+          ])
+    ]
 
 pub returns : goal.returns
-returns c = end_of c.loop-next.invariant.1 c.loop-next-test.false
+returns c =
+    let past : entry_count c.args.image.now ≤ c.loop-place.place = omega (arith, c.entries-place-end.ensures.count) in
+    end_of c.loop-place.invariant past

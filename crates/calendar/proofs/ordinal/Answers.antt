@@ -1,4 +1,5 @@
--- A real day's number from 1 is the table's entry for its month and its day of the month; no other day has one.
+-- A real day's number is the table's entry for its month and the days of the month before it; no other day has one.
+use Rattle.std.specs.Prelude.{Some}
 use mathlib.Core.Path.{◌≡◌, sym, ◌∙◌, ap}
 use mathlib.Core.Bool.{true}
 use Prim.Native.Nat.{ℕ, ◌+◌, ◌-◌}
@@ -25,14 +26,19 @@ number c =
     let month = ap (λ (m : ℕ). days_of_years (year - 1950) + days_of_months year (m - 1)) c.month_of.ensures in
     omega (arith, c.days_before.ensures ∙ month, known c.before.before)
 
-pub returns-then-not-real_day : goal.returns-then-not-real_day
-returns-then-not-real_day c = simp (sym c.real_day.ensures ∙ c.if-not-real_day.true)
-
 pub days_before-requires : goal.days_before-requires
 days_before-requires c = omega (arith, known (goal.at.days_before-requires c).Else-not-real_day, c.month_of.ensures)
 
 pub overflow_add-result : goal.overflow_add-result
-overflow_add-result c = omega (arith, number (goal.at.overflow_add-result c).After-days_before, number-most _ (known (goal.at.overflow_add-result c).Else-not-real_day))
+overflow_add-result c =
+    let this = goal.at.overflow_add-result c in
+    omega (arith, number this.After-days_before, number-most _ (known this.Else-not-real_day))
+
+pub overflow_sub-result : goal.overflow_sub-result
+overflow_sub-result c = omega (arith, number (goal.at.overflow_sub-result c).After-days_before)
 
 pub returns : goal.returns
-returns c = number (goal.at.returns c).After-days_before ∙ simp (is_real (goal.at.returns c).Else-not-real_day)
+returns c =
+    let this = goal.at.returns c in
+    let told : c.days_before.result + day_of c.args.day - 1 ≡ day_number c.args.day = omega (arith, number this.After-days_before) in
+    ap Some told ∙ simp (is_real this.Else-not-real_day)

@@ -1,31 +1,43 @@
 -- The rules are tried in their order, so the first that is broken is told.
-use mathlib.Core.Path.{sym, ◌∙◌}
-use borrow.Author.Tests.{not-true, not-false}
-use Rattle.certificate.specs.Answer.{profile_of}
-use Rattle.certificate.proofs.Chains.{shape-bad, shape-good, laid_none, laid-bad, laid-good, graded-broken, graded-whole}
-use Rattle.certificate.proofs.Runs.{rules-early, rules-late}
+use Rattle.std.proofs.Common.{Some, true, ◌≡◌, sym, ◌∙◌, arith}
+use Rattle.std.proofs.lemmas.Grind.{common_steps}
+use Rattle.der.specs.Forms.{paper}
+use Rattle.extensions.specs.Extensions.{extensions_shaped}
+use Rattle.certificate.specs.Shape.{parts_of}
+use Rattle.certificate.proofs.Runs.{profile-shapeless, profile-misshapen, profile-early, profile-late, profile-passed}
 use Rattle.certificate.proofs.profile.Goals as goal
+use Rattle.certificate.proofs.profile.Goals.{In_ok-l, In_ok-rule}
 
-pub returns-in_default : goal.returns-in_default
-unfolding profile_of
-returns-in_default c = shape-bad _ (laid_none _ (sym c.parts_of.ensures ∙ c.in_default.is))
+parts : (c : In_ok-l) → parts_of c.args.item.now ≡ Some c.in_ok-l.l
+parts c = grind (arith, common_steps)
 
-pub returns-then-not-seen : goal.returns-then-not-seen
-unfolding profile_of
-returns-then-not-seen c =
-    shape-bad _ (laid-bad _ (sym c.parts_of.ensures ∙ c.in-Parts.is) (sym c.one_pass-seen.ensures.shaped ∙ not-true _ c.if-not-seen.true))
+shaped : (c : In_ok-rule) → extensions_shaped paper c.args.item.now c.in_ok-l.l.extensions ≡ true
+shaped c = grind (arith, common_steps)
 
-pub returns-then-early-ne0 : goal.returns-then-early-ne0
-unfolding profile_of
-returns-then-early-ne0 c =
-    shape-good _ (laid-good _ (sym c.parts_of.ensures ∙ c.in-Parts.is) (sym c.one_pass-seen.ensures.shaped ∙ not-false _ c.if-not-seen.false)) (rw (← c.readings_of-r.ensures) (graded-broken _ (rules-early _ _ _ _ c.rules_2_to_8-early.ensures c.if-early-ne0.true) c.if-early-ne0.true))
+pub returns-in_err-l : goal.returns-in_err-l
+returns-in_err-l c = grind (arith, common_steps, profile-shapeless)
 
-pub returns-then-late-ne0 : goal.returns-then-late-ne0
-unfolding profile_of
-returns-then-late-ne0 c =
-    shape-good _ (laid-good _ (sym c.parts_of.ensures ∙ c.in-Parts.is) (sym c.one_pass-seen.ensures.shaped ∙ not-false _ c.if-not-seen.false)) (rw (← c.readings_of-r.ensures) (graded-broken _ (rules-late _ _ _ _ c.rules_2_to_8-early.ensures c.if-early-ne0.false (c.rules_9_to_14-late.ensures _ c.one_pass-seen.ensures.placed c.one_pass-seen.ensures.critical)) c.if-late-ne0.true))
+pub returns-in_err-rule : goal.returns-in_err-rule
+returns-in_err-rule c = grind (arith, common_steps, profile-misshapen)
+
+pub returns-in_err-rules_2_to_8 : goal.returns-in_err-rules_2_to_8
+returns-in_err-rules_2_to_8 c =
+    let at = goal.at.returns-in_err-rules_2_to_8 c in
+    let early = sym c.rules_2_to_8.ensures ∙ c.in_err-rules_2_to_8.was in
+    let told = profile-early _ c.args.role (parts at.In_ok-l) (shaped at.In_ok-rule) c.readings_of-r.ensures early in
+    grind (arith, common_steps)
+
+pub returns-in_err-rules_9_to_14 : goal.returns-in_err-rules_9_to_14
+returns-in_err-rules_9_to_14 c =
+    let at = goal.at.returns-in_err-rules_9_to_14 c in
+    let early = sym c.rules_2_to_8.ensures ∙ c.in_ok-rules_2_to_8.was in
+    let late = sym (c.rules_9_to_14.ensures _ c.one_pass-seen.ensures.placed c.one_pass-seen.ensures.critical) ∙ c.in_err-rules_9_to_14.was in
+    let told = profile-late _ c.args.role (parts at.In_ok-l) (shaped at.In_ok-rule) c.readings_of-r.ensures early late in
+    grind (arith, common_steps)
 
 pub returns : goal.returns
-unfolding profile_of
 returns c =
-    shape-good _ (laid-good _ (sym c.parts_of.ensures ∙ c.in-Parts.is) (sym c.one_pass-seen.ensures.shaped ∙ not-false _ c.if-not-seen.false)) (rw (← c.readings_of-r.ensures) (graded-whole (rules-late _ _ _ _ c.rules_2_to_8-early.ensures c.if-early-ne0.false (c.rules_9_to_14-late.ensures _ c.one_pass-seen.ensures.placed c.one_pass-seen.ensures.critical) ∙ c.if-late-ne0.false) c.fields_of.ensures))
+    let at = goal.at.returns c in
+    let early = sym c.rules_2_to_8.ensures ∙ c.in_ok-rules_2_to_8.was in
+    let late = sym (c.rules_9_to_14.ensures _ c.one_pass-seen.ensures.placed c.one_pass-seen.ensures.critical) ∙ c.in_ok-rules_9_to_14.was in
+    rw c.fields_of.ensures (profile-passed _ _ (parts at.In_ok-l) (shaped at.In_ok-rule) c.readings_of-r.ensures early late)

@@ -5,11 +5,11 @@ use Rattle.chain.proofs.Answering.{asked-over, answering}
 use Rattle.chain.proofs.best_chain.Goals as goal
 
 pub chain_among-requires : goal.chain_among-requires
-chain_among-requires c = asked-over _ _ _ _ (sym c.question.ensures ∙ c.in-Over.is)
+chain_among-requires c = asked-over _ _ _ _ (sym c.question.ensures ∙ c.in-Ok.is)
 
-pub returns-in-Refused : goal.returns-in-Refused
-returns-in-Refused c = refused _ (sym c.question.ensures ∙ c.in-Refused.is) c.refused.ensures
+pub returns-in-Err : goal.returns-in-Err
+returns-in-Err c = refused _ (sym c.question.ensures ∙ c.in-Err.is) c.refused.ensures
 
-pub returns-in-Over : goal.returns-in-Over
-returns-in-Over c =
-    answering _ _ _ _ (sym c.question.ensures ∙ c.in-Over.is) c.chain_among.ensures c.shown.ensures
+pub returns-in-Ok : goal.returns-in-Ok
+returns-in-Ok c =
+    answering _ _ _ _ (sym c.question.ensures ∙ c.in-Ok.is) c.chain_among.ensures c.shown.ensures

@@ -9,4 +9,4 @@ returns-in_default c = simp (sym c.entry.ensures ∙ c.in_default.is)
 
 pub returns : goal.returns
 unfolding item_of bytes_in
-returns c = simp (sym c.entry.ensures ∙ c.in-Is.is) c.part.ensures
+returns c = simp (sym c.entry.ensures ∙ c.in-Ok.is) c.part.ensures

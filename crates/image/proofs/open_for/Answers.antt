@@ -1,6 +1,7 @@
 -- The day is asked for first, then the image, then whether it is the image's.
-use mathlib.Core.Path.{sym, ◌∙◌}
+use mathlib.Core.Path.{refl, sym, ◌∙◌}
 use borrow.Author.Tests.{eq-eqb, ne_eqb}
+use Rattle.std.proofs.lemmas.Result.{err_from_is_err_and}
 use Rattle.image.specs.Answer.{on_day, opened_for}
 use Rattle.image.proofs.open_for.Goals as goal
 
@@ -8,17 +9,18 @@ pub returns-then-not-real_day : goal.returns-then-not-real_day
 unfolding opened_for
 returns-then-not-real_day c = simp (sym c.real_day.ensures ∙ c.if-not-real_day.true)
 
-pub returns-in-Refused : goal.returns-in-Refused
+pub returns-in_err-opened : goal.returns-in_err-opened
 unfolding opened_for on_day
-returns-in-Refused c =
-    simp (sym c.real_day.ensures ∙ c.if-not-real_day.false, sym c.«open».ensures ∙ c.in-Refused.is)
+returns-in_err-opened c =
+    let p = err_from_is_err_and c.from_residual.result c.from_residual.ensures.1 in
+    rw (p.1, p.2, ← c.real_day.ensures, c.if-not-real_day.false, ← c.«open».ensures, c.in_err-opened.was) refl
 
-pub returns-then-day-wanted : goal.returns-then-day-wanted
+pub returns-then-opened-wanted : goal.returns-then-opened-wanted
 unfolding opened_for on_day
-returns-then-day-wanted c =
-    simp (sym c.real_day.ensures ∙ c.if-not-real_day.false, sym c.«open».ensures ∙ c.in-Image.is, eq-eqb _ _ c.if-day-wanted.true)
+returns-then-opened-wanted c =
+    simp (sym c.real_day.ensures ∙ c.if-not-real_day.false, sym c.«open».ensures ∙ c.in_ok-opened.was, ne_eqb _ _ c.if-opened-wanted.true)
 
-pub returns-else-day-wanted : goal.returns-else-day-wanted
+pub returns : goal.returns
 unfolding opened_for on_day
-returns-else-day-wanted c =
-    simp (sym c.real_day.ensures ∙ c.if-not-real_day.false, sym c.«open».ensures ∙ c.in-Image.is, ne_eqb _ _ c.if-day-wanted.false)
+returns c =
+    simp (sym c.real_day.ensures ∙ c.if-not-real_day.false, sym c.«open».ensures ∙ c.in_ok-opened.was, eq-eqb _ _ c.if-opened-wanted.false)

@@ -92,37 +92,33 @@ pub returns-then-n-lt12 : goal.returns-then-n-lt12
 unfolding rule1
 returns-then-n-lt12 c =
     let a = c.args in
-    c.broken.ensures ∙ sym (breaks-1 a.least a.most a.image.now (simp (lt-leb _ _ c.if-n-lt12.true)))
+    sym (breaks-1 a.least a.most a.image.now (simp (lt-leb _ _ c.if-n-lt12.true)))
 
 pub returns-then-n-gt262144 : goal.returns-then-n-gt262144
 unfolding rule1
 returns-then-n-gt262144 c =
     let a = c.args in
-    c.broken-then-n-gt262144.ensures
-    ∙ sym (breaks-1 a.least a.most a.image.now (simp (le-leb _ _ c.if-n-lt12.false, lt-leb _ _ c.if-n-gt262144.true)))
+    sym (breaks-1 a.least a.most a.image.now (simp (le-leb _ _ c.if-n-lt12.false, lt-leb _ _ c.if-n-gt262144.true)))
 
 pub returns-then-version-least : goal.returns-then-version-least
 unfolding rule2
 returns-then-version-least c =
     let a = c.args in
-    c.broken-then-version-least.ensures
-    ∙ sym (breaks-2 a.least a.most a.image.now (one (goal.at.returns-then-version-least c).Else-n-gt262144)
+    sym (breaks-2 a.least a.most a.image.now (one (goal.at.returns-then-version-least c).Else-n-gt262144)
     (rw (← version (goal.at.returns-then-version-least c).After-two-version) (simp (lt-leb _ _ c.if-version-least.true))))
 
 pub returns-then-most-version : goal.returns-then-most-version
 unfolding rule2
 returns-then-most-version c =
     let a = c.args in
-    c.broken-then-most-version.ensures
-    ∙ sym (breaks-2 a.least a.most a.image.now (one (goal.at.returns-then-most-version c).Else-n-gt262144)
+    sym (breaks-2 a.least a.most a.image.now (one (goal.at.returns-then-most-version c).Else-n-gt262144)
     (rw (← version (goal.at.returns-then-most-version c).After-two-version) (simp (le-leb _ _ c.if-version-least.false, lt-leb _ _ c.if-most-version.true))))
 
 pub returns-then-entries-gt96 : goal.returns-then-entries-gt96
 unfolding rule3
 returns-then-entries-gt96 c =
     let a = c.args in
-    c.broken-then-entries-gt96.ensures
-    ∙ sym (breaks-3 a.least a.most a.image.now (one (goal.at.returns-then-entries-gt96 c).Else-n-gt262144) (two (goal.at.returns-then-entries-gt96 c).Else-most-version)
+    sym (breaks-3 a.least a.most a.image.now (one (goal.at.returns-then-entries-gt96 c).Else-n-gt262144) (two (goal.at.returns-then-entries-gt96 c).Else-most-version)
     (lt-leb _ _ (rw (entries (goal.at.returns-then-entries-gt96 c).After-two-entries) at c.if-entries-gt96.true)))
 
 pub returns-then-not-real_day : goal.returns-then-not-real_day
@@ -130,8 +126,7 @@ unfolding rule4 day_in
 returns-then-not-real_day c =
     let k = three-kept (goal.at.returns-then-not-real_day c).After-real_day in
     let a = c.args in
-    c.broken-then-not-real_day.ensures
-    ∙ sym (breaks-4 a.least a.most a.image.now k.0 k.1 k.2
+    sym (breaks-4 a.least a.most a.image.now k.0 k.1 k.2
     (rw (← c.four-day.ensures.0) (sym c.real_day.ensures ∙ c.if-not-real_day.true)))
 
 pub overflow_mul-width : goal.overflow_mul-width
@@ -148,8 +143,7 @@ unfolding rule5
 returns-then-start-width c =
     let k = three-kept (goal.at.returns-then-start-width c).After-real_day in
     let a = c.args in
-    c.broken-then-start-width.ensures
-    ∙ sym (breaks-5 a.least a.most a.image.now k.0 k.1 k.2 (four (goal.at.returns-then-start-width c).Else-not-real_day)
+    sym (breaks-5 a.least a.most a.image.now k.0 k.1 k.2 (four (goal.at.returns-then-start-width c).Else-not-real_day)
     (ne_eqb _ _ λ e. c.if-start-width.true (ending (goal.at.returns-then-start-width c).After-width ∙ e)))
 
 pub sum_entries-requires : goal.sum_entries-requires
@@ -163,8 +157,7 @@ unfolding rule6 fit
 returns-in_default c =
     let k = kept (goal.at.returns-in_default c).Else-start-width in
     let a = c.args in
-    c.broken-in_default.ensures
-    ∙ sym (breaks-6 a.least a.most a.image.now k.0 k.1 k.2 k.3 k.4
+    sym (breaks-6 a.least a.most a.image.now k.0 k.1 k.2 k.3 k.4
     (simp (total (goal.at.returns-in_default c).After-sum_entries ∙ c.in_default.is)))
 
 pub returns-then-sum-start : goal.returns-then-sum-start
@@ -172,9 +165,8 @@ unfolding rule6 rule7 fit summed
 returns-then-sum-start c =
     let k = kept (goal.at.returns-then-sum-start c).Else-start-width in
     let a = c.args in
-    let sum = total (goal.at.returns-then-sum-start c).After-sum_entries ∙ c.in-Sum.is in
-    c.broken-then-sum-start.ensures
-    ∙ sym (breaks-7 a.least a.most a.image.now k.0 k.1 k.2 k.3 k.4 (simp sum)
+    let sum = total (goal.at.returns-then-sum-start c).After-sum_entries ∙ c.in-Some.is in
+    sym (breaks-7 a.least a.most a.image.now k.0 k.1 k.2 k.3 k.4 (simp sum)
     (simp (sum, ne_eqb _ _ λ e. c.if-sum-start.true (e ∙ sym (start (goal.at.returns-then-sum-start c).After-width)))))
 
 pub returns : goal.returns
@@ -182,7 +174,7 @@ unfolding rule6 rule7 fit summed
 returns c =
     let k = kept (goal.at.returns c).Else-start-width in
     let a = c.args in
-    let sum = total (goal.at.returns c).After-sum_entries ∙ c.in-Sum.is in
+    let sum = total (goal.at.returns c).After-sum_entries ∙ c.in-Some.is in
     let all = keeps-all a.least a.most a.image.now k.0 k.1 k.2 k.3 k.4 (simp sum)
     (simp (sum, eq-eqb _ _ (c.if-sum-start.false ∙ start (goal.at.returns c).After-width))) in
     cc (all, entries (goal.at.returns c).After-two-entries, day (goal.at.returns c).After-real_day, known (goal.at.returns c).After-width)

@@ -16,19 +16,19 @@ returns-in_default c = simp (eq-eqb _ _ c.if-e-ne48.false) (on-missing _ (sym c.
 pub returns-in_default-element_at : goal.returns-in_default-element_at
 unfolding attribute_of
 returns-in_default-element_at c =
-    simp (eq-eqb _ _ c.if-e-ne48.false) (on-found _ _ (sym c.element_tagged.ensures ∙ c.in-One.is) (on-missing _ (sym c.element_at.ensures ∙ c.in_default-element_at.is)))
+    simp (eq-eqb _ _ c.if-e-ne48.false) (on-found _ _ (sym c.element_tagged.ensures ∙ c.in-Some.is) (on-missing _ (sym c.element_at.ensures ∙ c.in_default-element_at.is)))
 
 pub returns-then-value-e : goal.returns-then-value-e
 unfolding attribute_of
 returns-then-value-e c =
-    simp (eq-eqb _ _ c.if-e-ne48.false) (on-found _ _ (sym c.element_tagged.ensures ∙ c.in-One.is) (on-found _ _ (sym c.element_at.ensures ∙ c.in-One-element_at.is) (simp (ne_eqb _ _ c.if-value-e.true))))
+    simp (eq-eqb _ _ c.if-e-ne48.false) (on-found _ _ (sym c.element_tagged.ensures ∙ c.in-Some.is) (on-found _ _ (sym c.element_at.ensures ∙ c.in-Some-element_at.is) (simp (ne_eqb _ _ c.if-value-e.true))))
 
 pub returns-then-holds : goal.returns-then-holds
 unfolding attribute_of
 returns-then-holds c =
-    simp (eq-eqb _ _ c.if-e-ne48.false) (on-found _ _ (sym c.element_tagged.ensures ∙ c.in-One.is) (on-found _ _ (sym c.element_at.ensures ∙ c.in-One-element_at.is) (simp (eq-eqb _ _ c.if-value-e.false, sym c.holds.ensures ∙ c.if-holds.true))))
+    simp (eq-eqb _ _ c.if-e-ne48.false) (on-found _ _ (sym c.element_tagged.ensures ∙ c.in-Some.is) (on-found _ _ (sym c.element_at.ensures ∙ c.in-Some-element_at.is) (simp (eq-eqb _ _ c.if-value-e.false, sym c.holds.ensures ∙ c.if-holds.true))))
 
 pub returns : goal.returns
 unfolding attribute_of
 returns c =
-    simp (eq-eqb _ _ c.if-e-ne48.false) (on-found _ _ (sym c.element_tagged.ensures ∙ c.in-One.is) (on-found _ _ (sym c.element_at.ensures ∙ c.in-One-element_at.is) (simp (eq-eqb _ _ c.if-value-e.false, sym c.holds.ensures ∙ c.if-holds.false))))
+    simp (eq-eqb _ _ c.if-e-ne48.false) (on-found _ _ (sym c.element_tagged.ensures ∙ c.in-Some.is) (on-found _ _ (sym c.element_at.ensures ∙ c.in-Some-element_at.is) (simp (eq-eqb _ _ c.if-value-e.false, sym c.holds.ensures ∙ c.if-holds.false))))

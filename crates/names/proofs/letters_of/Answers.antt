@@ -1,4 +1,5 @@
 -- The code makes the definition's tests in its order.
+use Rattle.std.specs.Prelude.{None}
 use Prim.Native.Nat.{ℕ}
 use mathlib.Core.List.{List}
 use mathlib.Core.Path.{◌≡◌, refl, sym, ◌∙◌}
@@ -6,12 +7,16 @@ use borrow.Author.Tests.{eq-eqb, ne_eqb}
 use Rattle.elements.specs.declared.elements.Element.{Element}
 use Rattle.names.specs.declared.Seen.{Seen}
 use Rattle.names.specs.declared.Seen.TheVariants.{Never, Once, Often}
-use Rattle.names.specs.declared.Letters.TheVariants.{Unfit}
 use Rattle.names.specs.Names.{letters_of, letters_in}
 use Rattle.names.proofs.letters_of.Goals as goal
+use Rattle.names.proofs.letters_of.Goals.{
+  then-c-ne2-via-then-c-ne2,
+  then-c-ne2-via-else-c-ne2+then-not-capital,
+  then-c-ne2-via-else-c-ne2+else-not-capital+then-not-capital-2,
+}
 
 -- no countryName, or several
-none-once : (s : List ℕ) (seen : Seen) → ((value : Element) → seen ≡ Once value → ⊥) → Unfit ≡ letters_of s seen
+none-once : (s : List ℕ) (seen : Seen) → ((value : Element) → seen ≡ Once value → ⊥) → None ≡ letters_of s seen
 unfolding letters_of
 none-once s Never h = refl
 none-once s Often h = refl
@@ -27,19 +32,26 @@ returns-then-value-ne19 c = simp (c.in-Once.is, ne_eqb _ _ c.if-value-ne19.true)
 pub returns-then-c-ne2 : goal.returns-then-c-ne2
 unfolding letters_of letters_in
 returns-then-c-ne2 c =
-    simp (c.in-Once.is, eq-eqb _ _ c.if-value-ne19.false, sym c.contents-c.ensures, ne_eqb _ _ c.if-c-ne2.true)
-
-pub returns-then-not-capital : goal.returns-then-not-capital
-unfolding letters_of letters_in
-returns-then-not-capital c =
-    simp (c.in-Once.is, eq-eqb _ _ c.if-value-ne19.false, sym c.contents-c.ensures, eq-eqb _ _ c.if-c-ne2.false, sym c.capital.ensures ∙ c.if-not-capital.true)
-
-pub returns-then-not-capital-2 : goal.returns-then-not-capital-2
-unfolding letters_of letters_in
-returns-then-not-capital-2 c =
-    simp (c.in-Once.is, eq-eqb _ _ c.if-value-ne19.false, sym c.contents-c.ensures, eq-eqb _ _ c.if-c-ne2.false, sym c.capital.ensures ∙ c.if-not-capital.false, sym c.capital-2.ensures ∙ c.if-not-capital-2.true)
+    simp (c.in-Once.is, eq-eqb _ _ c.if-value-ne19.false, sym c.contents-c.ensures)
+    (elim c.then-c-ne2.branch [
+      | then-c-ne2-via-then-c-ne2 w ↦ simp (ne_eqb _ _ w.if-c-ne2.true)
+      | then-c-ne2-via-else-c-ne2+then-not-capital w ↦ simp (eq-eqb _ _ w.if-c-ne2.false, sym w.capital.ensures ∙ w.if-not-capital.true)
+      | then-c-ne2-via-else-c-ne2+else-not-capital+then-not-capital-2 w ↦
+          simp (
+            eq-eqb _ _ w.if-c-ne2.false,
+            sym w.capital.ensures ∙ w.if-not-capital.false,
+            sym w.capital-else-not-capital.ensures ∙ w.if-not-capital-2.true,
+          )
+    ])
 
 pub returns : goal.returns
 unfolding letters_of letters_in
 returns c =
-    simp (c.in-Once.is, eq-eqb _ _ c.if-value-ne19.false, sym c.contents-c.ensures, eq-eqb _ _ c.if-c-ne2.false, sym c.capital.ensures ∙ c.if-not-capital.false, sym c.capital-2.ensures ∙ c.if-not-capital-2.false)
+    simp (
+      c.in-Once.is,
+      eq-eqb _ _ c.if-value-ne19.false,
+      sym c.contents-c.ensures,
+      eq-eqb _ _ c.if-c-ne2.false,
+      sym c.capital.ensures ∙ c.if-not-capital.false,
+      sym c.capital-else-not-capital.ensures ∙ c.if-not-capital-2.false,
+    )

@@ -4,49 +4,46 @@ use native.Mathlib.Omega.{arith}
 use borrow.Author.Tests.{eq-eqb, ne_eqb}
 use Rattle.elements.specs.Elements.{inside}
 use Rattle.names.specs.Names.{name_of}
+use Rattle.names.specs.Fast.{one_set_more}
 use Rattle.elements.proofs.Members.{found_within}
-use Rattle.names.proofs.Sets.{sets-done, sets-bad, sets_more, sets-other, sets-country}
+use Rattle.names.proofs.Sets.{sets-done, sets-bad, sets_more, sets-alone}
 use Rattle.names.proofs.name_of.Goals as goal
 
 pub returns-then-e-ne48 : goal.returns-then-e-ne48
 unfolding name_of
 returns-then-e-ne48 c = simp (ne_eqb _ _ c.if-e-ne48.true)
 
-pub loop-at-init : goal.loop-at-init
+pub loop-set-init : goal.loop-set-init
 unfolding name_of inside
-loop-at-init c = simp (eq-eqb _ _ c.if-e-ne48.false)
+loop-set-init c = simp (eq-eqb _ _ c.if-e-ne48.false)
 
-pub loop-at-smaller-then-past-gt0 : goal.loop-at-smaller-then-past-gt0
-loop-at-smaller-then-past-gt0 c = let p = c.other_set-past.ensures c.if-past-gt0.true in omega (arith, p.ends, found_within _ _ _ p.found)
+pub loop-set-smaller-in-Some-country : goal.loop-set-smaller-in-Some-country
+loop-set-smaller-in-Some-country c = let p = c.in-Some.ensures in omega (arith, p.ends, found_within _ _ _ p.found)
 
-pub loop-at-preserved-then-past-gt0 : goal.loop-at-preserved-then-past-gt0
-loop-at-preserved-then-past-gt0 c = sym (sets-other _ _ _ _ (c.other_set-past.ensures c.if-past-gt0.true)) ∙ c.loop-at.invariant
+pub loop-set-preserved-in-Some-country : goal.loop-set-preserved-in-Some-country
+unfolding one_set_more
+loop-set-preserved-in-Some-country c =
+    rw c.one_more-seen.ensures (sym (sets-alone _ _ _ _ c.in-Some.ensures c.in-Some-country.is) ∙ c.loop-set.invariant)
 
-pub overflow_add-value : goal.overflow_add-value
-overflow_add-value c = omega (arith, (c.country_set-past.ensures c.if-past-gt0-2.true).wide)
+pub loop-set-smaller-in_default-country : goal.loop-set-smaller-in_default-country
+loop-set-smaller-in_default-country c = let p = c.in-Some.ensures in omega (arith, p.ends, found_within _ _ _ p.found)
 
-pub overflow_add-value-then-past-gt0-2 : goal.overflow_add-value-then-past-gt0-2
-overflow_add-value-then-past-gt0-2 c = omega (arith, (c.country_set-past.ensures c.if-past-gt0-2.true).wide)
+pub loop-set-preserved-in_default-country : goal.loop-set-preserved-in_default-country
+unfolding one_set_more
+loop-set-preserved-in_default-country c = sym (sets-alone _ _ _ _ c.in-Some.ensures c.in_default-country.is) ∙ c.loop-set.invariant
 
-pub loop-at-smaller-then-past-gt0-2 : goal.loop-at-smaller-then-past-gt0-2
-loop-at-smaller-then-past-gt0-2 c = let p = c.country_set-past.ensures c.if-past-gt0-2.true in omega (arith, p.ends, found_within _ _ _ p.found)
+pub returns-in_default-element_at : goal.returns-in_default-element_at
+returns-in_default-element_at c =
+    sym (sets-done _ _ _ _ (sym c.element_at.ensures ∙ c.in_default-element_at.is)) ∙ c.loop-set.invariant
 
-pub loop-at-preserved-then-past-gt0-2 : goal.loop-at-preserved-then-past-gt0-2
-loop-at-preserved-then-past-gt0-2 c =
-    rw c.one_more-seen.ensures (sym (sets-country _ _ _ _ (c.country_set-past.ensures c.if-past-gt0-2.true)) ∙ c.loop-at.invariant)
+pub returns-in_err-seen : goal.returns-in_err-seen
+returns-in_err-seen c =
+    c.from_residual.ensures
+    ∙ (sym (sets-bad _ _ _ _ (sym c.element_at.ensures ∙ c.in-Some-element_at.is) (sym c.set_of.ensures ∙ c.in_err-seen.was)) ∙ c.loop-set.invariant)
 
-pub returns-in_default : goal.returns-in_default
-returns-in_default c =
-    sym (sets-done _ _ _ _ (sym c.element_at.ensures ∙ c.in_default.is)) ∙ c.loop-at.invariant
+pub loop-set-smaller : goal.loop-set-smaller
+loop-set-smaller c = omega (arith, found_within _ _ _ (sym c.element_at.ensures ∙ c.in-Some-element_at.is))
 
-pub returns-in_default-set_of : goal.returns-in_default-set_of
-returns-in_default-set_of c =
-    sym (sets-bad _ _ _ _ (sym c.element_at.ensures ∙ c.in-One.is) (sym c.set_of.ensures ∙ c.in_default-set_of.is)) ∙ c.loop-at.invariant
-
-pub loop-at-smaller : goal.loop-at-smaller
-loop-at-smaller c =
-    omega (arith, found_within _ _ _ (sym c.element_at.ensures ∙ c.in-One.is))
-
-pub loop-at-preserved : goal.loop-at-preserved
-loop-at-preserved c =
-    sym (sets_more _ _ _ _ (sym c.element_at.ensures ∙ c.in-One.is) (sym c.set_of.ensures ∙ c.in-Holds.is)) ∙ c.loop-at.invariant
+pub loop-set-preserved : goal.loop-set-preserved
+loop-set-preserved c =
+    sym (sets_more _ _ _ _ (sym c.element_at.ensures ∙ c.in-Some-element_at.is) (sym c.set_of.ensures ∙ c.in_ok-seen.was)) ∙ c.loop-set.invariant

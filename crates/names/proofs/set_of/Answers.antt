@@ -24,20 +24,21 @@ further c =
 pub returns-then-e-ne49 : goal.returns-then-e-ne49
 returns-then-e-ne49 c = sym (set-not _ _ _ c.if-e-ne49.true)
 
-pub returns-in_default : goal.returns-in_default
-returns-in_default c = sym (set-empty _ _ _ c.if-e-ne49.false (sym c.element_at.ensures ∙ c.in_default.is))
+pub returns-in_err-attribute : goal.returns-in_err-attribute
+returns-in_err-attribute c = c.from_residual.ensures ∙ sym (set-empty _ _ _ c.if-e-ne49.false (sym c.element_at.ensures ∙ c.in_err-attribute.was))
 
 pub loop-value-init : goal.loop-value-init
-loop-value-init c = sym (set-filled _ _ _ c.if-e-ne49.false (sym c.element_at.ensures ∙ c.in-One.is))
+loop-value-init c = sym (set-filled _ _ _ c.if-e-ne49.false (sym c.element_at.ensures ∙ c.in_ok-attribute.was))
 
 pub returns-in-Misshapen : goal.returns-in-Misshapen
 returns-in-Misshapen c = sym (attributes-bad _ _ _ _ (sym c.attribute_of.ensures ∙ c.in-Misshapen.is)) ∙ c.loop-value.invariant
 
-pub returns-in_default-element_at : goal.returns-in_default-element_at
-returns-in_default-element_at c = sym (attributes-done _ _ _ _ (sym c.element_at-in-loop-value.ensures ∙ c.in_default-element_at.is)) ∙ further (goal.at.returns-in_default-element_at c).Joined-attribute_of
+pub returns-in_default : goal.returns-in_default
+returns-in_default c =
+    sym (attributes-done _ _ _ _ (sym c.element_at-in-loop-value.ensures ∙ c.in_default.is)) ∙ further (goal.at.returns-in_default c).Joined-attribute_of
 
 pub loop-value-smaller : goal.loop-value-smaller
-loop-value-smaller c = omega (arith, found_within _ _ _ (sym c.element_at-in-loop-value.ensures ∙ c.in-One-element_at.is))
+loop-value-smaller c = omega (arith, found_within _ _ _ (sym c.element_at-in-loop-value.ensures ∙ c.in-Some.is))
 
 pub loop-value-preserved : goal.loop-value-preserved
-loop-value-preserved c = rw (members-more _ _ _ (sym c.element_at-in-loop-value.ensures ∙ c.in-One-element_at.is)) at (further (goal.at.loop-value-preserved c).Joined-attribute_of)
+loop-value-preserved c = rw (members-more _ _ _ (sym c.element_at-in-loop-value.ensures ∙ c.in-Some.is)) at (further (goal.at.loop-value-preserved c).Joined-attribute_of)

@@ -1,4 +1,6 @@
 -- The room for the table first, then what the writer says; then both outputs are as they are said.
+use Rattle.std.specs.Prelude.{Ok}
+use Rattle.std.proofs.lemmas.Result.{err_from_is_err_and}
 use Prim.Native.Nat.{ℕ, ◌*◌, ◌≤◌}
 use mathlib.Core.Path.{◌≡◌, refl, sym, ap, ◌∙◌}
 use mathlib.Core.List.{List, ◌++◌}
@@ -6,7 +8,6 @@ use native.Mathlib.Nat.{mul-le-mul}
 use native.Mathlib.Omega.{arith}
 use borrow.Author.Tests.{le-leb, lt-leb}
 use lib.ListN.{length, drop}
-use Rattle.writer.specs.declared.Written.TheVariants as written
 use Rattle.writer.specs.Writing.{on_written}
 use Rattle.writer.specs.Picking.{picked_bytes, picked_of, picked_out}
 use Rattle.writer.proofs.PickedAnswers.{told-length}
@@ -27,25 +28,26 @@ pub returns-then-lines-size : goal.returns-then-lines-size
 unfolding put_of on_made
 returns-then-lines-size c = record { answer = rw (lt-leb _ _ c.if-lines-size.true) refl; image = refl; table = refl }
 
-pub returns-in-Refused : goal.returns-in-Refused
+pub returns-in_err-length : goal.returns-in_err-length
 unfolding put_of on_put on_made picked_out on_written
-returns-in-Refused c =
-    let s = c.args.image.now in
-    let l = c.args.places.now in
-    let old = c.args.out.now in
-    let told : picked_of s l (length old) ≡ written.Refused c.in-Refused.refusal =
-    sym c.write_places.ensures.answer ∙ c.in-Refused.is in
-    record { answer = rw (le-leb _ _ c.if-lines-size.false, told) refl; image = c.write_places.ensures.output ∙ rw told refl; table = refl }
+returns-in_err-length c =
+    let p = err_from_is_err_and c.from_residual.result c.from_residual.ensures.1 in
+    let told = sym c.write_places.ensures.answer ∙ c.in_err-length.was in
+    record {
+      answer = rw (le-leb _ _ c.if-lines-size.false, told, p.1, p.2) refl;
+      image = c.write_places.ensures.output ∙ rw (told, p.1) refl;
+      table = rw p.1 refl;
+    }
 
-pub returns-in-Length : goal.returns-in-Length
+pub returns : goal.returns
 unfolding put_of on_put on_made picked_out on_written
-returns-in-Length c =
+returns c =
     let s = c.args.image.now in
     let l = c.args.places.now in
     let old = c.args.out.now in
-    let told : picked_of s l (length old) ≡ written.Length c.in-Length.length =
-    sym c.write_places.ensures.answer ∙ c.in-Length.is in
-    let long = told-length s l (length old) c.in-Length.length told in
+    let told : picked_of s l (length old) ≡ Ok c.in_ok-length.length =
+    sym c.write_places.ensures.answer ∙ c.in_ok-length.was in
+    let long = told-length s l (length old) c.in_ok-length.length told in
     let lines : List ℕ = cut_lines c.args.entries c.args.table.now l l in
     record {
       answer = rw (le-leb _ _ c.if-lines-size.false, told) refl;

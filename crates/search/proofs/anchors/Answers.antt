@@ -37,7 +37,6 @@ module _ {places : ℕ} {roles queue parent distance : List ℕ} {end v : ℕ} (
   no-anchor d =
       record {
         small = t.small;
-        inside = omega arith;
         stands = λ step. passed t.small (t.stands step) (t.stands step).root refl h (inr (shut step d));
         fresh = λ w k l. t.fresh w (omega arith) l;
       }
@@ -47,7 +46,6 @@ module _ {places : ℕ} {roles queue parent distance : List ℕ} {end v : ℕ} (
     an-anchor =
         record {
           small = t.small;
-          inside = omega arith;
           stands = λ step.
               taken t.small (t.stands step) (t.stands step).root refl h first (t.fresh v (omega arith) h) (opening step e);
           fresh = λ w k l. get_or-set_other parent v w places 0 (λ z. omega arith) ∙ t.fresh w (omega arith) l;
@@ -59,7 +57,7 @@ module _ {places : ℕ} {roles queue parent distance : List ℕ} {end v : ℕ} (
 pub loop-v-init : goal.loop-v-init
 loop-v-init c =
     let p = c.requires in
-    record { small = p.places_bound; inside = omega arith; stands = p.by_index; fresh = λ w k l. none_found (p.by_index none) w l }
+    record { small = p.places_bound; stands = p.by_index; fresh = λ w k l. none_found (p.by_index none) w l }
 
 pub bounds-roles-v : goal.bounds-roles-v
 bounds-roles-v c = omega (arith, c.loop-v.invariant.small, c.loop-v-test.true)
@@ -82,12 +80,6 @@ overflow_cast-queue c = omega (arith, c.loop-v.invariant.small, c.loop-v-test.tr
 pub bounds-queue-end : goal.bounds-queue-end
 bounds-queue-end c = room c.loop-v.invariant c.loop-v-test.true c.if-roles-v-eq1.true
 
-pub overflow_add-v : goal.overflow_add-v
-overflow_add-v c = omega (arith, c.loop-v.invariant.small, c.loop-v-test.true)
-
-pub loop-v-smaller : goal.loop-v-smaller
-loop-v-smaller c = omega (arith, c.loop-v-test.true)
-
 pub loop-v-preserved : goal.loop-v-preserved
 loop-v-preserved c =
     elim c.if-roles-v-eq1.branch [
@@ -100,5 +92,5 @@ loop-v-preserved c =
 pub returns : goal.returns
 returns c =
     let l = c.loop-v in
-    let e : l.v ≡ c.args.places = omega (arith, l.invariant.inside, c.loop-v-test.false) in
+    let e : l.v ≡ c.args.places = omega (arith, l.auto.v-end, c.loop-v-test.false) in
     λ step. rw e at (l.invariant.stands step)

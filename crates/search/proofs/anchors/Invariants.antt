@@ -1,4 +1,4 @@
-use Prim.Native.Nat.{ℕ, ◌+◌, ◌-◌, ◌≤◌, ◌<◌}
+use Prim.Native.Nat.{ℕ, ◌+◌, ◌≤◌, ◌<◌}
 use mathlib.Core.Path.{◌≡◌}
 use mathlib.Core.Bool.{Bool}
 use mathlib.Core.List.{List}
@@ -11,12 +11,8 @@ use Rattle.search.proofs.anchors.Given as goal
 -- what holds before each column, whatever the steps
 pub record Turn (places : ℕ) (roles queue parent distance : List ℕ) (end v : ℕ) : Type 0 where
   pub small : places ≤ 96
-  pub inside : v ≤ places
   pub stands : (step : ℕ → ℕ → Bool) → At places (followed places (graph_by places roles step)) queue parent distance (end + 1) 0 v
   pub fresh : (w : ℕ) → v ≤ w → w < places → get_or parent w 0 ≡ 255
 
 abbrev pub invariant-loop-v : goal.invariant-loop-v
 invariant-loop-v l = Turn l.places l.roles l.queue l.parent l.distance l.end l.v
-
-abbrev pub decreases-loop-v : goal.decreases-loop-v
-decreases-loop-v l = l.places - l.v

@@ -1,5 +1,4 @@
 -- The tables give the best chain, or tell that there is none; the tests before them leave no chain either.
-use mathlib.Core.Path.{◌∙◌}
 use native.Mathlib.Omega.{arith}
 use Rattle.graph.specs.Answer.{none}
 use Rattle.graph.proofs.Answers.{unreached, reached}
@@ -40,6 +39,6 @@ returns c =
     let marked = c.if-parent-target.false in (
       λ step s.
           reached c.args.places c.args.roles.now step p.places_bound (searched s) below c.if-roles-target-ne3.false marked
-          (c.wide.ensures ∙ (s.grows _ below marked).far) (c.path_places-slots.ensures (paths s)),
-      omega (arith, c.wide.ensures, p.paths.far _ below marked, p.paths.short _ below marked),
+          (s.grows _ below marked).far (c.path_places-slots.ensures (paths s)),
+      omega (arith, p.paths.far _ below marked, p.paths.short _ below marked),
     )

@@ -10,7 +10,7 @@ returns-then-places-gt96 c =
     none (too_many a.places a.roles.now _ a.target c.if-places-gt96.true) c.no_chain.ensures
 
 pub chain_in-requires : goal.chain_in-requires
-chain_in-requires c = record { places_bound = c.if-places-gt96.false; paths = paths c.search-marks.ensures }
+chain_in-requires c = record { places_bound = c.if-places-gt96.false; paths = paths c.search.ensures }
 
 pub returns : goal.returns
-returns c = c.chain_in.ensures.0 _ c.search-marks.ensures
+returns c = c.chain_in.ensures.0 _ c.search.ensures

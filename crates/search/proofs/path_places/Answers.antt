@@ -1,6 +1,7 @@
 -- The slots from `left` on hold what stands on the path behind the place that is reached, and as many are left as that place has
 -- on its own path, at first the distance of the target.
 use Prim.Native.Nat.{◌<◌, ◌≤◌}
+use mathlib.Core.Path.{refl}
 use native.Mathlib.Omega.{arith}
 use Rattle.search.proofs.Traces.{fill_start, fill-room, fill_more, fill_end}
 use Rattle.search.proofs.path_places.Goals as goal
@@ -17,7 +18,7 @@ pub bounds-distance-target : goal.bounds-distance-target
 bounds-distance-target c = omega (arith, c.requires.places_bound, c.requires.target_lt_places)
 
 pub loop-place-init : goal.loop-place-init
-loop-place-init c = λ s. let p = c.requires in fill_start s p.target_lt_places p.reached c.wide-left.ensures
+loop-place-init c = λ s. let p = c.requires in fill_start s p.target_lt_places p.reached refl
 
 pub overflow_sub-left : goal.overflow_sub-left
 overflow_sub-left c = omega (arith, (fits (goal.at.overflow_sub-left c).In-loop-place).0)
@@ -35,7 +36,7 @@ pub loop-place-smaller : goal.loop-place-smaller
 loop-place-smaller c = omega (arith, (fits (goal.at.loop-place-smaller c).In-loop-place).0)
 
 pub loop-place-preserved : goal.loop-place-preserved
-loop-place-preserved c = λ s. rw c.wide-place.ensures (fill_more s c.loop-place-test.true (c.loop-place.invariant s))
+loop-place-preserved c = λ s. fill_more s c.loop-place-test.true (c.loop-place.invariant s)
 
 pub returns : goal.returns
 returns c = λ s. fill_end s c.loop-place-test.false (c.loop-place.invariant s)

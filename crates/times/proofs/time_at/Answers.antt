@@ -5,10 +5,10 @@ use Rattle.times.specs.Times.{time_at}
 use Rattle.times.proofs.Tags.{utc-kept, other-kept}
 use Rattle.times.proofs.time_at.Goals as goal
 
-pub returns-in-One : goal.returns-in-One
+pub returns-in-Some : goal.returns-in-Some
 unfolding time_at found_tagged
-returns-in-One c = utc-kept _ (sym c.element_tagged.ensures ∙ c.in-One.is)
+returns-in-Some c = utc-kept _ (sym c.element_tagged.ensures ∙ c.in-Some.is)
 
-pub returns-in-Missing : goal.returns-in-Missing
+pub returns-in-None : goal.returns-in-None
 unfolding time_at found_tagged
-returns-in-Missing c = c.element_tagged-in-Missing.ensures ∙ other-kept _ (sym c.element_tagged.ensures ∙ c.in-Missing.is)
+returns-in-None c = c.element_tagged-in-None.ensures ∙ other-kept _ (sym c.element_tagged.ensures ∙ c.in-None.is)

@@ -1,4 +1,5 @@
 -- The tests come in the order of the refusals; then the octets, the index and the trailer follow one another.
+use Rattle.std.specs.Prelude.{Ok}
 use mathlib.Core.Path.{◌≡◌, refl, ap, sym, ◌∙◌}
 use native.Mathlib.Omega.{arith}
 use Prim.Native.Nat.{ℕ, ◌+◌, ◌*◌, ◌≤◌}
@@ -8,7 +9,6 @@ use lib.ListN.{length, drop, length-append, length-take, length-drop}
 use Rattle.image.specs.Items.{trailer_bytes}
 use Rattle.image.specs.Index.{width}
 use Rattle.image.proofs.Widths.{index-small}
-use Rattle.writer.specs.declared.Written.TheVariants.{Length}
 use Rattle.writer.specs.Rows.{rows_bytes}
 use Rattle.writer.specs.Writing.{arguments_good, size_of}
 use Rattle.writer.proofs.Stores.{put_next}
@@ -103,4 +103,4 @@ returns c =
     (small (goal.at.returns c).Else-size-gt262144) room in
     let told = output-written a.version octets kinds a.flags.now a.lengths.now a.letters.now a.day old (good (goal.at.returns c).Else-not-arguments_good)
     (small (goal.at.returns c).Else-size-gt262144) room in
-    record { answer = ap Length counted ∙ sym answer; output = all ∙ ap (λ (n : ℕ). ((octets ++ rows) ++ trailer) ++ drop n old) counted ∙ sym told }
+    record { answer = ap Ok counted ∙ sym answer; output = all ∙ ap (λ (n : ℕ). ((octets ++ rows) ++ trailer) ++ drop n old) counted ∙ sym told }

@@ -1,16 +1,14 @@
 -- There is an extension just if one is found where their contents start.
-use mathlib.Core.Path.{sym, ap, ◌∙◌}
-use mathlib.Core.Bool.{not}
+use Rattle.std.proofs.Common.{arith}
+use Rattle.std.proofs.lemmas.Grind.{common_steps}
 use Rattle.certificate.specs.Rules.{rule8}
-use Rattle.certificate.proofs.Inside.{none_inside, some-inside}
+use Rattle.certificate.proofs.Inside.{some-inside}
 use Rattle.certificate.proofs.rules.extensions_once.Goals as goal
 
-pub returns-in_default : goal.returns-in_default
+pub returns-then-is_some : goal.returns-then-is_some
 unfolding rule8
-returns-in_default c =
-    rw (none_inside c.args.item.now c.args.l.extensions (sym c.element_at.ensures ∙ c.in_default.is))
+returns-then-is_some c = rw some-inside (grind (arith, common_steps))
 
-pub returns : goal.returns
+pub returns-else-is_some : goal.returns-else-is_some
 unfolding rule8
-returns c =
-    rw (some-inside c.args.item.now c.args.l.extensions (sym c.element_at.ensures ∙ c.in-One.is)) (ap not c.requires)
+returns-else-is_some c = rw some-inside (grind (arith, common_steps))

@@ -8,4 +8,6 @@ use Rattle.certificate.proofs.rules.readings_of.Goals as goal
 pub returns : goal.returns
 unfolding readings_of subject_key authority_key oid_of held_of
 returns c =
-    rw (← c.time_of-start.ensures, ← c.time_of-finish.ensures, ← c.letters_of-issuer.ensures, ← c.letters_of-subject.ensures, ← c.subject_key-own.ensures _ (c.requires.each 0 (omega arith)), ← c.authority_key-authority.ensures _ (c.requires.each 21 (omega arith)))
+    let own = c.subject_key.ensures _ (c.requires.each 0 (omega arith)) in
+    let authority = c.authority_key.ensures _ (c.requires.each 21 (omega arith)) in
+    cc

@@ -1,11 +1,10 @@
 -- That it is there is tested, and the flag is turned round.
 use mathlib.Core.List.{[]}
-use borrow.Author.Tests.{not-true, not-false}
-use Rattle.certificate.proofs.Held.{uncritical-in}
+use Rattle.certificate.proofs.Held.{uncritical-none, uncritical-some}
 use Rattle.certificate.proofs.rules.there_uncritical.Goals as goal
 
-pub returns-then-not-held : goal.returns-then-not-held
-returns-then-not-held c = λ x h. let a = c.args in rw (uncritical-in [] x h, not-true a.held.there c.if-not-held.true)
+pub returns-in-None : goal.returns-in-None
+returns-in-None c = λ x h. uncritical-none [] x h c.in-None.is
 
-pub returns : goal.returns
-returns c = λ x h. let a = c.args in rw (uncritical-in [] x h, not-false a.held.there c.if-not-held.false)
+pub returns-in-Some : goal.returns-in-Some
+returns-in-Some c = λ x h. uncritical-some [] c.in-Some.is x h

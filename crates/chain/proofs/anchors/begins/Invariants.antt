@@ -1,14 +1,8 @@
-use Prim.Native.Nat.{◌-◌, ◌<◌, ◌≤◌}
+use Prim.Native.Nat.{◌<◌, ◌≤◌}
 use Rattle.chain.proofs.anchors.begins.Given as goal
 
 abbrev pub invariant-loop-v : goal.invariant-loop-v
-invariant-loop-v l = (l.places ≤ 96) × (l.u < l.places) × (l.v ≤ l.places)
-
-abbrev pub decreases-loop-v : goal.decreases-loop-v
-decreases-loop-v l = l.places - l.v
+invariant-loop-v l = (l.places ≤ 96) × (l.u < l.places)
 
 abbrev pub invariant-loop-u : goal.invariant-loop-u
-invariant-loop-u l = (l.places ≤ 96) × (l.u ≤ l.places)
-
-abbrev pub decreases-loop-u : goal.decreases-loop-u
-decreases-loop-u l = l.places - l.u
+invariant-loop-u l = l.places ≤ 96

@@ -1,17 +1,21 @@
 -- No anchor so far has a good step to the target.
 use Prim.Native.Nat.{ℕ, ◌*◌, ◌<◌, ◌≤◌}
-use mathlib.Core.Path.{◌≡◌, refl}
+use mathlib.Core.Path.{refl, sym, ◌∙◌}
 use native.Mathlib.Nat.{mul-le-mul}
 use native.Mathlib.Omega.{arith}
-use Rattle.usable.proofs.RowLaws.{none_more, flag_true, flag-false, leads-anchor, step-asked, step-unasked}
+use Rattle.usable.proofs.RowLaws.{none_more, leads-anchor, step-asked, step-unasked}
 use Rattle.chain.proofs.anchors.direct_chain.Goals as goal
-use Rattle.chain.proofs.anchors.direct_chain.Goals.{then-roles-u-eq1+then-octet-eq1+else-matched-eq1, then-roles-u-eq1+else-octet-eq1, else-roles-u-eq1}
+use Rattle.chain.proofs.anchors.direct_chain.Goals.{
+  else-roles-u-eq1-via-then-roles-u-eq1+then-octet-eq1+else-matched,
+  else-roles-u-eq1-via-then-roles-u-eq1+else-octet-eq1,
+  else-roles-u-eq1-via-else-roles-u-eq1,
+}
 
 few : {u places : ℕ} → places ≤ 96 → u < places → u * places ≤ 96 * 96
 few small h = mul-le-mul {n₂ = 96} {m₂ = 96} (omega arith) small
 
 pub loop-u-init : goal.loop-u-init
-loop-u-init c = let p = c.requires in record { small = p.0; there = p.1; inside = omega arith; none = λ w h. absurd (omega arith) }
+loop-u-init c = let p = c.requires in record { small = p.0; there = p.1; none = λ w h. absurd (omega arith) }
 
 pub bounds-roles-u : goal.bounds-roles-u
 bounds-roles-u c = omega (arith, c.loop-u.invariant.small, c.loop-u-test.true)
@@ -34,8 +38,8 @@ pair-requires c =
     let i = c.loop-u.invariant in
     (omega (arith, i.small, c.loop-u-test.true), omega (arith, i.small, i.there))
 
-pub returns-then-matched-eq1 : goal.returns-then-matched-eq1
-returns-then-matched-eq1 c =
+pub returns-then-matched : goal.returns-then-matched
+returns-then-matched c =
     let i = c.loop-u.invariant in
     let u = c.loop-u.u in
     let here : u < 96 = omega (arith, i.small, c.loop-u-test.true) in
@@ -44,20 +48,14 @@ returns-then-matched-eq1 c =
       inside = c.loop-u-test.true;
       anchor = c.if-roles-u-eq1.true;
       good =
-          flag_true _
+          sym
           (step-asked _ _ _ _ _ _ _ refl refl refl refl (leads-anchor c.if-roles-u-eq1.true) c.octet.ensures c.if-octet-eq1.true
           (c.matched.ensures.0 here (omega (arith, i.small, i.there))))
-          c.if-matched-eq1.true;
+          ∙ c.if-matched.true;
       first = i.none;
       count = c.pair.ensures.0;
       slots = c.pair.ensures.1;
     }
-
-pub overflow_add-u-in-loop-u : goal.overflow_add-u-in-loop-u
-overflow_add-u-in-loop-u c = omega (arith, c.loop-u.invariant.small, c.loop-u-test.true)
-
-pub loop-u-smaller : goal.loop-u-smaller
-loop-u-smaller c = omega (arith, c.loop-u-test.true)
 
 pub loop-u-preserved : goal.loop-u-preserved
 loop-u-preserved c =
@@ -67,20 +65,18 @@ loop-u-preserved c =
     record {
       small = i.small;
       there = i.there;
-      inside = omega (arith, c.loop-u-test.true);
       none =
           none_more _ _ _ _ _ _ _ i.none
           (λ one.
-          elim c.if-roles-u-eq1.branch [
-            | then-roles-u-eq1+then-octet-eq1+else-matched-eq1 w ↦
-                flag-false _
+          elim c.else-roles-u-eq1.branch [
+            | else-roles-u-eq1-via-then-roles-u-eq1+then-octet-eq1+else-matched w ↦
+                sym
                 (step-asked _ _ _ _ _ _ _ refl refl refl refl (leads-anchor one) w.octet.ensures w.if-octet-eq1.true
                 (w.matched.ensures.0 here there))
-                w.if-matched-eq1.false
-            | then-roles-u-eq1+else-octet-eq1 w ↦
-                flag-false _ (step-unasked _ _ _ _ _ _ _ refl (leads-anchor one) w.octet.ensures w.if-octet-eq1.false)
-                (λ (z : 0 ≡ 1). omega arith)
-            | else-roles-u-eq1 w ↦ absurd (w.if-roles-u-eq1.false one)
+                ∙ w.if-matched.false
+            | else-roles-u-eq1-via-then-roles-u-eq1+else-octet-eq1 w ↦
+                step-unasked _ _ _ _ _ _ _ refl (leads-anchor one) w.octet.ensures w.if-octet-eq1.false
+            | else-roles-u-eq1-via-else-roles-u-eq1 w ↦ absurd (w.if-roles-u-eq1.false one)
           ]);
     }
 

@@ -1,4 +1,4 @@
-use Prim.Native.Nat.{ℕ, ◌-◌, ◌<◌, ◌≤◌}
+use Prim.Native.Nat.{ℕ, ◌<◌, ◌≤◌}
 use mathlib.Core.Path.{◌≡◌}
 use mathlib.Core.Bool.{false}
 use mathlib.Core.List.{List}
@@ -10,11 +10,7 @@ use Rattle.chain.proofs.anchors.direct_chain.Given as goal
 pub record Turn (image table : List ℕ) (places : ℕ) (rows : List (List ℕ)) (target : ℕ) (roles : List ℕ) (u : ℕ) : Type 0 where
   pub small : places ≤ 96
   pub there : target < places
-  pub inside : u ≤ places
   pub none : (w : ℕ) → w < u → get_or roles w 0 ≡ 1 → step_of (held_in image) places table rows roles w target ≡ false
 
 abbrev pub invariant-loop-u : goal.invariant-loop-u
 invariant-loop-u l = Turn l.image l.table l.places l.rows l.target l.roles l.u
-
-abbrev pub decreases-loop-u : goal.decreases-loop-u
-decreases-loop-u l = l.places - l.u

@@ -6,12 +6,12 @@ use Rattle.chain.proofs.by_rounds.best_chain_by_rounds.Goals as goal
 
 pub chain_over_all-requires : goal.chain_over_all-requires
 chain_over_all-requires c =
-    let o = asked-over _ _ _ _ (sym c.question.ensures ∙ c.in-Over.is) in
+    let o = asked-over _ _ _ _ (sym c.question.ensures ∙ c.in-Ok.is) in
     (o.0, o.1, o.2)
 
-pub returns-in-Refused : goal.returns-in-Refused
-returns-in-Refused c = refused _ (sym c.question.ensures ∙ c.in-Refused.is) c.refused.ensures
+pub returns-in-Err : goal.returns-in-Err
+returns-in-Err c = refused _ (sym c.question.ensures ∙ c.in-Err.is) c.refused.ensures
 
-pub returns-in-Over : goal.returns-in-Over
-returns-in-Over c =
-    answering _ _ _ _ (sym c.question.ensures ∙ c.in-Over.is) c.chain_over_all.ensures c.shown.ensures
+pub returns-in-Ok : goal.returns-in-Ok
+returns-in-Ok c =
+    answering _ _ _ _ (sym c.question.ensures ∙ c.in-Ok.is) c.chain_over_all.ensures c.shown.ensures

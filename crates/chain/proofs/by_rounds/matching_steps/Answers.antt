@@ -7,19 +7,25 @@ use native.Mathlib.Omega.{arith}
 use lib.ListN.{length, length-set, length-replicate}
 use Rattle.usable.proofs.Slots.{empty-slots}
 use Rattle.usable.proofs.RowLaws.{line_read, line-short, line-past, step-asked, step-unasked, step-unled}
-use Rattle.chain.proofs.Cells.{cell_set, cell-left, row-rest, row-left}
+use Rattle.chain.proofs.Cells.{flag-is, flag_not, cell_set, cell-left, row-rest, row-left}
 use Rattle.chain.proofs.by_rounds.matching_steps.Invariants.{Line}
 use Rattle.chain.proofs.by_rounds.matching_steps.Goals as goal
-use Rattle.chain.proofs.by_rounds.matching_steps.Goals.{then-line-v-eq1, else-line-v-eq1, then-leads+else-loop-v-test, else-leads}
+use Rattle.chain.proofs.by_rounds.matching_steps.Goals.{
+  then-line-v-eq1+then-matched,
+  else-line-v-eq1,
+  else-line-v-eq1-via-then-line-v-eq1+else-matched,
+  else-line-v-eq1-via-else-line-v-eq1,
+  then-leads+else-loop-v-test,
+  else-leads,
+}
 
 -- a column of the line is a place
-column : {places : ℕ} {table roles : List ℕ} {u : ℕ} {line : List ℕ} {v : ℕ} → Line places table roles u line v → v < length line → v < places
+column : {places : ℕ} {table roles : List ℕ} {u : ℕ} {line : List ℕ} {v : ℕ} → Line places table roles u line → v < length line → v < places
 column {places} {table} {roles} {u} l h = let k = line-short table places u l.is in omega (arith, k)
 
 pub loop-u-init : goal.loop-u-init
 loop-u-init c = (
   c.requires,
-  omega arith,
   (
     length-replicate {A = ℕ} 9216 0,
     record { before = λ w x k h. absurd (omega arith); behind = λ w x k h. empty-slots 9216 (w * 96 + x) },
@@ -43,9 +49,8 @@ loop-v-init c = (
     place = c.loop-u-test.true;
     leads = sym c.leads.ensures ∙ c.if-leads.true;
     is = c.part-line.ensures;
-    read = omega arith;
   },
-  c.loop-u.invariant.2,
+  c.loop-u.invariant.1,
 )
 
 pub bounds-line-v : goal.bounds-line-v
@@ -67,12 +72,6 @@ bounds-steps-u c =
     let l = c.loop-v.invariant.0 in
     omega (arith, l.small, l.place, column l c.loop-v-test.true)
 
-pub overflow_add-v : goal.overflow_add-v
-overflow_add-v c = let l = c.loop-v.invariant.0 in omega (arith, l.small, column l c.loop-v-test.true)
-
-pub loop-v-smaller : goal.loop-v-smaller
-loop-v-smaller c = omega (arith, c.loop-v-test.true)
-
 pub loop-v-preserved : goal.loop-v-preserved
 loop-v-preserved c =
     let (l, (room, cells)) = c.loop-v.invariant in
@@ -81,37 +80,40 @@ loop-v-preserved c =
     let octet = line_read _ _ _ v l.is inside in
     let here : c.loop-u.u < 96 = omega (arith, l.small, l.place) in
     let there : v < 96 = omega (arith, l.small, inside) in (
-      record { small = l.small; place = l.place; leads = l.leads; is = l.is; read = omega (arith, c.loop-v-test.true) },
+      l,
       (
         elim c.if-line-v-eq1.branch [
-          | then-line-v-eq1 w ↦ rw (w.steps-is, length-set) room
+          | then-line-v-eq1+then-matched w ↦ rw (w.steps-is, length-set) room
           | else-line-v-eq1 w ↦ rw w.steps-is room
         ],
         elim c.if-line-v-eq1.branch [
-          | then-line-v-eq1 w ↦
+          | then-line-v-eq1+then-matched w ↦
               rw w.steps-is
               (cell_set l.small cells inside (omega (arith, room, l.small, l.place, inside))
-              (step-asked _ _ _ _ _ _ v refl refl refl refl l.leads octet w.if-line-v-eq1.true (w.matched.ensures.0 here there)))
+              (flag-is
+              (sym (step-asked _ _ _ _ _ _ v refl refl refl refl l.leads octet w.if-line-v-eq1.true (w.matched.ensures.0 here there))
+              ∙ w.if-matched.true)))
           | else-line-v-eq1 w ↦
-              rw w.steps-is (cell-left l.small cells inside (step-unasked _ _ _ _ _ _ v refl l.leads octet w.if-line-v-eq1.false))
+              rw w.steps-is
+              (cell-left l.small cells inside
+              (flag_not
+              (elim w.else-line-v-eq1.branch [
+                | else-line-v-eq1-via-then-line-v-eq1+else-matched x ↦
+                    sym (step-asked _ _ _ _ _ _ v refl refl refl refl l.leads octet x.if-line-v-eq1.true (x.matched.ensures.0 here there))
+                    ∙ x.if-matched.false
+                | else-line-v-eq1-via-else-line-v-eq1 x ↦ step-unasked _ _ _ _ _ _ v refl l.leads octet x.if-line-v-eq1.false
+              ])))
         ],
       ),
     )
 
-pub overflow_add-u : goal.overflow_add-u
-overflow_add-u c = omega (arith, c.loop-u.invariant.0, c.loop-u-test.true)
-
-pub loop-u-smaller : goal.loop-u-smaller
-loop-u-smaller c = omega (arith, c.loop-u-test.true)
-
 pub loop-u-preserved : goal.loop-u-preserved
 loop-u-preserved c =
-    let (small, few, (room, cells)) = c.loop-u.invariant in
+    let (small, (room, cells)) = c.loop-u.invariant in
     let table = c.args.table.now in
     let places = c.args.places in
     let u = c.loop-u.u in (
       small,
-      omega (arith, c.loop-u-test.true),
       (
         elim c.if-leads.branch [
           | then-leads+else-loop-v-test w ↦ rw w.steps-is w.loop-v.invariant.1.0
@@ -122,14 +124,14 @@ loop-u-preserved c =
               let l = w.loop-v.invariant.0 in
               let short = line-short table places u l.is in
               rw w.steps-is
-              (row-rest small (omega (arith, short, l.read)) w.loop-v.invariant.1.1
-              (λ x h k. step-unasked _ _ _ _ _ _ x refl l.leads refl (line-past table places u x l.is k (omega (arith, h, w.loop-v-test.false)))))
+              (row-rest small (omega (arith, short, w.loop-v.auto.v-end)) w.loop-v.invariant.1.1
+              (λ x h k. flag_not (step-unasked _ _ _ _ _ _ x refl l.leads refl (line-past table places u x l.is k (omega (arith, h, w.loop-v-test.false))))))
           | else-leads w ↦
-              rw w.steps-is (row-left small cells (λ x k. step-unled _ _ _ _ _ _ x refl (sym c.leads.ensures ∙ w.if-leads.false)))
+              rw w.steps-is (row-left small cells (λ x k. flag_not (step-unled _ _ _ _ _ _ x refl (sym c.leads.ensures ∙ w.if-leads.false))))
         ],
       ),
     )
 
 pub returns : goal.returns
 returns c = λ u v h k.
-    let i = c.loop-u.invariant in i.2.1.before u v k (omega (arith, i.0, c.loop-u-test.false, i.1))
+    let i = c.loop-u.invariant in i.1.1.before u v k (omega (arith, i.0, c.loop-u-test.false))

@@ -1,4 +1,4 @@
-use Prim.Native.Nat.{ℕ, ◌-◌, ◌*◌, ◌≤◌, ◌<◌}
+use Prim.Native.Nat.{ℕ, ◌*◌, ◌≤◌, ◌<◌}
 use mathlib.Core.Path.{◌≡◌}
 use mathlib.Core.Bool.{true}
 use mathlib.Core.List.{List}
@@ -12,22 +12,15 @@ abbrev pub Filled : List ℕ → ℕ → List ℕ → List (List ℕ) → List �
 Filled image places table rows roles steps u v =
     (length steps ≡ 9216) × Cells (λ w x. flag (step_of (held_in image) places table rows roles w x)) places steps u v
 
--- the line of a place that leads on, read up to v
-pub record Line (places : ℕ) (table roles : List ℕ) (u : ℕ) (line : List ℕ) (v : ℕ) : Type 0 where
+-- the line of a place that leads on
+pub record Line (places : ℕ) (table roles : List ℕ) (u : ℕ) (line : List ℕ) : Type 0 where
   pub small : places ≤ 96
   pub place : u < places
   pub leads : leads_of (get_or roles u 0) ≡ true
   pub is : line ≡ take places (drop (u * places) table)
-  pub read : v ≤ length line
 
 abbrev pub invariant-loop-v : goal.invariant-loop-v
-invariant-loop-v l = Line l.places l.table l.roles l.u l.line l.v × Filled l.image l.places l.table l.rows l.roles l.steps l.u l.v
-
-abbrev pub decreases-loop-v : goal.decreases-loop-v
-decreases-loop-v l = length l.line - l.v
+invariant-loop-v l = Line l.places l.table l.roles l.u l.line × Filled l.image l.places l.table l.rows l.roles l.steps l.u l.v
 
 abbrev pub invariant-loop-u : goal.invariant-loop-u
-invariant-loop-u l = (l.places ≤ 96) × (l.u ≤ l.places) × Filled l.image l.places l.table l.rows l.roles l.steps l.u 0
-
-abbrev pub decreases-loop-u : goal.decreases-loop-u
-decreases-loop-u l = l.places - l.u
+invariant-loop-u l = (l.places ≤ 96) × Filled l.image l.places l.table l.rows l.roles l.steps l.u 0

@@ -9,7 +9,7 @@ pub overflow_sub-end : goal.overflow_sub-end
 overflow_sub-end c = omega (arith, c.requires.two)
 
 pub loop-i-init : goal.loop-i-init
-loop-i-init c = record { range = c.requires; all = refl; inside = omega arith; each = λ k h. absurd (omega arith) }
+loop-i-init c = record { range = c.requires; all = refl; each = λ k h. absurd (omega arith) }
 
 pub bounds-places-i : goal.bounds-places-i
 bounds-places-i c = omega (arith, c.loop-i.invariant.all, c.loop-i-test.true)
@@ -26,21 +26,12 @@ pub returns-then-roles-place : goal.returns-then-roles-place
 returns-then-roles-place c =
     no (λ fit. c.if-roles-place.true (fit c.loop-i.i (omega (arith, c.loop-i.invariant.all, c.loop-i-test.true)) ∙ sym c.role_asked.ensures))
 
-pub overflow_add-i : goal.overflow_add-i
-overflow_add-i c =
-    let i = c.loop-i.invariant in
-    omega (arith, i.range.most, i.all, c.loop-i-test.true)
-
-pub loop-i-smaller : goal.loop-i-smaller
-loop-i-smaller c = omega (arith, c.loop-i-test.true)
-
 pub loop-i-preserved : goal.loop-i-preserved
 loop-i-preserved c =
     let i = c.loop-i.invariant in
     record {
       range = i.range;
       all = i.all;
-      inside = omega (arith, c.loop-i-test.true);
       each = below_more _ c.loop-i.i i.each (c.if-roles-place.false ∙ c.role_asked.ensures);
     }
 

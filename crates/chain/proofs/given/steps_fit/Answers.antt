@@ -13,7 +13,7 @@ overflow_sub-last c = omega (arith, c.requires.1.two)
 pub loop-i-init : goal.loop-i-init
 loop-i-init c =
     let p = c.requires in
-    record { small = p.0; range = p.1; ends = omega (arith, p.1.two); inside = omega arith; good = λ k h. absurd (omega arith) }
+    record { small = p.0; range = p.1; ends = omega (arith, p.1.two); good = λ k h. absurd (omega arith) }
 
 pub bounds-places-i : goal.bounds-places-i
 bounds-places-i c = omega (arith, c.loop-i.invariant.ends, c.loop-i-test.true)
@@ -44,14 +44,6 @@ returns-then-not-step_fits c =
     (sym c.if-not-step_fits.true ∙ c.step_fits.ensures
     ∙ fit c.loop-i.i (omega (arith, c.loop-i.invariant.ends, c.loop-i-test.true))))
 
-pub overflow_add-i : goal.overflow_add-i
-overflow_add-i c =
-    let i = c.loop-i.invariant in
-    omega (arith, i.range.most, i.ends, c.loop-i-test.true)
-
-pub loop-i-smaller : goal.loop-i-smaller
-loop-i-smaller c = omega (arith, c.loop-i-test.true)
-
 pub loop-i-preserved : goal.loop-i-preserved
 loop-i-preserved c =
     let i = c.loop-i.invariant in
@@ -59,7 +51,6 @@ loop-i-preserved c =
       small = i.small;
       range = i.range;
       ends = i.ends;
-      inside = omega (arith, c.loop-i-test.true);
       good = below_more _ c.loop-i.i i.good (sym c.step_fits.ensures ∙ c.if-not-step_fits.false);
     }
 

@@ -1,4 +1,4 @@
-use Prim.Native.Nat.{ℕ, ◌+◌, ◌-◌, ◌<◌, ◌≤◌}
+use Prim.Native.Nat.{ℕ, ◌+◌, ◌<◌, ◌≤◌}
 use mathlib.Core.Path.{◌≡◌}
 use mathlib.Core.Bool.{true}
 use mathlib.Core.List.{List}
@@ -12,11 +12,7 @@ pub record Turn (image table : List ℕ) (count : ℕ) (rows : List (List ℕ)) 
   pub small : count ≤ 96
   pub range : InRange count places
   pub ends : last + 1 ≡ length places
-  pub inside : i ≤ last
   pub good : (k : ℕ) → k < i → joined (held_in image) count table rows (get_or places k 0) (get_or places (k + 1) 0) ≡ true
 
 abbrev pub invariant-loop-i : goal.invariant-loop-i
 invariant-loop-i l = Turn l.image l.table l.count l.rows l.places l.last l.i
-
-abbrev pub decreases-loop-i : goal.decreases-loop-i
-decreases-loop-i l = l.last - l.i

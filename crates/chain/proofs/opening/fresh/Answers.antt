@@ -1,16 +1,14 @@
 -- Each test answers one of the definition's.
 use borrow.Author.Tests.{eq-eqb, ne_eqb}
+use native.Mathlib.Omega.{arith}
+use Rattle.std.proofs.lemmas.Bool.Decides.{nat_tests}
 use Rattle.chain.specs.Near.{fresh_of}
 use Rattle.chain.proofs.opening.fresh.Goals as goal
 
-pub returns-then-near-ne1 : goal.returns-then-near-ne1
+pub returns-else-near-eq1 : goal.returns-else-near-eq1
 unfolding fresh_of
-returns-then-near-ne1 c = simp (ne_eqb _ _ c.if-near-ne1.true)
+returns-else-near-eq1 c = simp (ne_eqb _ _ c.if-near-eq1.false)
 
-pub returns-then-before-eq1 : goal.returns-then-before-eq1
+pub returns-then-near-eq1 : goal.returns-then-near-eq1
 unfolding fresh_of
-returns-then-before-eq1 c = simp (eq-eqb _ _ c.if-near-ne1.false, eq-eqb _ _ c.if-before-eq1.true)
-
-pub returns : goal.returns
-unfolding fresh_of
-returns c = simp (eq-eqb _ _ c.if-near-ne1.false, ne_eqb _ _ c.if-before-eq1.false)
+returns-then-near-eq1 c = rw (eq-eqb _ _ c.if-near-eq1.true) (grind (arith, nat_tests))

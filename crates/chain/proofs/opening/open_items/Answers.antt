@@ -14,7 +14,7 @@ use Rattle.chain.proofs.opening.open_items.Goals.{then-fresh+then-wanted, then-f
 pub loop-place-init : goal.loop-place-init
 loop-place-init c =
     let p = c.requires in
-    (p.0, p.1, p.2, omega arith, p.3, record { before = λ k h. absurd (omega arith); behind = λ k h. refl })
+    (p.0, p.1, p.2, p.3, record { before = λ k h. absurd (omega arith); behind = λ k h. refl })
 
 pub bounds-before-place : goal.bounds-before-place
 bounds-before-place c = omega (arith, c.loop-place.invariant.2, c.loop-place-test.true)
@@ -31,13 +31,7 @@ offset_bounds-rows-place c = omega (arith, c.loop-place.invariant.2, c.loop-plac
 pub bounds-rows-place : goal.bounds-rows-place
 bounds-rows-place c =
     let i = c.loop-place.invariant in
-    omega (arith, i.2, i.4, c.loop-place-test.true)
-
-pub overflow_add-place : goal.overflow_add-place
-overflow_add-place c = omega (arith, c.loop-place.invariant.2, c.loop-place-test.true)
-
-pub loop-place-smaller : goal.loop-place-smaller
-loop-place-smaller c = omega (arith, c.loop-place-test.true)
+    omega (arith, i.2, i.3, c.loop-place-test.true)
 
 pub loop-place-preserved : goal.loop-place-preserved
 loop-place-preserved c =
@@ -48,28 +42,27 @@ loop-place-preserved c =
       i.0,
       i.1,
       i.2,
-      omega (arith, inside),
       elim c.if-fresh.branch [
-        | then-fresh+then-wanted w ↦ rw (w.rows-is, length-set) i.4
-        | then-fresh+else-wanted w ↦ rw w.rows-is i.4
-        | else-fresh w ↦ rw w.rows-is i.4
+        | then-fresh+then-wanted w ↦ rw (w.rows-is, length-set) i.3
+        | then-fresh+else-wanted w ↦ rw w.rows-is i.3
+        | else-fresh w ↦ rw w.rows-is i.3
       ],
       elim c.if-fresh.branch [
         | then-fresh+then-wanted w ↦
             let kind = kind-read _ _ there (w.entry_of-e.ensures ∙ entry-own _ i.0 _) w.part-item.ensures in
             let bytes = bytes_read _ _ there (w.entry_of-e.ensures ∙ entry-own _ i.0 _) w.part-item.ensures in
             rw w.rows-is
-            (row-set _ i.5 (omega (arith, i.2, i.4, inside))
+            (row-set _ i.4 (omega (arith, i.2, i.3, inside))
             (row_fresh _ _ _ _ _ _ _ _ _ _ _ (told ∙ w.if-fresh.true) (sym (w.wanted.ensures _ kind bytes) ∙ w.if-wanted.true)
-            (row_read _ _ there (w.entry_of-e.ensures ∙ entry-own _ i.0 _) w.part-item.ensures _ w.open_item-row.ensures)))
+            (row_read _ _ there (w.entry_of-e.ensures ∙ entry-own _ i.0 _) w.part-item.ensures _ w.open_item.ensures)))
         | then-fresh+else-wanted w ↦
             let kind = kind-read _ _ there (w.entry_of-e.ensures ∙ entry-own _ i.0 _) w.part-item.ensures in
             let bytes = bytes_read _ _ there (w.entry_of-e.ensures ∙ entry-own _ i.0 _) w.part-item.ensures in
             rw w.rows-is
-            (row-left i.5 (row-shut _ _ _ _ _ _ _ _ _ _ _ (told ∙ w.if-fresh.true) (sym (w.wanted.ensures _ kind bytes) ∙ w.if-wanted.false)))
-        | else-fresh w ↦ rw w.rows-is (row-left i.5 (row_stays _ _ _ _ _ _ _ _ _ _ _ (told ∙ w.if-fresh.false)))
+            (row-left i.4 (row-shut _ _ _ _ _ _ _ _ _ _ _ (told ∙ w.if-fresh.true) (sym (w.wanted.ensures _ kind bytes) ∙ w.if-wanted.false)))
+        | else-fresh w ↦ rw w.rows-is (row-left i.4 (row_stays _ _ _ _ _ _ _ _ _ _ _ (told ∙ w.if-fresh.false)))
       ],
     )
 
 pub returns : goal.returns
-returns c = let i = c.loop-place.invariant in (i.4, λ k h. i.5.before k (omega (arith, c.loop-place-test.false)))
+returns c = let i = c.loop-place.invariant in (i.3, λ k h. i.4.before k (omega (arith, c.loop-place-test.false)))

@@ -1,4 +1,4 @@
-use Prim.Native.Nat.{ℕ, ◌-◌, ◌≤◌}
+use Prim.Native.Nat.{ℕ}
 use mathlib.Core.Path.{◌≡◌}
 use mathlib.Core.List.{List}
 use lib.ListN.{length}
@@ -9,12 +9,8 @@ use Rattle.chain.proofs.proposal.near_named.Given as goal
 -- what holds before each place
 pub record Turn (places near more : List ℕ) (i : ℕ) : Type 0 where
   pub range : InRange 96 places
-  pub inside : i ≤ length places
   pub slots : length more ≡ 96
   pub marked : Marking places near more i
 
-abbrev pub invariant-loop-i : goal.invariant-loop-i
-invariant-loop-i l = Turn l.places l.initial.more l.more l.i
-
-abbrev pub decreases-loop-i : goal.decreases-loop-i
-decreases-loop-i l = length l.places - l.i
+abbrev pub invariant-loop-place : goal.invariant-loop-place
+invariant-loop-place l = Turn l.places l.initial.more l.more l.place-index

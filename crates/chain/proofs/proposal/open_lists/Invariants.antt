@@ -1,4 +1,5 @@
-use Prim.Native.Nat.{◌-◌, ◌≤◌}
+use Prim.Native.Nat.{◌≤◌}
+use mathlib.Core.Bool.{false}
 use mathlib.Core.Path.{◌≡◌}
 use lib.ListN.{length}
 use Rattle.usable.specs.Rows.{row_at}
@@ -8,7 +9,4 @@ use Rattle.chain.proofs.proposal.open_lists.Given as goal
 
 abbrev pub invariant-loop-place : goal.invariant-loop-place
 invariant-loop-place l =
-    (l.places ≤ 96) × (l.place ≤ l.places) × (length l.lists ≡ 96) × Upto 0 (λ p. list_of (row_at l.rows p)) l.lists l.place
-
-abbrev pub decreases-loop-place : goal.decreases-loop-place
-decreases-loop-place l = l.places - l.place
+    (l.places ≤ 96) × (length l.lists ≡ 96) × Upto false (λ p. list_of (row_at l.rows p)) l.lists l.place

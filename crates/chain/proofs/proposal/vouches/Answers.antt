@@ -14,25 +14,19 @@ overflow_mul-u c =
 pub loop-v-init : goal.loop-v-init
 loop-v-init c =
     let short = line-short c.args.table.now c.args.places c.args.u c.part-line.ensures in
-    (c.part-line.ensures, omega arith, omega (arith, short, c.requires.0), λ e w h. absurd (omega arith))
+    (c.part-line.ensures, omega (arith, short, c.requires.0), λ e w h. absurd (omega arith))
 
 pub bounds-line-v : goal.bounds-line-v
 bounds-line-v c = omega (arith, c.loop-v-test.true)
 
 pub bounds-lists-v : goal.bounds-lists-v
-bounds-lists-v c = omega (arith, c.loop-v.invariant.2, c.loop-v-test.true)
-
-pub overflow_add-v : goal.overflow_add-v
-overflow_add-v c = omega (arith, c.loop-v.invariant.2, c.loop-v-test.true)
-
-pub loop-v-smaller : goal.loop-v-smaller
-loop-v-smaller c = omega (arith, c.loop-v-test.true)
+bounds-lists-v c = omega (arith, c.loop-v.invariant.1, c.loop-v-test.true)
 
 pub loop-v-preserved : goal.loop-v-preserved
 loop-v-preserved c =
-    let (is, few, short, unheard) = c.loop-v.invariant in
-    (is, omega (arith, c.loop-v-test.true), short, unheard-more c.part-line.result.now c.args.lists c.loop-v.heard c.loop-v.v unheard)
+    let (is, short, unheard) = c.loop-v.invariant in
+    (is, short, unheard-more c.part-line.result.now c.args.lists c.loop-v.heard c.loop-v.v unheard)
 
 pub returns : goal.returns
 returns c = λ e.
-    let (is, few, short, unheard) = c.loop-v.invariant in unheard-all _ _ _ _ c.args.lists is (omega (arith, c.loop-v-test.false)) (unheard e)
+    let (is, short, unheard) = c.loop-v.invariant in unheard-all _ _ _ _ c.args.lists is (omega (arith, c.loop-v-test.false)) (unheard e)

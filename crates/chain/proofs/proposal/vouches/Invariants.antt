@@ -1,4 +1,4 @@
-use Prim.Native.Nat.{◌-◌, ◌*◌, ◌≤◌}
+use Prim.Native.Nat.{◌*◌, ◌≤◌}
 use mathlib.Core.Path.{◌≡◌}
 use mathlib.Core.Bool.{false}
 use lib.ListN.{length, take, drop}
@@ -7,7 +7,4 @@ use Rattle.chain.proofs.proposal.vouches.Given as goal
 
 abbrev pub invariant-loop-v : goal.invariant-loop-v
 invariant-loop-v l =
-    (l.line ≡ take l.places (drop (l.u * l.places) l.table)) × (l.v ≤ length l.line) × (length l.line ≤ 96) × (l.heard ≡ false → Unheard l.line l.lists l.v)
-
-abbrev pub decreases-loop-v : goal.decreases-loop-v
-decreases-loop-v l = length l.line - l.v
+    (l.line ≡ take l.places (drop (l.u * l.places) l.table)) × (length l.line ≤ 96) × (l.heard ≡ false → Unheard l.line l.lists l.v)

@@ -1,6 +1,11 @@
 -- What holds at the start of a round holds at that of the next, and what a round settles is the answer.
-use mathlib.Core.Path.{refl, sym, ◌∙◌}
+use Prim.Native.Nat.{ℕ}
+use mathlib.Core.Path.{◌≡◌, refl, sym, ap, ◌∙◌}
+use mathlib.Core.List.{List}
 use native.Mathlib.Omega.{arith}
+use lib.ListN.{get_or}
+use Rattle.std.proofs.lemmas.Bool.Decides.{Decides-eqb}
+use Rattle.std.proofs.lemmas.Slice.Eq.{slice_eq-Decides}
 use Rattle.chain.proofs.ImageRounds.{first_round, next-round, no-signer, direct-answer, round-answer, closed-answer, no-last-step}
 use Rattle.chain.proofs.RoundsHold.{settled, unsettled, unasked}
 use Rattle.chain.proofs.rounds.chain_home.Goals as goal
@@ -30,12 +35,12 @@ returns-then-roles-target-ne3 c =
 pub direct_chain-direct-requires : goal.direct_chain-direct-requires
 direct_chain-direct-requires c = (c.requires.2, c.requires.3)
 
-pub returns-then-two-ne0 : goal.returns-then-two-ne0
-returns-then-two-ne0 c =
+pub returns-then-direct-ne0 : goal.returns-then-direct-ne0
+returns-then-direct-ne0 c =
     direct-answer _ _ _ _ _ c.requires.1
     (first_round _ _ _ _ _ c.requires.1 c.near_first-near.ensures c.args.signer c.requires.2 c.requires.3 c.requires.4 c.requires.5 c.requires.6
     c.open_first.ensures.1 (c.counting_lists-counting.ensures.0 c.requires.2) (c.roles_of-roles.ensures.0 c.requires.2))
-    c.requires.3 c.if-roles-target-ne3.false (c.direct_chain-direct.ensures c.if-two-ne0.true)
+    c.requires.3 c.if-roles-target-ne3.false (c.direct_chain-direct.ensures c.if-direct-ne0.true)
 
 pub loop-near-init : goal.loop-near-init
 loop-near-init c =
@@ -56,15 +61,6 @@ overflow_add-round c = omega (arith, c.loop-near.invariant.early)
 
 pub near_next-wider-requires : goal.near_next-wider-requires
 near_next-wider-requires c = c.loop-near.invariant.small
-
-pub unchanged-requires : goal.unchanged-requires
-unchanged-requires c = c.loop-near.invariant.small
-
-pub returns-then-unchanged : goal.returns-then-unchanged
-returns-then-unchanged c =
-    let i = c.loop-near.invariant in
-    closed-answer _ _ _ _ _ i.all i.holds c.near_next-wider.ensures i.small c.chain_to.ensures
-    (c.unchanged.ensures c.if-unchanged.true)
 
 pub open_items-requires : goal.open_items-requires
 open_items-requires c = let i = c.loop-near.invariant in (i.own, i.all, i.small, i.slots)
@@ -131,3 +127,10 @@ loop-near-preserved c =
           next-round _ _ _ _ _ i.all i.holds c.near_next-wider.ensures i.there c.open_items.ensures.1
           (c.roles_of-known.ensures.0 i.small);
     }
+
+pub returns-then-eq : goal.returns-then-eq
+returns-then-eq c =
+    let i = c.loop-near.invariant in
+    let same : c.loop-near.near ≡ c.near_next-wider.result = (slice_eq-Decides Decides-eqb _ _ _ c.eq.ensures).0 c.if-eq.true in
+    closed-answer _ _ _ _ _ i.all i.holds c.near_next-wider.ensures i.small c.chain_to.ensures
+    (λ p h. ap (λ (near : List ℕ). get_or near p 0) same)

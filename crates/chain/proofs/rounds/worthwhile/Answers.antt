@@ -1,9 +1,9 @@
 -- The last round is not asked about.
-use mathlib.Core.Path.{refl}
+use borrow.Author.Tests.{eq-eqb}
 use Rattle.chain.proofs.rounds.worthwhile.Goals as goal
 
 pub returns-then-round-eq-LAST : goal.returns-then-round-eq-LAST
-returns-then-round-eq-LAST c = λ e. refl
+returns-then-round-eq-LAST c = λ e. eq-eqb _ _ e
 
-pub returns : goal.returns
-returns c = λ e. absurd (c.if-round-eq-LAST.false e)
+pub returns-else-round-eq-LAST : goal.returns-else-round-eq-LAST
+returns-else-round-eq-LAST c = λ e. absurd (c.if-round-eq-LAST.false e)

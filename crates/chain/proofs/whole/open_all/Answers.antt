@@ -8,10 +8,10 @@ use Rattle.chain.proofs.whole.open_all.Goals as goal
 pub loop-place-init : goal.loop-place-init
 loop-place-init c =
     let p = c.requires in
-    (p.0, p.1, p.2, omega arith, p.3, record { before = λ k h. absurd (omega arith); behind = λ k h. refl })
+    (p.0, p.1, p.2, p.3, record { before = λ k h. absurd (omega arith); behind = λ k h. refl })
 
-pub open_place-row-requires : goal.open_place-row-requires
-open_place-row-requires c = let i = c.loop-place.invariant in (i.0, omega (arith, i.1, c.loop-place-test.true))
+pub open_place-requires : goal.open_place-requires
+open_place-requires c = let i = c.loop-place.invariant in (i.0, omega (arith, i.1, c.loop-place-test.true))
 
 pub offset_bounds-rows-place : goal.offset_bounds-rows-place
 offset_bounds-rows-place c = omega (arith, c.loop-place.invariant.2, c.loop-place-test.true)
@@ -19,13 +19,7 @@ offset_bounds-rows-place c = omega (arith, c.loop-place.invariant.2, c.loop-plac
 pub bounds-rows-place : goal.bounds-rows-place
 bounds-rows-place c =
     let i = c.loop-place.invariant in
-    omega (arith, i.2, i.4, c.loop-place-test.true)
-
-pub overflow_add-place : goal.overflow_add-place
-overflow_add-place c = omega (arith, c.loop-place.invariant.2, c.loop-place-test.true)
-
-pub loop-place-smaller : goal.loop-place-smaller
-loop-place-smaller c = omega (arith, c.loop-place-test.true)
+    omega (arith, i.2, i.3, c.loop-place-test.true)
 
 pub loop-place-preserved : goal.loop-place-preserved
 loop-place-preserved c =
@@ -35,10 +29,9 @@ loop-place-preserved c =
       i.0,
       i.1,
       i.2,
-      omega (arith, inside),
-      rw length-set i.4,
-      row-set _ i.5 (omega (arith, i.2, i.4, inside)) c.open_place-row.ensures,
+      rw length-set i.3,
+      row-set _ i.4 (omega (arith, i.2, i.3, inside)) c.open_place.ensures,
     )
 
 pub returns : goal.returns
-returns c = let i = c.loop-place.invariant in (i.4, λ k h. i.5.before k (omega (arith, c.loop-place-test.false)))
+returns c = let i = c.loop-place.invariant in (i.3, λ k h. i.4.before k (omega (arith, c.loop-place-test.false)))

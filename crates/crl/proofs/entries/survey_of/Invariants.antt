@@ -7,8 +7,8 @@ use Rattle.crl.specs.Entries.{survey_of}
 use Rattle.crl.proofs.Surveys.{survey_with}
 use Rattle.crl.proofs.entries.survey_of.Given as goal
 
-abbrev pub invariant-loop-timely : goal.invariant-loop-timely
-invariant-loop-timely l = (l.count + length (members_of paper l.item l.at l.end) ≤ length l.item) × (survey_of paper l.item l.from l.end ≡ survey_with l.item l.count l.timely l.calm (members_of paper l.item l.at l.end))
+abbrev pub invariant-loop-utc : goal.invariant-loop-utc
+invariant-loop-utc l = (l.count + length (members_of paper l.item l.at l.end) ≤ length l.item) × (survey_of paper l.item l.from l.end ≡ survey_with l.item l.count l.timely l.calm (members_of paper l.item l.at l.end))
 
-abbrev pub decreases-loop-timely : goal.decreases-loop-timely
-decreases-loop-timely l = l.end - l.at
+abbrev pub decreases-loop-utc : goal.decreases-loop-utc
+decreases-loop-utc l = l.end - l.at

@@ -4,16 +4,16 @@ use native.Mathlib.Omega.{arith}
 use Rattle.crl.proofs.FastEntries.{none-lost, farther}
 use Rattle.crl.proofs.listing.first_like.Goals as goal
 
-pub loop-from-init : goal.loop-from-init
-loop-from-init c = record { none = refl; nearer = omega arith }
+pub loop-next-init : goal.loop-next-init
+loop-next-init c = record { none = refl; nearer = omega arith }
 
-pub returns-then-next-eq0 : goal.returns-then-next-eq0
-returns-then-next-eq0 c = c.loop-from.invariant
+pub returns-in_default : goal.returns-in_default
+returns-in_default c = c.loop-next.invariant
 
-pub loop-from-smaller : goal.loop-from-smaller
-loop-from-smaller c = farther (c.passed_by-next.ensures (omega arith))
+pub loop-next-smaller : goal.loop-next-smaller
+loop-next-smaller c = farther (c.in-Some.ensures)
 
-pub loop-from-preserved : goal.loop-from-preserved
-loop-from-preserved c =
-    let past = c.passed_by-next.ensures (omega arith) in
-    record { none = c.loop-from.invariant.none ∙ none-lost past; nearer = omega (arith, c.loop-from.invariant.nearer, farther past) }
+pub loop-next-preserved : goal.loop-next-preserved
+loop-next-preserved c =
+    let past = c.in-Some.ensures in
+    record { none = c.loop-next.invariant.none ∙ none-lost past; nearer = omega (arith, c.loop-next.invariant.nearer, farther past) }

@@ -16,13 +16,13 @@ returns-in_default c = sym (c.loop-e.invariant ∙ c.first_like-at.ensures.none 
 pub returns-then-has_serial : goal.returns-then-has_serial
 unfolding some_lists
 returns-then-has_serial c =
-    sym (c.loop-e.invariant ∙ c.first_like-at.ensures.none ∙ rw (members-more _ _ _ (sym c.element_at.ensures ∙ c.in-One.is), ← c.has_serial.ensures, c.if-has_serial.true))
+    sym (c.loop-e.invariant ∙ c.first_like-at.ensures.none ∙ rw (members-more _ _ _ (sym c.element_at.ensures ∙ c.in-Some.is), ← c.has_serial.ensures, c.if-has_serial.true))
 
 pub loop-e-smaller : goal.loop-e-smaller
 loop-e-smaller c =
-    omega (arith, c.first_like-at.ensures.nearer, found_within _ _ _ (sym c.element_at.ensures ∙ c.in-One.is))
+    omega (arith, c.first_like-at.ensures.nearer, found_within _ _ _ (sym c.element_at.ensures ∙ c.in-Some.is))
 
 pub loop-e-preserved : goal.loop-e-preserved
 unfolding some_lists
 loop-e-preserved c =
-    c.loop-e.invariant ∙ c.first_like-at.ensures.none ∙ rw (members-more _ _ _ (sym c.element_at.ensures ∙ c.in-One.is), ← c.has_serial.ensures, c.if-has_serial.false)
+    c.loop-e.invariant ∙ c.first_like-at.ensures.none ∙ rw (members-more _ _ _ (sym c.element_at.ensures ∙ c.in-Some.is), ← c.has_serial.ensures, c.if-has_serial.false)

@@ -4,9 +4,6 @@ use native.Mathlib.Omega.{arith}
 use Rattle.crl.proofs.FastEntries.{passed_length, passed-last}
 use Rattle.crl.proofs.listing.passed_by.Goals as goal
 
-pub returns-then-not-opens : goal.returns-then-not-opens
-returns-then-not-opens c = λ some. absurd (omega arith)
-
 pub overflow_add-whole : goal.overflow_add-whole
 overflow_add-whole c = let o = c.opens.ensures c.if-not-opens.false in omega (arith, o.room, o.inside)
 
@@ -31,9 +28,6 @@ pub overflow_add-size-2 : goal.overflow_add-size-2
 overflow_add-size-2 c =
     omega (arith, c.type_inv.item (c.args.at + 3))
 
-pub returns-then-whole-size : goal.returns-then-whole-size
-returns-then-whole-size c = λ some. absurd (omega arith)
-
 pub overflow_add-next : goal.overflow_add-next
 overflow_add-next c = let o = c.opens.ensures c.if-not-opens.false in omega (arith, o.room, o.fits, o.inside, c.if-whole-size.false)
 
@@ -48,10 +42,7 @@ overflow_add-after-2 c = let o = c.opens.ensures c.if-not-opens.false in omega (
 
 pub returns-then-size-serial : goal.returns-then-size-serial
 returns-then-size-serial c =
-    λ some. passed_length (c.opens.ensures c.if-not-opens.false) c.if-whole-size.false c.if-size-serial.true
-
-pub returns-then-size-eq0 : goal.returns-then-size-eq0
-returns-then-size-eq0 c = λ some. absurd (omega arith)
+    passed_length (c.opens.ensures c.if-not-opens.false) c.if-whole-size.false c.if-size-serial.true
 
 pub bounds-item-after : goal.bounds-item-after
 bounds-item-after c =
@@ -59,7 +50,4 @@ bounds-item-after c =
 
 pub returns-then-item-after : goal.returns-then-item-after
 returns-then-item-after c =
-    λ some. passed-last (c.opens.ensures c.if-not-opens.false) c.if-whole-size.false c.if-size-eq0.false c.if-item-after.true
-
-pub returns : goal.returns
-returns c = λ some. absurd (omega arith)
+    passed-last (c.opens.ensures c.if-not-opens.false) c.if-whole-size.false c.if-size-eq0.false c.if-item-after.true

@@ -1,4 +1,5 @@
 -- The usual two are told at once; of others the pass tells the first three, and its slots the other two.
+use mathlib.Core.Path.{◌∙◌}
 use native.Mathlib.Omega.{arith}
 use Rattle.der.specs.Forms.{paper}
 use Rattle.extensions.specs.Extensions.{oid_of, lookup_of, held_of}
@@ -20,6 +21,6 @@ returns c =
       seen.shaped,
       seen.marked,
       seen.doubled,
-      there-told (lookup_of paper s e (oid_of 21)) (seen.placed.each 21 (omega arith)),
-      there-told (lookup_of paper s e (oid_of 6)) (seen.placed.each 6 (omega arith)),
+      c.is_some.ensures ∙ there-told (lookup_of paper s e (oid_of 21)) (seen.placed.each 21 (omega arith)),
+      c.is_some-2.ensures ∙ there-told (lookup_of paper s e (oid_of 6)) (seen.placed.each 6 (omega arith)),
     )

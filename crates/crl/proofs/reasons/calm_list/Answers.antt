@@ -1,7 +1,7 @@
 -- A reason code and a list of none are known by their octets; any other list is passed over.
 use mathlib.Core.Path.{refl, sym, ◌∙◌}
 use native.Mathlib.Omega.{arith}
-use borrow.Author.Tests.{eqb-true}
+use borrow.Author.Tests.{eqb-true, not-true}
 use Rattle.der.specs.Heading.{identifier_good}
 use Rattle.crl.proofs.Digits.{never}
 use Rattle.crl.proofs.FastEntries.{header-told, short}
@@ -19,15 +19,12 @@ returns-then-end-from-2 c =
     (eqb-true _ _ some) in
     empty-mild _ _ _ c.requires.1 c.if-end-from-2.true told.0 told.1
 
-pub returns-then-short_end-end : goal.returns-then-short_end-end
-returns-then-short_end-end c = λ no. never no
+pub returns-then-not-fills : goal.returns-then-not-fills
+returns-then-not-fills c = λ no. never no
 
-pub returns-then-seen : goal.returns-then-seen
-returns-then-seen c = λ no. never no
-
-pub returns : goal.returns
+pub returns-then-not-seen : goal.returns-then-not-seen
 unfolding identifier_good
-returns c =
+returns-then-not-seen c =
     λ some.
-    let whole = short 0x30 refl (sym c.if-short_end-end.false ∙ c.short_end.ensures) c.requires.0 in
-    record { low = whole.low; found = whole.found; fit = sym c.outline_of-seen.ensures.0 ∙ some; calm = sym c.outline_of-seen.ensures.1 ∙ c.if-seen.false }
+    let whole = short 0x30 refl (c.fills.ensures.whole c.if-not-fills.false) in
+    record { low = whole.low; found = whole.found; fit = sym c.outline_of-seen.ensures.0 ∙ some; calm = sym c.outline_of-seen.ensures.1 ∙ not-true _ c.if-not-seen.true }

@@ -1,13 +1,14 @@
 -- The extensions of the CRL are told by the pass over them, those of the entries were with rule 1.
-use mathlib.Core.Path.{sym, ◌∙◌}
+use Rattle.std.proofs.Common.{arith}
+use Rattle.std.proofs.lemmas.Grind.{common_steps}
 use Rattle.crl.specs.Rules.{rule8}
 use Rattle.crl.proofs.OwnExtensions.{own-marked}
 use Rattle.crl.proofs.rules.nothing_critical.Goals as goal
 
-pub returns-then-own : goal.returns-then-own
+pub returns-then-not-own : goal.returns-then-not-own
 unfolding rule8
-returns-then-own c = λ s h. rw (sym (own-marked s _ h) ∙ c.if-own.true)
+returns-then-not-own c = λ s h. let marked = own-marked s _ h in grind (arith, common_steps)
 
-pub returns : goal.returns
+pub returns-else-not-own : goal.returns-else-not-own
 unfolding rule8
-returns c = λ s h. rw (sym (own-marked s _ h) ∙ c.if-own.false)
+returns-else-not-own c = λ s h. let marked = own-marked s _ h in grind (arith, common_steps)

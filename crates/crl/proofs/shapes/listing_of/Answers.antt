@@ -2,10 +2,10 @@
 use Rattle.crl.specs.Shape.{listing_of}
 use Rattle.crl.proofs.shapes.listing_of.Goals as goal
 
-pub returns-in-Missing : goal.returns-in-Missing
+pub returns-in-None : goal.returns-in-None
 unfolding listing_of
-returns-in-Missing c = rw c.in-Missing.is
+returns-in-None c = rw c.in-None.is
 
-pub returns-in-One : goal.returns-in-One
+pub returns-in-Some : goal.returns-in-Some
 unfolding listing_of
-returns-in-One c = rw c.in-One.is
+returns-in-Some c = rw c.in-Some.is

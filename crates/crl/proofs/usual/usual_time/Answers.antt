@@ -33,9 +33,6 @@ room c =
       | else-whole-size w ↦ omega (arith, o.fits, o.inside, w.if-whole-size.false)
     ]
 
-pub returns-then-not-opens : goal.returns-then-not-opens
-returns-then-not-opens c = λ some. absurd (omega arith)
-
 pub overflow_add-size : goal.overflow_add-size
 overflow_add-size c = let o = opened (goal.at.overflow_add-size c).Else-not-opens in omega (arith, o.room, o.inside)
 
@@ -82,9 +79,6 @@ calm_list-requires c =
     let o = opened (goal.at.calm_list-requires c).Else-not-opens in
     (omega arith, omega (arith, o.fits, o.inside), omega (arith, few (goal.at.calm_list-requires c).Else-not-opens, brief (goal.at.calm_list-requires c).Else-not-opens))
 
-pub returns-then-not-calm_list : goal.returns-then-not-calm_list
-returns-then-not-calm_list c = λ some. absurd (omega arith)
-
 pub bounds-item-time : goal.bounds-item-time
 bounds-item-time c = omega (arith, room (goal.at.bounds-item-time c).Joined-whole-size)
 
@@ -94,11 +88,8 @@ overflow_add-time-3 c = omega (arith, room (goal.at.overflow_add-time-3 c).Joine
 pub bounds-item-time-2 : goal.bounds-item-time-2
 bounds-item-time-2 c = omega (arith, room (goal.at.bounds-item-time-2 c).Joined-whole-size)
 
-pub returns-then-four : goal.returns-then-four
-returns-then-four c = λ some. absurd (omega arith)
-
 pub returns : goal.returns
-returns c = λ some.
+returns c =
     let o = opened (goal.at.returns c).Else-not-opens in
     let told = header-told (octet (goal.at.returns c).Else-not-opens _) (omega arith) c.four.ensures c.four-2.ensures c.if-four.false in
     elim c.if-whole-size.branch [

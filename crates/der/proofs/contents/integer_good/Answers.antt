@@ -9,7 +9,6 @@ use lib.Dec.{eqb, leb, ltb}
 use lib.ListN.{length, get_or}
 use Rattle.der.specs.Contents.{integer_good}
 use Rattle.der.proofs.contents.integer_good.Goals as goal
-use Rattle.der.proofs.contents.integer_good.Goals.{then-first-gt0+else-first-lt255, else-first-gt0}
 
 short : (c : List ℕ) → length c < 2 → eqb (length c) 1 ≡ integer_good c
 unfolding integer_good
@@ -18,14 +17,14 @@ short (x ∷ []) h = refl
 short (x ∷ (y ∷ rest)) h = absurd (omega arith)
 
 module _ (c : List ℕ) (two : 2 ≤ length c) where
-  middle : 0 < get_or c 0 0 → get_or c 0 0 < 255 → true ≡ integer_good c
+  middle : (get_or c 0 0 ≡ 0 → ⊥) → (get_or c 0 0 ≡ 255 → ⊥) → true ≡ integer_good c
   unfolding integer_good
   middle h g =
       simp (
         ne_eqb (length c) 0 (λ e. omega arith),
         ne_eqb (length c) 1 (λ e. omega arith),
-        ne_eqb (get_or c 0 0) 0 (λ e. omega arith),
-        ne_eqb (get_or c 0 0) 255 (λ e. omega arith),
+        ne_eqb (get_or c 0 0) 0 h,
+        ne_eqb (get_or c 0 0) 255 g,
       )
 
   zeros : get_or c 0 0 ≡ 0 → leb 128 (get_or c 1 0) ≡ integer_good c
@@ -45,21 +44,11 @@ module _ (c : List ℕ) (two : 2 ≤ length c) where
 pub returns-then-c-lt2 : goal.returns-then-c-lt2
 returns-then-c-lt2 c = short c.args.c.now c.if-c-lt2.true
 
-pub returns-then-first-lt255 : goal.returns-then-first-lt255
-returns-then-first-lt255 c = middle c.args.c.now c.if-c-lt2.false c.if-first-gt0.true c.if-first-lt255.true
+pub returns-in-0 : goal.returns-in-0
+returns-in-0 c = zeros c.args.c.now c.if-c-lt2.false c.in-0.is
 
-pub returns-then-first-lt128 : goal.returns-then-first-lt128
-returns-then-first-lt128 c =
-    zeros c.args.c.now c.if-c-lt2.false
-    (elim c.if-first-gt0.branch [
-      | then-first-gt0+else-first-lt255 w ↦ absurd (omega (arith, w.if-first-lt255.false, c.if-first-lt128.true))
-      | else-first-gt0 w ↦ omega (arith, w.if-first-gt0.false)
-    ])
+pub returns-in-255 : goal.returns-in-255
+returns-in-255 c = ones c.args.c.now c.if-c-lt2.false c.in-255.is
 
-pub returns : goal.returns
-returns c =
-    ones c.args.c.now c.if-c-lt2.false
-    (elim c.if-first-gt0.branch [
-      | then-first-gt0+else-first-lt255 w ↦ omega (arith, w.if-first-lt255.false, c.type_inv.c 0)
-      | else-first-gt0 w ↦ absurd (omega (arith, w.if-first-gt0.false, c.if-first-lt128.false))
-    ])
+pub returns-in_default : goal.returns-in_default
+returns-in_default c = middle c.args.c.now c.if-c-lt2.false (λ e. omega arith) (λ e. omega arith)

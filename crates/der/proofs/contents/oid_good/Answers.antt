@@ -11,7 +11,7 @@ use lib.ListN.{length, get_or, drop, drop_of_length-le}
 use lib.Seq.{drop-cons}
 use Rattle.der.specs.Contents.{sub_identifiers, oid_good}
 use Rattle.der.proofs.contents.oid_good.Goals as goal
-use Rattle.der.proofs.contents.oid_good.Goals.{then-c-i+else-c-i-lt128, else-c-i}
+use Rattle.der.proofs.contents.oid_good.Goals.{else-c-i-via-then-c-i+else-c-i-lt128, else-c-i-via-else-c-i}
 
 module _ (c : List ℕ) (i : ℕ) (starts : Bool) (h : i < length c) where
   -- one octet more
@@ -35,9 +35,6 @@ returns-then-c-eq0 c = simp (eq-eqb _ _ c.if-c-eq0.true)
 pub returns-then-three_low : goal.returns-then-three_low
 returns-then-three_low c = sym (c.three_low.ensures c.if-three_low.true)
 
-pub bounds-c-0 : goal.bounds-c-0
-bounds-c-0 c = omega arith
-
 pub returns-then-c : goal.returns-then-c
 unfolding oid_good
 returns-then-c c =
@@ -46,15 +43,6 @@ returns-then-c c =
 pub loop-i-init : goal.loop-i-init
 loop-i-init c =
     (omega arith, omega arith, further c.args.c.now 0 true (omega arith) (ne_eqb _ _ c.if-c.false))
-
-pub bounds-c-i : goal.bounds-c-i
-bounds-c-i c = omega arith
-
-pub overflow_sub-i : goal.overflow_sub-i
-overflow_sub-i c = omega arith
-
-pub bounds-c-i-then-c-i : goal.bounds-c-i-then-c-i
-bounds-c-i-then-c-i c = omega arith
 
 pub returns-then-c-i-lt128 : goal.returns-then-c-i-lt128
 unfolding oid_good
@@ -65,29 +53,17 @@ returns-then-c-i-lt128 c =
     simp (lt-ltb _ _ c.if-c-i-lt128.true, eq-eqb _ _ c.if-c-i.true) in
     simp (ne_eqb _ _ c.if-c-eq0.false) (sym (stopped l i (ltb (get_or l (i - 1) 0) 128) c.loop-i-test.true both) ∙ c.loop-i.invariant.2)
 
-pub overflow_add-i : goal.overflow_add-i
-overflow_add-i c = omega arith
-
-pub loop-i-smaller : goal.loop-i-smaller
-loop-i-smaller c = omega arith
-
 pub loop-i-preserved : goal.loop-i-preserved
 loop-i-preserved c =
     let l = c.args.c.now in
     let i = c.loop-i.i in
     let plain : (ltb (get_or l (i - 1) 0) 128 && eqb (get_or l i 0) 128) ≡ false =
-    elim c.if-c-i.branch [
-      | then-c-i+else-c-i-lt128 w ↦ simp (le-ltb _ _ w.if-c-i-lt128.false)
-      | else-c-i w ↦ either (ltb (get_or l (i - 1) 0) 128) (eqb (get_or l i 0) 128) (ne_eqb _ _ w.if-c-i.false)
+    elim c.else-c-i.branch [
+      | else-c-i-via-then-c-i+else-c-i-lt128 w ↦ simp (le-ltb _ _ w.if-c-i-lt128.false)
+      | else-c-i-via-else-c-i w ↦ either (ltb (get_or l (i - 1) 0) 128) (eqb (get_or l i 0) 128) (ne_eqb _ _ w.if-c-i.false)
     ] in
     let back : i + 1 - 1 ≡ i = omega arith in
     (omega arith, omega arith, rw back (further l i (ltb (get_or l (i - 1) 0) 128) c.loop-i-test.true plain ∙ c.loop-i.invariant.2))
-
-pub overflow_sub-result : goal.overflow_sub-result
-overflow_sub-result c = omega arith
-
-pub bounds-c-c : goal.bounds-c-c
-bounds-c-c c = omega arith
 
 pub returns : goal.returns
 unfolding oid_good sub_identifiers

@@ -8,6 +8,3 @@ use Rattle.der.proofs.contents.oid_good.Given as goal
 
 abbrev pub invariant-loop-i : goal.invariant-loop-i
 invariant-loop-i l = (1 ≤ l.i) × (l.i ≤ length l.c) × (sub_identifiers (ltb (get_or l.c (l.i - 1) 0) 128) (drop l.i l.c) ≡ sub_identifiers true l.c)
-
-abbrev pub decreases-loop-i : goal.decreases-loop-i
-decreases-loop-i l = length l.c - l.i

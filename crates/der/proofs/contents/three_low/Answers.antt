@@ -1,6 +1,6 @@
 -- Octets below 80 are sub-identifiers of one octet each.
 use Prim.Native.Nat.{ℕ, ◌<◌}
-use mathlib.Core.Bool.{true, false}
+use mathlib.Core.Bool.{true}
 use mathlib.Core.List.{List, [], ◌∷◌}
 use mathlib.Core.Path.{◌≡◌}
 use native.Mathlib.Omega.{arith}
@@ -25,18 +25,5 @@ low (x ∷ []) h f g k = absurd (omega arith)
 low (x ∷ (y ∷ [])) h f g k = absurd (omega arith)
 low (x ∷ (y ∷ (z ∷ (w ∷ rest)))) h f g k = absurd (omega arith)
 
-no : false ≡ true → {A : Type 0} → A
-no e = let w : ◌≡◌ {A = ℕ} 0 1 = cc in absurd (omega arith)
-
-pub returns-then-c-ne3 : goal.returns-then-c-ne3
-returns-then-c-ne3 c = λ e. no e
-
-pub returns-then-c-ge128 : goal.returns-then-c-ge128
-returns-then-c-ge128 c = λ e. no e
-
-pub returns-then-c-ge128-2 : goal.returns-then-c-ge128-2
-returns-then-c-ge128-2 c = λ e. no e
-
 pub returns : goal.returns
-returns c =
-    λ e. low _ c.if-c-ne3.false c.if-c-ge128.false c.if-c-ge128-2.false (ltb-true _ _ e)
+returns c = λ e. low _ c.if-c-ne3.false c.if-c-ge128.false c.if-c-ge128-2.false (ltb-true _ _ e)

@@ -1,4 +1,5 @@
 -- The leaves are read, so the element around them is; and where a SEQUENCE fills a SET, so is the SET.
+use Rattle.std.proofs.lemmas.Option.{IfSome_then}
 use Prim.Native.Nat.{ℕ, ◌+◌, ◌-◌, ◌≤◌, ◌<◌}
 use mathlib.Core.Bool.{Bool, true, false}
 use mathlib.Core.List.{List}
@@ -6,21 +7,10 @@ use mathlib.Core.Path.{◌≡◌, refl, subst}
 use native.Mathlib.Omega.{arith}
 use lib.ListN.{length, get_or}
 use Rattle.der.specs.Forms.{Forms}
-use Rattle.der.specs.Heading.{identifier_good, constructed}
-use Rattle.der.specs.Order.{is_set}
+use Rattle.der.specs.Heading.{constructed}
 use Rattle.der.specs.Fast.{stretch, Reads, Fills, Headed, one, two}
 use Rattle.der.proofs.Flat.{Listed, set-of, list-reads, last-fills}
 use Rattle.der.proofs.fast.flat.Goals as goal
-use Rattle.der.proofs.fast.flat.Goals.{Joined-s-i-ne48, then-s-i-ne48+else-start-eq0, else-s-i-ne48}
-
--- the leaves of a SEQUENCE start behind its header
-sequence-headed : (s : List ℕ) (i e left count : ℕ) → get_or s i 0 ≡ 48 → Headed s i e left count (i + 2) (left - 1) (count + 1)
-unfolding identifier_good is_set
-sequence-headed s i e left count tag = one (rw tag refl) (rw tag refl)
-
-carried : {s : List ℕ} {i e left count from deep read a b c : ℕ} → from ≡ a → deep ≡ b → read ≡ c → Headed s i e left count a b c
-    → Headed s i e left count from deep read
-carried x y z h = rw (x, y, z) h
 
 bounds : {s : List ℕ} {i e left count from deep read : ℕ} → Headed s i e left count from deep read → i + 2 ≤ e → e ≤ i + 129 → 2 ≤ left
     → (from ≤ e) × (e ≤ from + 127) × (1 ≤ deep) × (read ≤ count + 2)
@@ -53,40 +43,14 @@ module _ (s : List ℕ) (i end left count r : ℕ) (some : i + 2 ≤ end) (insid
         last (omega (arith, last.ends))
         (rw (← deeper, ← from, ← next) (f (omega arith))) true)
 
-headed : (c : Joined-s-i-ne48)
-    → Headed c.args.s.now c.args.i (c.args.i + 2 + get_or c.args.s.now (c.args.i + 1) 0) c.args.left
-    c.args.count c.if-s-i-ne48.from c.if-s-i-ne48.deep c.if-s-i-ne48.read
-headed c =
-    elim c.if-s-i-ne48.branch [
-      | then-s-i-ne48+else-start-eq0 w ↦ carried w.from-is w.deep-is w.read-is (w.behind-start.ensures (omega (arith, w.if-start-eq0.false)))
-      | else-s-i-ne48 w ↦ carried w.from-is w.deep-is w.read-is (sequence-headed _ _ _ _ _ w.if-s-i-ne48.false)
-    ]
-
-pub overflow_cast-size : goal.overflow_cast-size
-overflow_cast-size c = omega (arith, c.type_inv.s (c.args.i + 1))
-
-pub returns-then-size-ge128 : goal.returns-then-size-ge128
-returns-then-size-ge128 c = λ some. absurd (omega arith)
-
-pub overflow_add-after-2 : goal.overflow_add-after-2
-overflow_add-after-2 c = omega (arith, c.if-size-ge128.false)
-
-pub returns-then-end-after : goal.returns-then-end-after
-returns-then-end-after c = λ some. absurd (omega arith)
-
-pub behind-start-requires : goal.behind-start-requires
-behind-start-requires c = omega (arith, c.if-size-ge128.false)
-
-pub returns-then-start-eq0 : goal.returns-then-start-eq0
-returns-then-start-eq0 c = λ some. absurd (omega arith)
-
 pub leaves-requires : goal.leaves-requires
 leaves-requires c =
-    let b = bounds (headed (goal.at.leaves-requires c).Joined-s-i-ne48) (omega arith) (omega (arith, c.if-size-ge128.false)) c.requires.3 in
+    let to = c.in_ok-behind.field-0 in
+    let b = bounds c.in_ok-behind.ensures (omega arith) (omega (arith, c.if-size-ge128.false)) c.requires.3 in
     omega arith
 
 pub returns : goal.returns
-returns c = λ some forms room levels.
-    reads c.args.s.now c.args.i c.args.end c.args.left c.args.count c.leaves.result
-    c.requires.0 c.requires.1 c.requires.3 c.requires.5 c.if-size-ge128.false c.if-end-after.false forms room levels
-    (headed (goal.at.returns c).Joined-s-i-ne48) (c.leaves.ensures some).0 ((c.leaves.ensures some).1 forms room)
+returns c =
+    IfSome_then c.leaves.result c.leaves.ensures λ read told forms room levels.
+    reads c.args.s.now c.args.place.at c.args.end c.args.place.left c.args.place.count read c.requires.0 c.requires.1 c.requires.3 c.requires.5
+    c.if-size-ge128.false c.if-end-after.false forms room levels c.in_ok-behind.ensures told.0 (told.1 forms room)

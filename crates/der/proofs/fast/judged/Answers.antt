@@ -1,29 +1,20 @@
--- Each test picks one identifier, and the function for it judges as the definition does.
-use Prim.Native.Nat.{ℕ}
-use mathlib.Core.Bool.{true, false}
-use mathlib.Core.Path.{◌≡◌, sym, ◌∙◌}
-use native.Mathlib.Omega.{arith}
+-- Each arm picks one identifier, and the function for it judges as the definition does.
+use mathlib.Core.Path.{sym, ◌∙◌}
 use borrow.Author.Tests.{eqb-true}
 use Rattle.der.proofs.Flat.{leaf-boolean, leaf-integer, leaf-bit-string, leaf-null, leaf-oid}
 use Rattle.der.proofs.fast.judged.Goals as goal
 
-no : false ≡ true → {A : Type 0} → A
-no e = let w : ◌≡◌ {A = ℕ} 0 1 = cc in absurd (omega arith)
+pub returns-in-6 : goal.returns-in-6
+returns-in-6 c = λ e. leaf-oid c.in-6.is (sym c.oid_good.ensures ∙ e)
 
-pub returns-then-tag-eq2 : goal.returns-then-tag-eq2
-returns-then-tag-eq2 c = λ e. leaf-integer c.if-tag-eq2.true (sym c.integer_good.ensures ∙ e)
+pub returns-in-2 : goal.returns-in-2
+returns-in-2 c = λ e. leaf-integer c.in-2.is (sym c.integer_good.ensures ∙ e)
 
-pub returns-then-tag-eq6 : goal.returns-then-tag-eq6
-returns-then-tag-eq6 c = λ e. leaf-oid c.if-tag-eq6.true (sym c.oid_good.ensures ∙ e)
+pub returns-in-5 : goal.returns-in-5
+returns-in-5 c = λ e. leaf-null c.in-5.is (eqb-true _ _ e)
 
-pub returns-then-tag-eq5 : goal.returns-then-tag-eq5
-returns-then-tag-eq5 c = λ e. leaf-null c.if-tag-eq5.true (eqb-true _ _ e)
+pub returns-in-1 : goal.returns-in-1
+returns-in-1 c = λ e. leaf-boolean c.in-1.is (sym c.boolean_good.ensures ∙ e)
 
-pub returns-then-tag-eq1 : goal.returns-then-tag-eq1
-returns-then-tag-eq1 c = λ e. leaf-boolean c.if-tag-eq1.true (sym c.boolean_good.ensures ∙ e)
-
-pub returns-then-tag-eq3 : goal.returns-then-tag-eq3
-returns-then-tag-eq3 c = λ e. leaf-bit-string c.if-tag-eq3.true (sym c.bit_string_good.ensures ∙ e)
-
-pub returns : goal.returns
-returns c = λ e. no e
+pub returns-in-3 : goal.returns-in-3
+returns-in-3 c = λ e. leaf-bit-string c.in-3.is (sym c.bit_string_good.ensures ∙ e)

@@ -13,7 +13,9 @@ Left s from end left count i read deep =
 
 abbrev pub invariant-loop-i : goal.invariant-loop-i
 invariant-loop-i l =
-    (l.i ≤ l.end + 257) × (l.from ≤ l.i) × (1 ≤ l.deep) × (l.deep ≤ l.left) × (l.i ≤ l.end → (l.count ≤ l.read) × (2 * l.read + l.from ≤ 2 * l.count + l.i) × Left l.s l.from l.end l.left l.count l.i l.read l.deep)
+    (l.i ≤ l.end + 257) × (l.initial.i ≤ l.i) × (1 ≤ l.deep) × (l.deep ≤ l.initial.deep)
+    × (l.i ≤ l.end → (l.initial.read ≤ l.read) × (2 * l.read + l.initial.i ≤ 2 * l.initial.read + l.i)
+    × Left l.s l.initial.i l.end l.initial.deep l.initial.read l.i l.read l.deep)
 
 abbrev pub decreases-loop-i : goal.decreases-loop-i
 decreases-loop-i l = l.end - l.i

@@ -1,6 +1,6 @@
 -- Each test that passes leaves one way through the definition of an element: the leaf.
 use Prim.Native.Nat.{ℕ, ◌+◌, ◌-◌, ◌%◌, ◌≤◌, ◌<◌}
-use mathlib.Core.Bool.{Bool, true, false, not}
+use mathlib.Core.Bool.{true, false, not}
 use mathlib.Core.List.{List}
 use mathlib.Core.Path.{◌≡◌, refl, subst}
 use native.Mathlib.Omega.{arith}
@@ -10,16 +10,9 @@ use lib.ListN.{length, get_or}
 use Rattle.der.specs.Forms.{Forms}
 use Rattle.der.specs.Heading.{identifier_good, constructed}
 use Rattle.der.specs.Fast.{stretch, Reads, Leaf}
-use Rattle.der.proofs.Laws.{unjudged}
+use Rattle.der.proofs.Laws.{unjudged, turned}
 use Rattle.der.proofs.Flat.{leaf-unjudged, leaf-reads}
 use Rattle.der.proofs.fast.primitive.Goals as goal
-
-no : false ≡ true → {A : Type 0} → A
-no e = let w : ◌≡◌ {A = ℕ} 0 1 = cc in absurd (omega arith)
-
-turned : (b : Bool) → not b ≡ true → b ≡ false
-turned true e = no e
-turned false e = refl
 
 -- an identifier above the universal class
 leaf-high : (tag : ℕ) (c : List ℕ) → 63 < tag → not (eqb (tag % 32) 31) ≡ true → constructed tag ≡ false → Leaf tag c
@@ -35,15 +28,6 @@ good-reads s i e two inside short fits leaf forms depth count deep few =
     let used : i + 2 + get_or s (i + 1) 0 - i ≡ 2 + get_or s (i + 1) 0 = omega arith in
     subst (λ n. Reads forms (stretch s i e) depth count n (count + 1)) used (leaf-reads forms s i e two inside refl fits short leaf.known depth count deep few leaf.primitive leaf.good)
 
-pub overflow_cast-size : goal.overflow_cast-size
-overflow_cast-size c = omega (arith, c.type_inv.s (c.args.at + 1))
-
-pub returns-then-size-ge128 : goal.returns-then-size-ge128
-returns-then-size-ge128 c = λ e. no e
-
-pub returns-then-end-after : goal.returns-then-end-after
-returns-then-end-after c = λ e. no e
-
 pub returns-then-tag-gt63 : goal.returns-then-tag-gt63
 returns-then-tag-gt63 c = λ e.
     good-reads c.args.s.now c.args.at c.args.end c.requires.0 c.requires.1 c.if-size-ge128.false c.if-end-after.false
@@ -52,10 +36,9 @@ returns-then-tag-gt63 c = λ e.
 pub returns-then-unjudged : goal.returns-then-unjudged
 returns-then-unjudged c = λ e.
     good-reads c.args.s.now c.args.at c.args.end c.requires.0 c.requires.1 c.if-size-ge128.false c.if-end-after.false
-    (leaf-unjudged (c.unjudged.ensures c.if-unjudged.true))
+    (leaf-unjudged (c.unjudged.ensures e))
 
-pub returns : goal.returns
-returns c =
-    λ e.
+pub returns-else-unjudged : goal.returns-else-unjudged
+returns-else-unjudged c = λ e.
     good-reads c.args.s.now c.args.at c.args.end c.requires.0 c.requires.1 c.if-size-ge128.false c.if-end-after.false
     (c.judged.ensures e)

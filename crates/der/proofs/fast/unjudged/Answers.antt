@@ -10,7 +10,7 @@ use lib.Dec.{eqb}
 use Rattle.der.specs.Heading.{identifier_good, constructed}
 use Rattle.der.specs.Contents.{contents_good}
 use Rattle.der.specs.Fast.{Unjudged}
-use Rattle.der.proofs.Laws.{and_left, and_right}
+use Rattle.der.proofs.Laws.{and_left, and_right, turned}
 use Rattle.der.proofs.fast.unjudged.Goals as goal
 
 -- the identifiers whose contents are judged
@@ -55,10 +55,6 @@ all : covered 64 ≡ true
 unfolding fine quiet identifier_good constructed
 all = refl
 
-turned : (b : Bool) → not b ≡ true → b ≡ false
-turned true e = let w : ◌≡◌ {A = ℕ} 0 1 = cc in absurd (omega arith)
-turned false e = refl
-
 tells : (tag : ℕ) → fine tag ≡ true → Unjudged tag
 unfolding fine
 tells tag e =
@@ -69,8 +65,5 @@ tells tag e =
       unjudged = λ c. quiet-good tag c (and_right (not (constructed tag)) (quiet tag) rest);
     }
 
-pub returns-then-tag-gt63 : goal.returns-then-tag-gt63
-returns-then-tag-gt63 c = λ e. let w : ◌≡◌ {A = ℕ} 0 1 = cc in absurd (omega arith)
-
-pub returns : goal.returns
-returns c = λ e. tells c.args.tag (below 64 all c.args.tag (omega arith) e)
+pub returns-then-tag-lt64 : goal.returns-then-tag-lt64
+returns-then-tag-lt64 c = λ e. tells c.args.tag (below 64 all c.args.tag c.if-tag-lt64.true e)

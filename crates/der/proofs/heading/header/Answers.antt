@@ -1,6 +1,5 @@
 -- A tag of one octet is tried first, then one of two.
 use mathlib.Core.Path.{sym, ◌∙◌}
-use native.Mathlib.Omega.{arith}
 use borrow.Author.Tests.{lt-ltb, le-ltb}
 use Rattle.der.specs.Heading.{heading_of}
 use Rattle.der.proofs.heading.header.Goals as goal
@@ -8,9 +7,6 @@ use Rattle.der.proofs.heading.header.Goals as goal
 pub returns-then-s-lt2 : goal.returns-then-s-lt2
 unfolding heading_of
 returns-then-s-lt2 c = λ forms e t. simp (lt-ltb _ _ c.if-s-lt2.true)
-
-pub overflow_cast-tag : goal.overflow_cast-tag
-overflow_cast-tag c = omega (arith, c.type_inv.s 0)
 
 pub returns-then-identifier : goal.returns-then-identifier
 unfolding heading_of

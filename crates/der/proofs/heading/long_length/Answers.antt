@@ -1,41 +1,36 @@
--- One, two or three octets, as many as the forms have, and the definition knows no other count of them.
-use Prim.Native.Nat.{◌-◌, ◌≤◌}
-use mathlib.Core.Logic.{⊎_elim}
-use mathlib.Core.Path.{◌≡◌}
-use native.Mathlib.Nat.{eq-or-lt_of_le}
+-- The code makes the definition's tests in its order.
+use Prim.Native.Nat.{◌+◌, ◌-◌}
+use mathlib.Core.Path.{◌≡◌, sym, ◌∙◌}
 use native.Mathlib.Omega.{arith}
-use Rattle.der.proofs.LengthOctets.{long-none, long-many}
+use lib.ListN.{take, drop}
+use Rattle.octets.specs.Octets.{number}
+use Rattle.der.proofs.LengthOctets.{long-none, long-many, long-cut, long-small, long-sized}
 use Rattle.der.proofs.heading.long_length.Goals as goal
-use Rattle.der.proofs.heading.long_length.Goals.{Then-first-eq129, Then-first-eq130, Then-first-eq131}
+use Rattle.der.proofs.heading.long_length.Goals.{then-count-eq0-via-then-count-eq0, then-count-eq0-via-else-count-eq0+then-limits-count}
+use Rattle.der.proofs.heading.long_length.Goals.{then-count-eq0-via-else-count-eq0+else-limits-count+then-s-at, After-number-size}
 
--- how many length octets the first one tells
-one : (c : Then-first-eq129) → c.args.first - 128 ≡ 1
-one c = omega arith
+pub returns-then-count-eq0 : goal.returns-then-count-eq0
+returns-then-count-eq0 c = λ forms e.
+    elim c.then-count-eq0.branch [
+      | then-count-eq0-via-then-count-eq0 w ↦ long-none forms _ _ _ _ w.if-count-eq0.true
+      | then-count-eq0-via-else-count-eq0+then-limits-count w ↦ long-many forms _ _ _ _ (omega (arith, w.if-limits-count.true))
+      | then-count-eq0-via-else-count-eq0+else-limits-count+then-s-at w ↦
+          long-cut forms _ _ _ _ (omega (arith, w.if-count-eq0.false)) (omega (arith, w.if-limits-count.false)) w.if-s-at.true
+    ]
 
-two : (c : Then-first-eq130) → c.args.first - 128 ≡ 2
-two c = omega arith
+-- the number of the length octets
+told : (c : After-number-size) → let k = c.args.first - 128 in number (take k (drop c.args.at c.args.s.now)) ≡ c.number-size.result
+told c =
+    let span : c.args.at + (c.args.first - 128) - c.args.at ≡ c.args.first - 128 = omega arith in
+    sym (rw span at c.number-size.ensures)
 
-three : (c : Then-first-eq131) → c.args.first - 128 ≡ 3
-three c = omega arith
-
-pub returns-then-digits-lt1 : goal.returns-then-digits-lt1
-returns-then-digits-lt1 c = λ forms e. long-many forms _ _ _ _ (omega arith)
-
-pub returns-then-first-eq129 : goal.returns-then-first-eq129
-returns-then-first-eq129 c = λ forms e. rw (one (goal.at.returns-then-first-eq129 c).Then-first-eq129) (c.one_octet.ensures forms (omega arith))
-
-pub returns-then-digits-lt2 : goal.returns-then-digits-lt2
-returns-then-digits-lt2 c = λ forms e. long-many forms _ _ _ _ (omega arith)
-
-pub returns-then-first-eq130 : goal.returns-then-first-eq130
-returns-then-first-eq130 c = λ forms e. rw (two (goal.at.returns-then-first-eq130 c).Then-first-eq130) (c.two_octets.ensures forms (omega arith))
-
-pub returns-then-digits-lt3 : goal.returns-then-digits-lt3
-returns-then-digits-lt3 c = λ forms e. long-many forms _ _ _ _ (omega arith)
-
-pub returns-then-first-eq131 : goal.returns-then-first-eq131
-returns-then-first-eq131 c = λ forms e. rw (three (goal.at.returns-then-first-eq131 c).Then-first-eq131) (c.three_octets.ensures forms (omega arith))
+pub returns-then-size-least : goal.returns-then-size-least
+returns-then-size-least c = λ forms e.
+    long-small forms _ _ _ _ (omega arith) (omega arith) c.if-s-at.false (told (goal.at.returns-then-size-least c).After-number-size)
+    (omega (arith, c.least.ensures))
 
 pub returns : goal.returns
-returns c = λ forms e. let least : 128 ≤ c.args.first = c.requires.3 in
-    ⊎_elim (λ z. long-none forms _ _ _ _ (omega arith)) (λ h. long-many forms _ _ _ _ (omega arith)) (eq-or-lt_of_le least)
+returns c = λ forms e.
+    c.ending.ensures
+    ∙ sym (long-sized forms _ _ _ _ (omega arith) (omega arith) c.if-s-at.false (told (goal.at.returns c).After-number-size)
+    (omega (arith, c.least.ensures)))

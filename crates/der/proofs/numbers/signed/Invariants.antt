@@ -1,12 +1,9 @@
-use Prim.Native.Nat.{suc, ◌-◌, ◌^◌, ◌≤◌}
+use Prim.Native.Nat.{suc, ◌^◌, ◌≤◌}
 use mathlib.Core.Path.{◌≡◌}
-use lib.ListN.{length, take}
+use lib.ListN.{take}
 use Rattle.octets.specs.Octets.{number}
 use Rattle.der.proofs.numbers.signed.Given as goal
 
-abbrev pub invariant-loop-i : goal.invariant-loop-i
-invariant-loop-i l =
-    (l.i ≤ length l.c) × (l.value ≡ number (take l.i l.c)) × (suc l.most ≡ 256 ^ l.i) × (l.value ≤ l.most)
-
-abbrev pub decreases-loop-i : goal.decreases-loop-i
-decreases-loop-i l = length l.c - l.i
+abbrev pub invariant-loop-octet : goal.invariant-loop-octet
+invariant-loop-octet l =
+    (l.value ≡ number (take l.octet-index l.c)) × (suc l.most ≡ 256 ^ l.octet-index) × (l.value ≤ l.most)

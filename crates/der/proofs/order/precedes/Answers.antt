@@ -1,9 +1,11 @@
 -- Octets that are the same in both change nothing, and the first ones that are not decide.
 use Prim.Native.Nat.{ℕ, suc, ◌+◌, ◌≤◌, ◌<◌}
-use mathlib.Core.Bool.{true, false}
+use mathlib.Core.Bool.{Bool, true, false}
 use mathlib.Core.List.{List, ◌∷◌}
-use mathlib.Core.Path.{◌≡◌, sym, ◌∙◌, ap}
+use mathlib.Core.Path.{◌≡◌, refl, sym, ◌∙◌, ap}
 use native.Mathlib.Omega.{arith}
+use borrow.Author.Tests.{ltb-true, ltb-false}
+use lib.Dec.{ltb}
 use lib.ListN.{length, get_or, drop, drop_of_length-le}
 use lib.Seq.{drop-cons, drop-drop, get_or-drop}
 use Rattle.der.specs.Order.{smaller}
@@ -27,6 +29,13 @@ module _ (a b : List ℕ) (i : ℕ) (inv : smaller (drop i a) (drop i b) ≡ sma
     greater : get_or b i 0 < get_or a i 0 → false ≡ smaller a b
     greater h = sym (smaller-not (drop i a) (get_or b i 0) (drop (suc i) b) (rw first h)) ∙ here
 
+    differing : (get_or a i 0 ≡ get_or b i 0 → ⊥) → ltb (get_or a i 0) (get_or b i 0) ≡ smaller a b
+    differing ne = go (ltb (get_or a i 0) (get_or b i 0)) (ltb-true _ _) (ltb-false _ _)
+      where
+        go : (r : Bool) → (r ≡ true → get_or a i 0 < get_or b i 0) → (r ≡ false → get_or b i 0 ≤ get_or a i 0) → r ≡ smaller a b
+        go true f g = less (f refl)
+        go false f g = let le = g refl in greater (omega (arith, le, ne))
+
     next : get_or a i 0 ≡ get_or b i 0 → smaller (drop (i + 1) a) (drop (i + 1) b) ≡ smaller a b
     next h =
         let z : i + 1 ≡ suc i = omega arith in
@@ -37,19 +46,14 @@ module _ (a b : List ℕ) (i : ℕ) (inv : smaller (drop i a) (drop i b) ≡ sma
 pub loop-i-init : goal.loop-i-init
 loop-i-init c = (c.alike_to-i.ensures.1, smaller-behind _ _ _ c.alike_to-i.ensures.0 c.alike_to-i.ensures.1 c.alike_to-i.ensures.2)
 
-pub returns-then-x-y : goal.returns-then-x-y
-returns-then-x-y c =
-    less _ _ _ c.loop-i.invariant.1 c.loop-i-test.true (omega (arith, c.if-x-y.true, c.octet-x.ensures))
-
-pub returns-then-y-x : goal.returns-then-y-x
-returns-then-y-x c =
-    greater _ _ _ c.loop-i.invariant.1 c.loop-i-test.true (omega (arith, c.if-y-x.true, c.octet-x.ensures))
+pub returns-then-x-b : goal.returns-then-x-b
+returns-then-x-b c =
+    rw c.octet-x.ensures (differing _ _ _ c.loop-i.invariant.1 c.loop-i-test.true λ e. c.if-x-b.true (c.octet-x.ensures ∙ e))
 
 pub loop-i-preserved : goal.loop-i-preserved
 loop-i-preserved c = (
   omega (arith, c.loop-i-test.true),
-  next _ _ _ c.loop-i.invariant.1 c.loop-i-test.true
-      (omega (arith, c.if-y-x.false, c.if-x-y.false, c.octet-x.ensures)),
+  next _ _ _ c.loop-i.invariant.1 c.loop-i-test.true (omega (arith, c.octet-x.ensures)),
 )
 
 pub returns : goal.returns

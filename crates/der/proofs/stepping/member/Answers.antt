@@ -1,54 +1,52 @@
 -- The header is read from the part from `from` to `end`, within which its element ends, so no sum wraps.
-use Prim.Native.Nat.{◌+◌, ◌-◌, ◌≤◌}
+use Rattle.std.specs.Prelude.{None}
+use Prim.Native.Nat.{ℕ, ◌+◌, ◌≤◌, ◌<◌}
+use mathlib.Core.Bool.{Bool, true, false, cond}
+use mathlib.Core.List.{List}
+use mathlib.Core.Logic.{◌⊎◌, ⊎_elim}
 use mathlib.Core.Path.{◌≡◌, refl, sym, ◌∙◌}
 use borrow.Author.Tests.{le-leb, lt-leb}
 use native.Mathlib.Omega.{arith}
-use lib.ListN.{length, take, drop, length-drop}
-use lib.Seq.{length-take-le}
+use lib.Dec.{leb}
+use lib.ListN.{length}
 use Rattle.der.specs.Forms.{paper}
 use Rattle.der.specs.Member.{placed, member_of}
 use Rattle.der.proofs.Bounds.{heading-within}
 use Rattle.der.proofs.stepping.member.Goals as goal
-use Rattle.der.proofs.stepping.member.Goals.{In-Header}
+use Rattle.der.proofs.stepping.member.Goals.{In_ok-tag}
 
 -- the element ends within the part
-ended : (c : In-Header) →
-    let a = c.args in
-    c.in-Header.skip + c.in-Header.size ≤ a.end - a.from
-ended c =
-    let a = c.args in
-    let rest : a.end - a.from ≤ length (drop a.from a.item.now) = rw length-drop (omega arith) in
-    let part : length (take (a.end - a.from) (drop a.from a.item.now)) ≡ a.end - a.from = length-take-le _ _ rest in
-    rw part at (heading-within paper _ _ _ _ (sym (c.header.ensures paper refl refl) ∙ c.in-Header.is)).1
+ended : (c : In_ok-tag) → c.args.from + c.in_ok-tag.field-0.skip + c.in_ok-tag.field-0.size ≤ c.args.end
+ended c = omega (arith, c.in_ok-get.ensures.lookup, heading-within paper _ _ _ _ (sym (c.header.ensures paper refl refl) ∙ c.in_ok-tag.was))
 
-pub returns-then-end-from : goal.returns-then-end-from
-unfolding member_of
-returns-then-end-from c = simp (lt-leb _ _ c.if-end-from.true)
+either : {A : Type 0} {x : A} (b : Bool) → x ≡ cond b x x
+either true = refl
+either false = refl
 
-pub returns-then-item-end : goal.returns-then-item-end
+-- offsets that are none of a part
+missed : (s : List ℕ) (from end : ℕ) → (end < from) ⊎ (length s < end) → None ≡ member_of paper s from end
 unfolding member_of
-returns-then-item-end c = simp (le-leb _ _ c.if-end-from.false, lt-leb _ _ c.if-item-end.true)
+missed s from end =
+    ⊎_elim (λ h. simp (lt-leb _ _ h)) λ h. simp (lt-leb _ _ h) (either (leb from end))
+
+pub returns-in_err-get : goal.returns-in_err-get
+returns-in_err-get c = rw c.from_residual.ensures (missed _ _ _ c.in_err-get.ensures.lookup.0)
 
 pub overflow_add-contents : goal.overflow_add-contents
-overflow_add-contents c = omega (arith, ended (goal.at.overflow_add-contents c).In-Header)
+overflow_add-contents c = omega (arith, ended (goal.at.overflow_add-contents c).In_ok-tag)
 
-pub overflow_add-after : goal.overflow_add-after
-overflow_add-after c = omega (arith, ended (goal.at.overflow_add-after c).In-Header)
+pub overflow_add-result : goal.overflow_add-result
+overflow_add-result c = omega (arith, ended (goal.at.overflow_add-result c).In_ok-tag)
 
-pub returns-in-Header : goal.returns-in-Header
+pub returns-in_err-tag : goal.returns-in_err-tag
 unfolding member_of placed
-returns-in-Header c =
-    simp (
-      le-leb _ _ c.if-end-from.false,
-      le-leb _ _ c.if-item-end.false,
-      sym (c.header.ensures paper refl refl) ∙ c.in-Header.is,
-    )
+returns-in_err-tag c =
+    let (least, most, part, long) = c.in_ok-get.ensures.lookup.0 in
+    rw c.from_residual-in_err-tag.ensures
+    (simp (le-leb _ _ least, le-leb _ _ most, sym part, sym (c.header.ensures paper refl refl) ∙ c.in_err-tag.was))
 
-pub returns-in-Bad : goal.returns-in-Bad
+pub returns : goal.returns
 unfolding member_of placed
-returns-in-Bad c =
-    simp (
-      le-leb _ _ c.if-end-from.false,
-      le-leb _ _ c.if-item-end.false,
-      sym (c.header.ensures paper refl refl) ∙ c.in-Bad.is,
-    )
+returns c =
+    let (least, most, part, long) = c.in_ok-get.ensures.lookup.0 in
+    simp (le-leb _ _ least, le-leb _ _ most, sym part, sym (c.header.ensures paper refl refl) ∙ c.in_ok-tag.was)

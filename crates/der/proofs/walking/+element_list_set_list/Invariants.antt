@@ -14,20 +14,20 @@ decreases-list l = 2 * length l.s.now + 2
 abbrev pub decreases-set_list : goal.decreases-set_list
 decreases-set_list l = 2 * length l.s.now + 1
 
-abbrev pub invariant-list-loop-at : goal.invariant-list-loop-at
-invariant-list-loop-at l =
-    (l.at ≤ length l.s) × (l.read ≤ l.most) × (l.deep ≤ l.left)
-    × ((forms : Forms) → Given l.digits l.wide l.most l.left forms
-    → ListLeft forms false l.s l.base (forms.depth + 1 - l.left) l.count 0 l.at (forms.depth + 1 - l.deep) l.read)
+abbrev pub invariant-list-loop-place : goal.invariant-list-loop-place
+invariant-list-loop-place l =
+    (l.place.at ≤ length l.s) × (l.place.count ≤ l.limits.most) × (l.place.left ≤ l.start.left)
+    × ((forms : Forms) → Given l.limits l.start.left forms
+    → ListLeft forms false l.s l.start.at (forms.depth + 1 - l.start.left) l.start.count 0 l.place.at (forms.depth + 1 - l.place.left) l.place.count)
 
-abbrev pub decreases-list-loop-at : goal.decreases-list-loop-at
-decreases-list-loop-at l = length l.s - l.at
+abbrev pub decreases-list-loop-place : goal.decreases-list-loop-place
+decreases-list-loop-place l = length l.s - l.place.at
 
 abbrev pub invariant-set_list-loop-at : goal.invariant-set_list-loop-at
 invariant-set_list-loop-at l =
-    (l.prior ≤ l.at) × (l.at ≤ length l.s) × (l.read ≤ l.most)
-    × ((forms : Forms) → Given l.digits l.wide l.most l.left forms
-    → ListLeft forms true l.s l.base (forms.depth + 1 - l.left) l.count l.prior l.at (forms.depth + 1 - l.left) l.read)
+    (l.prior ≤ l.at) × (l.at ≤ length l.s) × (l.read ≤ l.limits.most)
+    × ((forms : Forms) → Given l.limits l.start.left forms
+    → ListLeft forms true l.s l.start.at (forms.depth + 1 - l.start.left) l.start.count l.prior l.at (forms.depth + 1 - l.start.left) l.read)
 
 abbrev pub decreases-set_list-loop-at : goal.decreases-set_list-loop-at
 decreases-set_list-loop-at l = length l.s - l.at

@@ -3,10 +3,10 @@ use mathlib.Core.Path.{sym, ◌∙◌}
 use Rattle.elements.specs.Elements.{stepped, found_at}
 use Rattle.elements.proofs.elements.element_at.Goals as goal
 
-pub returns-in-At : goal.returns-in-At
+pub returns-in_err-tag : goal.returns-in_err-tag
 unfolding found_at stepped
-returns-in-At c = rw (sym c.member.ensures ∙ c.in-At.is)
+returns-in_err-tag c = rw (sym c.member.ensures ∙ c.in_err-tag.was) c.from_residual.ensures
 
-pub returns-in-Nothing : goal.returns-in-Nothing
+pub returns : goal.returns
 unfolding found_at stepped
-returns-in-Nothing c = rw (sym c.member.ensures ∙ c.in-Nothing.is)
+returns c = rw (sym c.member.ensures ∙ c.in_ok-tag.was)

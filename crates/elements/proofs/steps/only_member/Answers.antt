@@ -1,20 +1,13 @@
 -- The member is looked for at the contents, and ends where the element does.
 use mathlib.Core.Path.{sym, ◌∙◌}
-use borrow.Author.Tests.{eq-eqb, ne_eqb}
 use Rattle.elements.specs.Steps.{only_of}
-use Rattle.elements.proofs.Members.{on-missing, on-found}
+use Rattle.elements.proofs.Members.{on-none, on-found, kept_if}
 use Rattle.elements.proofs.steps.only_member.Goals as goal
 
-pub returns-in_default : goal.returns-in_default
+pub returns-in_err-member : goal.returns-in_err-member
 unfolding only_of
-returns-in_default c = on-missing _ (sym c.element_tagged.ensures ∙ c.in_default.is)
-
-pub returns-then-member-e : goal.returns-then-member-e
-unfolding only_of
-returns-then-member-e c =
-    on-found _ _ (sym c.element_tagged.ensures ∙ c.in-One.is) (simp (eq-eqb _ _ c.if-member-e.true))
+returns-in_err-member c = on-none _ (sym c.element_tagged.ensures ∙ c.in_err-member.was) c.from_residual.ensures
 
 pub returns : goal.returns
 unfolding only_of
-returns c =
-    on-found _ _ (sym c.element_tagged.ensures ∙ c.in-One.is) (simp (ne_eqb _ _ c.if-member-e.false))
+returns c = on-found _ _ (sym c.element_tagged.ensures ∙ c.in_ok-member.was) (c.then_some.ensures ∙ kept_if _ _)

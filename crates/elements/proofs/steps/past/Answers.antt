@@ -4,10 +4,10 @@ use Rattle.elements.specs.Steps.{past_of}
 use Rattle.elements.proofs.Members.{on-missing, on-found}
 use Rattle.elements.proofs.steps.past.Goals as goal
 
-pub returns-in_default : goal.returns-in_default
+pub returns-in-Some : goal.returns-in-Some
 unfolding past_of
-returns-in_default c = on-missing _ (sym c.element_tagged.ensures ∙ c.in_default.is)
+returns-in-Some c = on-found _ _ (sym c.element_tagged.ensures ∙ c.in-Some.is) refl
 
-pub returns : goal.returns
+pub returns-in-None : goal.returns-in-None
 unfolding past_of
-returns c = on-found _ _ (sym c.element_tagged.ensures ∙ c.in-One.is) refl
+returns-in-None c = on-missing _ (sym c.element_tagged.ensures ∙ c.in-None.is)

@@ -18,8 +18,8 @@ returns-in_default c = record { is = rw c.in_default.is; low = omega arith }
 
 pub returns-then-n-eq0 : goal.returns-then-n-eq0
 unfolding own_oid
-returns-then-n-eq0 c = record { is = rw c.in-Is.is (none-marked _ c.if-n-eq0.true ∙ ap mark_of c.contents-own.ensures); low = omega arith }
+returns-then-n-eq0 c = record { is = rw c.in-Some.is (none-marked _ c.if-n-eq0.true ∙ ap mark_of c.contents-own.ensures); low = omega arith }
 
 pub returns : goal.returns
 unfolding own_oid mark_of
-returns c = record { is = rw (c.in-Is.is, ← c.contents-own.ensures); low = omega arith }
+returns c = record { is = rw (c.in-Some.is, ← c.contents-own.ensures); low = omega arith }

@@ -10,27 +10,27 @@ use Rattle.extensions.proofs.outline.outline_of.Goals as goal
 pub loop-at-init : goal.loop-at-init
 loop-at-init c = (shape-start _ _, mark-start _ _ false)
 
-pub loop-at-smaller-then-next-gt0 : goal.loop-at-smaller-then-next-gt0
-loop-at-smaller-then-next-gt0 c = let m = c.plain_end-next.ensures c.if-next-gt0.true in omega (arith, m.ends, found_within _ _ _ m.found)
+pub loop-at-smaller-in-Some : goal.loop-at-smaller-in-Some
+loop-at-smaller-in-Some c = let m = c.in-Some.ensures in omega (arith, m.ends, found_within _ _ _ m.found)
 
-pub loop-at-preserved-then-next-gt0 : goal.loop-at-preserved-then-next-gt0
-loop-at-preserved-then-next-gt0 c =
-    let m = c.plain_end-next.ensures c.if-next-gt0.true in
+pub loop-at-preserved-in-Some : goal.loop-at-preserved-in-Some
+loop-at-preserved-in-Some c =
+    let m = c.in-Some.ensures in
     let known = c.loop-at.invariant in
     (shape-plain m known.0, mark-plain m known.1)
 
-pub returns-in_default : goal.returns-in_default
-returns-in_default c =
-    let none = sym c.element_at.ensures ∙ c.in_default.is in
+pub returns-in_default-element_at : goal.returns-in_default-element_at
+returns-in_default-element_at c =
+    let none = sym c.element_at.ensures ∙ c.in_default-element_at.is in
     let known = c.loop-at.invariant in
     (shape-end none known.0, mark-end none known.1)
 
 pub loop-at-smaller : goal.loop-at-smaller
-loop-at-smaller c = omega (arith, found_within _ _ _ (sym c.element_at.ensures ∙ c.in-One.is))
+loop-at-smaller c = omega (arith, found_within _ _ _ (sym c.element_at.ensures ∙ c.in-Some-element_at.is))
 
 pub loop-at-preserved : goal.loop-at-preserved
 loop-at-preserved c =
-    let found = sym c.element_at.ensures ∙ c.in-One.is in
+    let found = sym c.element_at.ensures ∙ c.in-Some-element_at.is in
     let known = c.loop-at.invariant in (
       shape_on found refl known.0 (rw (← c.any_extension-own.ensures) c.is_there-shaped.ensures),
       mark_on found refl known.1 (rw (← c.any_extension-own.ensures) (c.is_critical-marked.ensures _)),

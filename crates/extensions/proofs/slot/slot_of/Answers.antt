@@ -15,17 +15,17 @@ pub returns-then-own-eq3 : goal.returns-then-own-eq3
 unfolding has_oid present
 returns-then-own-eq3 c =
     record {
-      there = rw (c.in-Is.is, ne_eqb c.slot_by.result 24 (λ q. omega (arith, c.slot_by.ensures.0)));
+      there = rw (c.in-Some.is, ne_eqb c.slot_by.result 24 (λ q. omega (arith, c.slot_by.ensures.0)));
       each = λ k l.
           c.slot_by.ensures.1 k l
           ∙ (ap (λ o. alike o (oid_of k)) (sym (three _ c.if-own-eq3.true) ∙ c.contents-own.ensures)
-          ∙ rw c.in-Is.is);
+          ∙ rw c.in-Some.is);
     }
 
 pub returns : goal.returns
 unfolding has_oid present
 returns c =
     record {
-      there = rw (c.in-Is.is, ne_eqb c.slot_apart.result 24 (λ q. omega (arith, c.slot_apart.ensures.0)));
-      each = λ k l. c.slot_apart.ensures.1 k l ∙ rw (c.contents-own.ensures, c.in-Is.is);
+      there = rw (c.in-Some.is, ne_eqb c.slot_apart.result 24 (λ q. omega (arith, c.slot_apart.ensures.0)));
+      each = λ k l. c.slot_apart.ensures.1 k l ∙ rw (c.contents-own.ensures, c.in-Some.is);
     }

@@ -6,39 +6,40 @@ use Rattle.extensions.specs.Strange.{met, none}
 use Rattle.extensions.proofs.Slotless.{strange-none, strange-passed, strange-absent, strange-skip, strange-met}
 use Rattle.extensions.proofs.stranger.stranger_from.Goals as goal
 
-pub loop-at-init : goal.loop-at-init
-loop-at-init c = (omega arith, refl)
+pub loop-passed-init : goal.loop-passed-init
+loop-passed-init c = (omega arith, refl)
 
-pub loop-at-smaller-then-passed-gt0 : goal.loop-at-smaller-then-passed-gt0
-loop-at-smaller-then-passed-gt0 c = let m = c.slotted_end-passed.ensures c.if-passed-gt0.true in omega (arith, m.ends, found_within _ _ _ m.found)
+pub loop-passed-smaller-in-Some : goal.loop-passed-smaller-in-Some
+loop-passed-smaller-in-Some c = let m = c.in-Some.ensures in omega (arith, m.ends, found_within _ _ _ m.found)
 
-pub loop-at-preserved-then-passed-gt0 : goal.loop-at-preserved-then-passed-gt0
-loop-at-preserved-then-passed-gt0 c =
-    let m = c.slotted_end-passed.ensures c.if-passed-gt0.true in
-    (omega (arith, m.ends, found_within _ _ _ m.found), c.loop-at.invariant.1 ∙ strange-passed _ _ _ m)
+pub loop-passed-preserved-in-Some : goal.loop-passed-preserved-in-Some
+loop-passed-preserved-in-Some c =
+    let m = c.in-Some.ensures in
+    (omega (arith, m.ends, found_within _ _ _ m.found), c.loop-passed.invariant.1 ∙ strange-passed _ _ _ m)
 
-pub returns-in_default : goal.returns-in_default
-returns-in_default c = none (c.loop-at.invariant.1 ∙ strange-none _ _ _ (sym c.element_at.ensures ∙ c.in_default.is))
+pub returns-in_err-e : goal.returns-in_err-e
+returns-in_err-e c =
+    rw c.from_residual.ensures (none (c.loop-passed.invariant.1 ∙ strange-none _ _ _ (sym c.element_at.ensures ∙ c.in_err-e.was)))
 
-pub loop-at-smaller-in_default-own : goal.loop-at-smaller-in_default-own
-loop-at-smaller-in_default-own c = omega (arith, found_within _ _ _ (sym c.element_at.ensures ∙ c.in-One.is))
+pub loop-passed-smaller-in_default-own : goal.loop-passed-smaller-in_default-own
+loop-passed-smaller-in_default-own c = omega (arith, found_within _ _ _ (sym c.element_at.ensures ∙ c.in_ok-e.was))
 
-pub loop-at-preserved-in_default-own : goal.loop-at-preserved-in_default-own
-loop-at-preserved-in_default-own c =
-    let was = c.loop-at.invariant in
-    let found = sym c.element_at.ensures ∙ c.in-One.is in (
+pub loop-passed-preserved-in_default-own : goal.loop-passed-preserved-in_default-own
+loop-passed-preserved-in_default-own c =
+    let was = c.loop-passed.invariant in
+    let found = sym c.element_at.ensures ∙ c.in_ok-e.was in (
       omega (arith, found_within _ _ _ found, was.0),
       was.1
           ∙ strange-absent _ _ _ found c.any_extension-own.ensures c.in_default-own.is,
     )
 
-pub loop-at-smaller : goal.loop-at-smaller
-loop-at-smaller c = omega (arith, found_within _ _ _ (sym c.element_at.ensures ∙ c.in-One.is))
+pub loop-passed-smaller : goal.loop-passed-smaller
+loop-passed-smaller c = omega (arith, found_within _ _ _ (sym c.element_at.ensures ∙ c.in_ok-e.was))
 
-pub loop-at-preserved : goal.loop-at-preserved
-loop-at-preserved c =
-    let was = c.loop-at.invariant in
-    let found = sym c.element_at.ensures ∙ c.in-One.is in (
+pub loop-passed-preserved : goal.loop-passed-preserved
+loop-passed-preserved c =
+    let was = c.loop-passed.invariant in
+    let found = sym c.element_at.ensures ∙ c.in_ok-e.was in (
       omega (arith, found_within _ _ _ found, was.0),
       was.1
           ∙ strange-skip _ _ _ found c.any_extension-own.ensures c.slot_of.ensures c.if-slot_of-ge23.false,
@@ -46,9 +47,9 @@ loop-at-preserved c =
 
 pub returns : goal.returns
 returns c =
-    let was = c.loop-at.invariant in
-    let found = sym c.element_at.ensures ∙ c.in-One.is in
+    let was = c.loop-passed.invariant in
+    let found = sym c.element_at.ensures ∙ c.in_ok-e.was in
     let within = found_within _ _ _ found in
-    met {next = c.in-One.e.end} was.0 (omega (arith, within)) (omega (arith, within)) was.1
-    (strange-met _ _ _ found c.any_extension-own.ensures c.in-Is.is c.slot_of.ensures
+    met {next = c.in_ok-e.e.end} was.0 (omega (arith, within)) (omega (arith, within)) was.1
+    (strange-met _ _ _ found c.any_extension-own.ensures c.in-Some-own.is c.slot_of.ensures
     c.if-slot_of-ge23.true)

@@ -4,8 +4,8 @@ use Rattle.der.specs.Forms.{paper}
 use Rattle.extensions.specs.Strange.{strange_from}
 use Rattle.extensions.proofs.stranger.stranger_from.Given as goal
 
-abbrev pub invariant-loop-at : goal.invariant-loop-at
-invariant-loop-at l = (l.from ≤ l.at) × (strange_from paper l.item l.from l.end ≡ strange_from paper l.item l.at l.end)
+abbrev pub invariant-loop-passed : goal.invariant-loop-passed
+invariant-loop-passed l = (l.from ≤ l.at) × (strange_from paper l.item l.from l.end ≡ strange_from paper l.item l.at l.end)
 
-abbrev pub decreases-loop-at : goal.decreases-loop-at
-decreases-loop-at l = l.end - l.at
+abbrev pub decreases-loop-passed : goal.decreases-loop-passed
+decreases-loop-passed l = l.end - l.at

@@ -2,10 +2,10 @@
 use Rattle.extensions.specs.Extensions.{held_of}
 use Rattle.extensions.proofs.told.held_of.Goals as goal
 
-pub returns-in_default : goal.returns-in_default
+pub returns-in_err-own : goal.returns-in_err-own
 unfolding held_of
-returns-in_default c = rw c.in_default.is
+returns-in_err-own c = rw c.in_err-own.was c.from_residual.ensures
 
 pub returns : goal.returns
 unfolding held_of
-returns c = rw c.in-Is.is
+returns c = rw c.in_ok-own.was

@@ -4,10 +4,10 @@ use mathlib.Core.Bool.{and-true}
 use Rattle.extensions.specs.Extensions.{refused_critical}
 use Rattle.extensions.proofs.told.is_critical.Goals as goal
 
-pub returns-in_default : goal.returns-in_default
+pub returns-in-None : goal.returns-in-None
 unfolding refused_critical
-returns-in_default c = λ s. rw c.in_default.is
+returns-in-None c = λ s. rw c.in-None.is
 
-pub returns : goal.returns
+pub returns-in-Some : goal.returns-in-Some
 unfolding refused_critical
-returns c = λ s. rw c.in-Is.is (sym (and-true _))
+returns-in-Some c = λ s. rw c.in-Some.is (sym (and-true _))

@@ -1,11 +1,7 @@
--- One case for an extension, and one for none.
-use Rattle.extensions.specs.Extensions.{present}
+-- What is there is some extension.
+use mathlib.Core.Path.{◌∙◌}
+use Rattle.extensions.proofs.Slots.{some-present}
 use Rattle.extensions.proofs.told.is_there.Goals as goal
 
-pub returns-in-Is : goal.returns-in-Is
-unfolding present
-returns-in-Is c = rw c.in-Is.is
-
-pub returns-in-Absent : goal.returns-in-Absent
-unfolding present
-returns-in-Absent c = rw c.in-Absent.is
+pub returns : goal.returns
+returns c = c.is_some.ensures ∙ some-present _

@@ -1,20 +1,18 @@
 -- The two slots that may be critical are those of their OIDs.
-use mathlib.Core.Path.{sym, ◌∙◌}
-use mathlib.Core.Bool.{and-false, and-true}
-use borrow.Author.Tests.{eq-eqb, ne_eqb}
+use mathlib.Core.Path.{◌≡◌, refl, sym, ◌∙◌}
+use mathlib.Core.Bool.{Bool, true, false, ◌&&◌, ◌||◌, not}
 use Rattle.extensions.specs.Extensions.{refused_critical}
 use Rattle.extensions.proofs.Slots.{harsh-slot}
 use Rattle.extensions.proofs.told.unusual.Goals as goal
 
-pub returns-in_default : goal.returns-in_default
+neither : (c a b : Bool) → ((c && not a) && not b) ≡ (c && not (a || b))
+neither true true b = refl
+neither true false b = refl
+neither false a b = refl
+
+pub returns-in-None : goal.returns-in-None
 unfolding refused_critical
-returns-in_default c = λ s h. rw c.in_default.is
+returns-in-None c = λ s h. rw c.in-None.is
 
-pub returns-then-slot-eq1 : goal.returns-then-slot-eq1
-returns-then-slot-eq1 c = λ s h. sym (rw c.in-Is.is (harsh-slot (rw c.in-Is.is at h) ∙ rw (eq-eqb _ _ c.if-slot-eq1.true) (and-false c.in-Is.critical)))
-
-pub returns-then-slot-eq5 : goal.returns-then-slot-eq5
-returns-then-slot-eq5 c = λ s h. sym (rw c.in-Is.is (harsh-slot (rw c.in-Is.is at h) ∙ rw (ne_eqb _ _ c.if-slot-eq1.false, eq-eqb _ _ c.if-slot-eq5.true) (and-false c.in-Is.critical)))
-
-pub returns : goal.returns
-returns c = λ s h. sym (rw c.in-Is.is (harsh-slot (rw c.in-Is.is at h) ∙ rw (ne_eqb _ _ c.if-slot-eq1.false, ne_eqb _ _ c.if-slot-eq5.false) (and-true _)))
+pub returns-in-Some : goal.returns-in-Some
+returns-in-Some c = λ s h. rw c.in-Some.is (neither _ _ _ ∙ sym (harsh-slot (rw c.in-Some.is at h)))

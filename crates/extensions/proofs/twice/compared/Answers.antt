@@ -13,9 +13,9 @@ use Rattle.extensions.proofs.twice.compared.Goals.{After-loop-i, After-row_of-ow
 -- the OID at hand is the first that is left
 onward : (c : After-row_of-own) →
     let a = c.args in
-    Onward a.item.now c.each.at a.end c.in-At.place c.in-At.next (row_oid a.item.now c.row_of-own.result)
+    Onward a.item.now c.each.at a.end c.in-Some.field-0.place c.in-Some.field-0.next (row_oid a.item.now c.row_of-own.result)
 onward c =
-    ahead-row _ _ _ c.stranger_from.ensures c.in-At.is c.row_of-own.result c.row_of-own.ensures.is
+    ahead-row _ _ _ c.stranger_from.ensures c.in-Some.is c.row_of-own.result c.row_of-own.ensures.is
 
 -- the row that it is compared with is one of the table
 other-numbered : (c : In-loop-i) →
@@ -28,14 +28,14 @@ new : (c : After-loop-i) →
     seen_in item c.each.table c.each.count (row_oid item c.row_of-own.result) ≡ false
 new c =
     let was = c.loop-i in
-    let all : was.i ≡ c.each.count = omega (arith, c.loop-i-test.false, was.invariant.2) in
-    rw all at was.invariant.3
+    let all : was.i ≡ c.each.count = omega (arith, c.loop-i-test.false, was.auto.i-end) in
+    rw all at was.invariant.2
 
 pub each-init : goal.each-init
 each-init c = (refl, listed_start _ _ _)
 
 pub loop-i-init : goal.loop-i-init
-loop-i-init c = (refl, refl, omega arith, seen_none _ _ _)
+loop-i-init c = (refl, refl, seen_none _ _ _)
 
 pub offset_bounds-table-i : goal.offset_bounds-table-i
 offset_bounds-table-i c = omega (arith, c.each.invariant.1.room, c.loop-i-test.true)
@@ -45,13 +45,6 @@ bounds-table-i c = let known = c.each.invariant.1 in omega (arith, known.room, k
 
 pub equal_rows-requires : goal.equal_rows-requires
 equal_rows-requires c = (c.row_of-own.ensures.numbers, other-numbered (goal.at.equal_rows-requires c).In-loop-i)
-
-pub overflow_add-i : goal.overflow_add-i
-overflow_add-i c =
-    omega (arith, c.each.invariant.1.room, c.loop-i-test.true)
-
-pub loop-i-smaller : goal.loop-i-smaller
-loop-i-smaller c = omega (arith, c.loop-i-test.true)
 
 pub loop-i-preserved : goal.loop-i-preserved
 loop-i-preserved c =
@@ -63,7 +56,7 @@ loop-i-preserved c =
       | else-other-own w ↦
           unequal-last _ _ _ own (other-numbered (goal.at.loop-i-preserved c).In-loop-i) w.if-other-own.false
     ] in
-    (known.0, known.1, omega (arith, c.loop-i-test.true), rw (add-one _) (seen_other _ _ _ _ known.3 unlike))
+    (known.0, known.1, rw (add-one _) (seen_other _ _ _ _ known.2 unlike))
 
 pub offset_bounds-table-count : goal.offset_bounds-table-count
 offset_bounds-table-count c = omega (arith, c.if-count-lt64.true)

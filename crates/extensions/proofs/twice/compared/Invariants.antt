@@ -1,4 +1,4 @@
-use Prim.Native.Nat.{◌-◌, ◌≤◌}
+use Prim.Native.Nat.{◌-◌}
 use mathlib.Core.Path.{◌≡◌}
 use mathlib.Core.Bool.{false}
 use Rattle.extensions.specs.Strange.{row_oid}
@@ -7,10 +7,7 @@ use Rattle.extensions.proofs.twice.compared.Given as goal
 
 abbrev pub invariant-loop-i : goal.invariant-loop-i
 invariant-loop-i l =
-    (l.rest ≡ l.initial.rest) × (l.twice ≡ l.initial.twice) × (l.i ≤ l.count) × (seen_in l.item l.table l.i (row_oid l.item l.own) ≡ false)
-
-abbrev pub decreases-loop-i : goal.decreases-loop-i
-decreases-loop-i l = l.count - l.i
+    (l.rest ≡ l.initial.rest) × (l.twice ≡ l.initial.twice) × (seen_in l.item l.table l.i (row_oid l.item l.own) ≡ false)
 
 abbrev pub invariant-each : goal.invariant-each
 invariant-each l = (l.twice ≡ false) × Listed l.item l.from l.end l.table l.count l.rest l.at

@@ -33,13 +33,14 @@ pub returns-then-role-eq2 : goal.returns-then-role-eq2
 returns-then-role-eq2 c =
     let a = c.args in
     let h = known (goal.at.returns-then-role-eq2 c).After-octet-2 in
-    sym (to-link a.places (graph_of a.places a.roles.now a.steps.now) h (ne_eqb _ _ (c.requires.fact h))
-    (eq-eqb _ _ (sym c.octet-role.ensures ∙ c.if-role-eq2.true)) (eq-eqb _ _ (sym c.octet-2.ensures ∙ c.if-octet-ne1.false)))
+    rw (eq-eqb _ _ c.if-role-eq2.true)
+    (sym (to-link a.places (graph_of a.places a.roles.now a.steps.now) h (ne_eqb _ _ (c.requires.fact h))
+    (eq-eqb _ _ (sym c.octet-role.ensures ∙ c.if-role-eq2.true)) (eq-eqb _ _ (sym c.octet-2.ensures ∙ c.if-octet-ne1.false))))
 
-pub returns : goal.returns
-returns c =
+pub returns-else-role-eq2 : goal.returns-else-role-eq2
+returns-else-role-eq2 c =
     let a = c.args in
-    let h = known (goal.at.returns c).After-octet-2 in
+    let h = known (goal.at.returns-else-role-eq2 c).After-octet-2 in
     rw c.octet-role.ensures
     (sym (by-signer a.places (graph_of a.places a.roles.now a.steps.now) h (ne_eqb _ _ (c.requires.fact h))
     (eq-eqb _ _ (sym c.octet-2.ensures ∙ c.if-octet-ne1.false)) (ne_eqb _ _ (λ e. c.if-role-eq2.false (c.octet-role.ensures ∙ e)))))

@@ -1,4 +1,4 @@
-use Prim.Native.Nat.{ℕ, ◌-◌, ◌<◌, ◌≤◌}
+use Prim.Native.Nat.{ℕ, ◌<◌, ◌≤◌}
 use mathlib.Core.Bool.{true}
 use mathlib.Core.Path.{◌≡◌}
 use mathlib.Core.List.{List}
@@ -12,11 +12,7 @@ pub record Turn (places : ℕ) (roles steps : List ℕ) (u far : ℕ) (ways : Li
   pub small : places ≤ 96
   pub known : u ≤ places
   pub leads : u < places → get_or roles u 0 ≡ 3 → ⊥
-  pub inside : looked ≤ places
   pub none : (w : ℕ) → w < looked → get_or ways w 0 ≡ far → followed places (graph_of places roles steps) u w ≡ true → ⊥
 
-abbrev pub invariant-loop-looked : goal.invariant-loop-looked
-invariant-loop-looked l = Turn l.places l.roles l.steps l.u l.far l.ways l.looked
-
-abbrev pub decreases-loop-looked : goal.decreases-loop-looked
-decreases-loop-looked l = l.places - l.looked
+abbrev pub invariant-loop-place : goal.invariant-loop-place
+invariant-loop-place l = Turn l.places l.roles l.steps l.u l.far l.ways l.place

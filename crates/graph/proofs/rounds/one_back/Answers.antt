@@ -14,13 +14,18 @@ use Rattle.graph.proofs.Steps.{from-signer}
 use Rattle.graph.proofs.WaysBack.{back-passed, back-marked}
 use Rattle.graph.proofs.rounds.one_back.Invariants.{Turn}
 use Rattle.graph.proofs.rounds.one_back.Goals as goal
-use Rattle.graph.proofs.rounds.one_back.Goals.{then-onward+then-next-places, then-onward+else-next-places, else-onward}
+use Rattle.graph.proofs.rounds.one_back.Goals.{
+  then-onward+then-next-places,
+  else-onward,
+  else-onward-via-then-onward+else-next-places,
+  else-onward-via-else-onward,
+}
 
 module _ {places : ℕ} {roles steps : List ℕ} {target far : ℕ} {distance more : List ℕ} {u : ℕ} (t : Turn places roles steps target far distance more u) (h : u < places) where
   passed :
       (get_or distance u 0 ≡ far → (v : ℕ) → v < places → get_or more v 0 ≡ far + 1 → followed places (graph_of places roles steps) u v ≡ true → ⊥)
       → Turn places roles steps target far distance more (u + 1)
-  passed none = record { small = t.small; short = t.short; inside = omega arith; stands = back-passed t.small h t.stands none }
+  passed none = record { small = t.small; short = t.short; stands = back-passed t.small h t.stands none }
 
   -- a place that is not so far or a signer, and one that leads to none of the ways
   passed-row : (get_or distance u 0 ≡ far → get_or roles u 0 ≡ 3) → Turn places roles steps target far distance more (u + 1)
@@ -37,12 +42,11 @@ module _ {places : ℕ} {roles steps : List ℕ} {target far : ℕ} {distance mo
         record {
           small = t.small;
           short = t.short;
-          inside = omega arith;
           stands = back-marked t.small h t.stands t.short is w k y.0 y.1;
         }
 
 pub loop-u-init : goal.loop-u-init
-loop-u-init c = let p = c.requires in record { small = p.places_bound.0; short = p.places_bound.1; inside = omega arith; stands = p.back }
+loop-u-init c = let p = c.requires in record { small = p.places_bound.0; short = p.places_bound.1; stands = p.back }
 
 pub bounds-distance-u : goal.bounds-distance-u
 bounds-distance-u c = omega (arith, c.loop-u.invariant.small, c.loop-u-test.true)
@@ -53,16 +57,10 @@ overflow_add-far c = let t = c.loop-u.invariant in omega (arith, t.short, t.stan
 pub next-requires : goal.next-requires
 next-requires c =
     let t = c.loop-u.invariant in
-    record { places_bound = (t.small, t.inside); fact = λ l. (c.onward.ensures.0 c.if-onward.true).1 }
+    record { places_bound = (t.small, omega (arith, c.loop-u-test.true)); fact = λ l. (c.onward.ensures.0 c.if-onward.true).1 }
 
 pub bounds-more-u : goal.bounds-more-u
 bounds-more-u c = omega (arith, c.loop-u.invariant.small, c.loop-u-test.true)
-
-pub overflow_add-u : goal.overflow_add-u
-overflow_add-u c = omega (arith, c.loop-u.invariant.small, c.loop-u-test.true)
-
-pub loop-u-smaller : goal.loop-u-smaller
-loop-u-smaller c = omega (arith, c.loop-u-test.true)
 
 pub loop-u-preserved : goal.loop-u-preserved
 loop-u-preserved c =
@@ -72,12 +70,16 @@ loop-u-preserved c =
     elim c.if-onward.branch [
       | then-onward+then-next-places w ↦
           rw w.more-is (way-row t h w.next.ensures (onward.0 w.if-onward.true).0 w.if-next-places.true)
-      | then-onward+else-next-places w ↦ rw w.more-is (lost-row t h w.next.ensures w.if-next-places.false)
-      | else-onward w ↦ rw w.more-is (passed-row t h (onward.1 w.if-onward.false))
+      | else-onward w ↦
+          rw w.more-is
+          (elim w.else-onward.branch [
+            | else-onward-via-then-onward+else-next-places x ↦ lost-row t h x.next.ensures x.if-next-places.false
+            | else-onward-via-else-onward x ↦ passed-row t h (onward.1 x.if-onward.false)
+          ])
     ]
 
 pub returns : goal.returns
 returns c =
     let l = c.loop-u in
-    let e : l.u ≡ c.args.places = omega (arith, l.invariant.inside, c.loop-u-test.false) in
+    let e : l.u ≡ c.args.places = omega (arith, l.auto.u-end, c.loop-u-test.false) in
     rw e at l.invariant.stands

@@ -11,7 +11,12 @@ use Rattle.graph.specs.Search.{followed, Reached}
 use Rattle.graph.proofs.RoundTurns.{round_room, column-passed, column-marked, row_kept}
 use Rattle.graph.proofs.rounds.reach.Invariants.{Turn}
 use Rattle.graph.proofs.rounds.reach.Goals as goal
-use Rattle.graph.proofs.rounds.reach.Goals.{then-distance-v+then-follows, then-distance-v+else-follows, else-distance-v}
+use Rattle.graph.proofs.rounds.reach.Goals.{
+  then-distance-v+then-follows,
+  else-distance-v,
+  else-distance-v-via-then-distance-v+else-follows,
+  else-distance-v-via-else-distance-v,
+}
 
 module _ {places : ℕ} {roles steps : List ℕ} {u far : ℕ} {distance : List ℕ} {count v : ℕ} (t : Turn places roles steps u far distance count v) (h : v < places) where
   -- a turn in which nothing is new, and one in which a place is
@@ -22,7 +27,6 @@ module _ {places : ℕ} {roles steps : List ℕ} {u far : ℕ} {distance : List 
         known = t.known;
         this = t.this;
         leads = t.leads;
-        inside = omega arith;
         stands = column-passed t.small t.known h t.stands w;
       }
 
@@ -35,7 +39,6 @@ module _ {places : ℕ} {roles steps : List ℕ} {u far : ℕ} {distance : List 
         known = t.known;
         this = row_kept t.small t.stands h t.known t.this new good;
         leads = t.leads;
-        inside = omega arith;
         stands = column-marked t.small t.stands h t.known t.this new good;
       }
 
@@ -47,7 +50,6 @@ loop-v-init c =
       known = p.places_bound.1;
       this = p.places_bound.2;
       leads = p.fact;
-      inside = omega arith;
       stands = p.in_round;
     }
 
@@ -68,12 +70,6 @@ bounds-distance-v-then-follows c = let t = c.loop-v.invariant in omega (arith, t
 pub overflow_add-count : goal.overflow_add-count
 overflow_add-count c = let t = c.loop-v.invariant in omega (arith, round_room t.small t.stands)
 
-pub overflow_add-v : goal.overflow_add-v
-overflow_add-v c = omega (arith, c.loop-v.invariant.small, c.loop-v-test.true)
-
-pub loop-v-smaller : goal.loop-v-smaller
-loop-v-smaller c = omega (arith, c.loop-v-test.true)
-
 pub loop-v-preserved : goal.loop-v-preserved
 loop-v-preserved c =
     let t = c.loop-v.invariant in
@@ -81,13 +77,17 @@ loop-v-preserved c =
     elim c.if-distance-v.branch [
       | then-distance-v+then-follows w ↦
           rw (w.distance-is, w.count-is) (one-new t h w.if-distance-v.true (sym w.follows.ensures ∙ w.if-follows.true))
-      | then-distance-v+else-follows w ↦
-          rw (w.distance-is, w.count-is) (nothing-new t h (inr (sym w.follows.ensures ∙ w.if-follows.false)))
-      | else-distance-v w ↦ rw (w.distance-is, w.count-is) (nothing-new t h (inl w.if-distance-v.false))
+      | else-distance-v w ↦
+          rw (w.distance-is, w.count-is)
+          (nothing-new t h
+          (elim w.else-distance-v.branch [
+            | else-distance-v-via-then-distance-v+else-follows x ↦ inr (sym x.follows.ensures ∙ x.if-follows.false)
+            | else-distance-v-via-else-distance-v x ↦ inl x.if-distance-v.false
+          ]))
     ]
 
 pub returns : goal.returns
 returns c =
     let l = c.loop-v in
-    let e : l.v ≡ c.args.places = omega (arith, l.invariant.inside, c.loop-v-test.false) in
+    let e : l.v ≡ c.args.places = omega (arith, l.auto.v-end, c.loop-v-test.false) in
     rw e at l.invariant.stands

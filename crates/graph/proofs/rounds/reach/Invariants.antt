@@ -1,4 +1,4 @@
-use Prim.Native.Nat.{ℕ, ◌-◌, ◌<◌, ◌≤◌}
+use Prim.Native.Nat.{ℕ, ◌<◌, ◌≤◌}
 use mathlib.Core.Path.{◌≡◌}
 use mathlib.Core.List.{List}
 use lib.ListN.{get_or}
@@ -13,11 +13,7 @@ pub record Turn (places : ℕ) (roles steps : List ℕ) (u far : ℕ) (distance 
   pub known : u ≤ places
   pub this : distance_of places distance u ≡ far
   pub leads : u < places → get_or roles u 0 ≡ 3 → ⊥
-  pub inside : v ≤ places
   pub stands : InRound places (followed places (graph_of places roles steps)) distance far u v count
 
 abbrev pub invariant-loop-v : goal.invariant-loop-v
 invariant-loop-v l = Turn l.places l.roles l.steps l.u l.far l.distance l.count l.v
-
-abbrev pub decreases-loop-v : goal.decreases-loop-v
-decreases-loop-v l = l.places - l.v

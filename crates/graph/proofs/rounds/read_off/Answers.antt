@@ -20,10 +20,9 @@ module _ {places : ℕ} {roles steps ways : List ℕ} {target : ℕ} {distance s
 
   -- all places are read off
   ended :
-      get_or distance target 0 ≤ far → (s : Searched places (followed places (graph_of places roles steps)) distance)
+      far ≡ get_or distance target 0 → (s : Searched places (followed places (graph_of places roles steps)) distance)
       → slots ≡ s.path target ++ replicate (96 - length (s.path target)) 255
-  ended k s =
-      let e : far ≡ get_or distance target 0 = omega (arith, t.inside) in
+  ended e s =
       forward-end t.small t.table t.ways-are t.there t.marked (rw e at t.stands) s
 
   module _ (h : far < get_or distance target 0) where
@@ -45,7 +44,6 @@ module _ {places : ℕ} {roles steps ways : List ℕ} {target : ℕ} {distance s
             marked = t.marked;
             table = t.table;
             ways-are = t.ways-are;
-            inside = omega arith;
             stands = forward-more t.small t.table t.ways-are t.there t.marked t.stands h x;
           }
 
@@ -58,12 +56,11 @@ loop-far-init c =
       marked = p.places_bound.2;
       table = p.round_table;
       ways-are = p.back;
-      inside = omega arith;
       stands = forward-begin _ _ _;
     }
 
 pub bounds-distance-target : goal.bounds-distance-target
-bounds-distance-target c = omega (arith, c.loop-far.invariant.small, c.loop-far.invariant.there)
+bounds-distance-target c = let p = c.requires.places_bound in omega arith
 
 pub overflow_add-far : goal.overflow_add-far
 overflow_add-far c = omega (arith, c.loop-far-test.true, short c.loop-far.invariant)
@@ -78,20 +75,12 @@ overflow_cast-slots c =
     let t = c.loop-far.invariant in
     omega (arith, t.small, below t c.loop-far-test.true c.next-place.ensures)
 
-pub overflow_sub-slots : goal.overflow_sub-slots
-overflow_sub-slots c = omega (arith, c.wide.ensures)
-
-pub bounds-slots-wide : goal.bounds-slots-wide
-bounds-slots-wide c = omega (arith, c.wide.ensures, c.loop-far-test.true, short c.loop-far.invariant)
-
-pub loop-far-smaller : goal.loop-far-smaller
-loop-far-smaller c = omega (arith, c.loop-far-test.true)
+pub bounds-slots-far : goal.bounds-slots-far
+bounds-slots-far c = omega (arith, c.loop-far-test.true, short c.loop-far.invariant)
 
 pub loop-far-preserved : goal.loop-far-preserved
 loop-far-preserved c =
-    let l = c.loop-far in
-    let e : c.wide.result - 1 ≡ l.far = omega (arith, c.wide.ensures) in
-    rw e (one-more l.invariant c.loop-far-test.true c.next-place.ensures)
+    one-more c.loop-far.invariant c.loop-far-test.true c.next-place.ensures
 
 pub returns : goal.returns
-returns c = λ s. ended c.loop-far.invariant c.loop-far-test.false s
+returns c = λ s. ended c.loop-far.invariant (omega (arith, c.loop-far.auto.far-end, c.loop-far-test.false)) s

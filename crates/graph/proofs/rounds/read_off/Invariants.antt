@@ -1,6 +1,5 @@
-use Prim.Native.Nat.{ℕ, ◌-◌, ◌<◌, ◌≤◌}
+use Prim.Native.Nat.{ℕ, ◌<◌, ◌≤◌}
 use mathlib.Core.List.{List}
-use lib.ListN.{get_or}
 use Rattle.graph.specs.Chains.{graph_of}
 use Rattle.graph.specs.Search.{followed, Reached}
 use Rattle.graph.specs.Rounds.{RoundTable, Back}
@@ -14,11 +13,7 @@ pub record Turn (places : ℕ) (roles steps ways : List ℕ) (target : ℕ) (dis
   pub marked : Reached distance target
   pub table : RoundTable places (followed places (graph_of places roles steps)) distance
   pub ways-are : Back places (followed places (graph_of places roles steps)) distance target ways 1 places
-  pub inside : far ≤ get_or distance target 0
   pub stands : Forward places (followed places (graph_of places roles steps)) ways far place slots
 
 abbrev pub invariant-loop-far : goal.invariant-loop-far
-invariant-loop-far l = Turn l.places l.roles l.steps l.ways l.target l.distance l.slots l.place l.far
-
-abbrev pub decreases-loop-far : goal.decreases-loop-far
-decreases-loop-far l = get_or l.distance l.target 0 - l.far
+invariant-loop-far l = Turn l.places l.roles l.steps l.ways l.target l.fn.distance l.slots l.place l.far

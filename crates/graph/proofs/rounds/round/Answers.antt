@@ -20,24 +20,24 @@ module _ {places : ℕ} {roles steps : List ℕ} {far : ℕ} {distance : List �
   one-row :
       {more : List ℕ} {count : ℕ} → InRound places (followed places (graph_of places roles steps)) more far (u + 1) 0 count
       → Turn places roles steps far more count (u + 1)
-  one-row a = record { small = t.small; late = t.late; inside = omega arith; stands = a }
+  one-row a = record { small = t.small; late = t.late; stands = a }
 
   -- a row that is followed, and one of a place that is not so far or a signer
   followed-row :
       {more : List ℕ} {count : ℕ} → InRound places (followed places (graph_of places roles steps)) more far u places count
       → Turn places roles steps far more count (u + 1)
-  followed-row a = one-row (row_done t.small t.inside a)
+  followed-row a = one-row (row_done t.small (omega arith) a)
 
   passed-row : (get_or distance u 0 ≡ far → get_or roles u 0 ≡ 3) → Turn places roles steps far distance marked (u + 1)
   passed-row signer =
       one-row
-      (row-passed t.small t.inside t.stands
+      (row-passed t.small (omega arith) t.stands
       (λ is v l f.
       let e = signer (sym (distance-place places distance u h) ∙ is) in
       clash f (from-signer places (graph_of places roles steps) v h (eq-eqb _ _ e))))
 
 pub loop-u-init : goal.loop-u-init
-loop-u-init c = let p = c.requires in record { small = p.places_bound.0; late = p.places_bound.1; inside = omega arith; stands = p.in_round }
+loop-u-init c = let p = c.requires in record { small = p.places_bound.0; late = p.places_bound.1; stands = p.in_round }
 
 pub bounds-distance-u : goal.bounds-distance-u
 bounds-distance-u c = omega (arith, c.loop-u.invariant.small, c.loop-u-test.true)
@@ -47,16 +47,10 @@ reach-marked-requires c =
     let t = c.loop-u.invariant in
     let leads = c.onward.ensures.0 c.if-onward.true in
     record {
-      places_bound = (t.small, t.inside, distance-place _ _ _ c.loop-u-test.true ∙ leads.0);
+      places_bound = (t.small, omega (arith, c.loop-u-test.true), distance-place _ _ _ c.loop-u-test.true ∙ leads.0);
       fact = λ l. leads.1;
       in_round = t.stands;
     }
-
-pub overflow_add-u : goal.overflow_add-u
-overflow_add-u c = omega (arith, c.loop-u.invariant.small, c.loop-u-test.true)
-
-pub loop-u-smaller : goal.loop-u-smaller
-loop-u-smaller c = omega (arith, c.loop-u-test.true)
 
 pub loop-u-preserved : goal.loop-u-preserved
 loop-u-preserved c =
@@ -70,5 +64,5 @@ loop-u-preserved c =
 pub returns : goal.returns
 returns c =
     let l = c.loop-u in
-    let e : l.u ≡ c.args.places = omega (arith, l.invariant.inside, c.loop-u-test.false) in
+    let e : l.u ≡ c.args.places = omega (arith, l.auto.u-end, c.loop-u-test.false) in
     rows-done l.invariant.small l.invariant.late (rw e at l.invariant.stands)

@@ -22,18 +22,12 @@ loop-far-init c =
       back-begin _ _ _ b.0 b.1 _ _ refl b.2,
     )
 
-pub overflow_sub-far : goal.overflow_sub-far
-overflow_sub-far c = omega (arith, c.loop-far-test.true)
-
 pub one_back-ways-requires : goal.one_back-ways-requires
 one_back-ways-requires c =
     let l = c.loop-far in
     let i = l.invariant in
     let e : l.far - 1 + 1 ≡ l.far = omega (arith, c.loop-far-test.true) in
     record { places_bound = (i.0, i.1); back = back-nearer i.0 e i.3 }
-
-pub loop-far-smaller : goal.loop-far-smaller
-loop-far-smaller c = omega (arith, c.loop-far-test.true)
 
 pub loop-far-preserved : goal.loop-far-preserved
 loop-far-preserved c = let i = c.loop-far.invariant in (i.0, i.1, omega (arith, c.loop-far-test.true), c.one_back-ways.ensures)

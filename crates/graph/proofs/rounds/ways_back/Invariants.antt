@@ -8,6 +8,3 @@ use Rattle.graph.proofs.rounds.ways_back.Given as goal
 abbrev pub invariant-loop-far : goal.invariant-loop-far
 invariant-loop-far l =
     (l.places ≤ 96) × (get_or l.distance l.target 0 ≤ 96) × (1 ≤ l.far) × Back l.places (followed l.places (graph_of l.places l.roles l.steps)) l.distance l.target l.ways l.far l.places
-
-abbrev pub decreases-loop-far : goal.decreases-loop-far
-decreases-loop-far l = l.far

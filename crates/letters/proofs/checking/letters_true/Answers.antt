@@ -1,18 +1,14 @@
 -- Opening decides, and then the items.
-use mathlib.Core.Path.{sym, ◌∙◌}
-use Rattle.image.proofs.Few.{opened-image}
+use Rattle.std.proofs.lemmas.Result.{err_from_is_err_and}
 use Rattle.letters.specs.Check.{on_checked, checked_of}
 use Rattle.letters.proofs.checking.letters_true.Goals as goal
 
-pub all_lettered-requires : goal.all_lettered-requires
-all_lettered-requires c =
-    let o = opened-image 2 2 _ _ _ _ (sym c.open_as.ensures ∙ c.in-Image.is) in
-    (o.0, o.2)
-
-pub returns-in-Refused : goal.returns-in-Refused
+pub returns-in_err-read_as : goal.returns-in_err-read_as
 unfolding checked_of on_checked
-returns-in-Refused c = rw (sym c.open_as.ensures ∙ c.in-Refused.is)
+returns-in_err-read_as c =
+    let p = err_from_is_err_and c.from_residual.result c.from_residual.ensures.1 in
+    rw (p.1, p.2, c.in_err-read_as.ensures.err)
 
-pub returns-in-Image : goal.returns-in-Image
+pub returns : goal.returns
 unfolding checked_of on_checked
-returns-in-Image c = rw (sym c.open_as.ensures ∙ c.in-Image.is, c.all_lettered.ensures)
+returns c = rw (c.in_ok-read_as.ensures.ok.1, c.all_lettered.ensures, c.in_ok-read_as.ensures.ok.0)

@@ -7,6 +7,6 @@ pub returns-then-version-eq2 : goal.returns-then-version-eq2
 unfolding country_for
 returns-then-version-eq2 c = rw (eq-eqb _ _ c.if-version-eq2.true) c.true_letters.ensures
 
-pub returns : goal.returns
+pub returns-else-version-eq2 : goal.returns-else-version-eq2
 unfolding country_for
-returns c = rw (ne_eqb _ _ c.if-version-eq2.false)
+returns-else-version-eq2 c = rw (ne_eqb _ _ c.if-version-eq2.false)

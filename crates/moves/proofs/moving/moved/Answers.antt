@@ -1,29 +1,31 @@
--- The image of the other version is opened, and what is refused is refused.
+-- The image of the other version is read, and what is refused is refused.
+use Rattle.std.proofs.lemmas.Result.{err_from_is_err_and}
 use mathlib.Core.Path.{◌≡◌, sym, ◌∙◌, ap}
-use Prim.Native.Nat.{ℕ}
-use Rattle.image.specs.declared.Opened.TheVariants as opened
+use Prim.Native.Nat.{ℕ, ◌-◌, ◌≤◌}
+use mathlib.Core.List.{List}
 use Rattle.image.specs.Answer.{opened_as}
 use Rattle.writer.specs.Writing.{on_written}
 use Rattle.moves.specs.Moving.{other, on_moved, moved_of, output_of}
 use Rattle.moves.proofs.Ready.{other-is}
 use Rattle.moves.proofs.moving.moved.Goals as goal
-use Rattle.moves.proofs.moving.moved.Goals.{After-open_as}
 
 -- the version that is asked for is the other one
-asked : (c : After-open_as) → let a = c.args in opened_as (other a.version) a.image.now ≡ c.open_as.result
-asked c =
-    let a = c.args in
-    let pre = c.requires in
-    ap (λ (v : ℕ). opened_as v a.image.now) (sym (other-is a.version pre.0 pre.1)) ∙ sym c.open_as.ensures
+asked : (version : ℕ) (s : List ℕ) → 1 ≤ version → version ≤ 2 → opened_as (other version) s ≡ opened_as (3 - version) s
+asked version s low high = ap (λ (v : ℕ). opened_as v s) (sym (other-is version low high))
 
 pub rewritten-requires : goal.rewritten-requires
 rewritten-requires c =
-    (c.requires.0, c.requires.1, asked (goal.at.rewritten-requires c).After-open_as ∙ c.in-Image.is)
-
-pub returns-in-Refused : goal.returns-in-Refused
-unfolding moved_of on_moved output_of on_written
-returns-in-Refused c =
     let a = c.args in
-    let refused : opened_as (other a.version) a.image.now ≡ opened.Refused c.in-Refused.refusal =
-    asked (goal.at.returns-in-Refused c).After-open_as ∙ c.in-Refused.is in
-    record { answer = rw refused; output = rw refused }
+    let is = c.in_ok-read_as.ensures.ok in
+    (c.requires.0, c.requires.1, rw is.0 (asked a.version a.image.now c.requires.0 c.requires.1 ∙ is.1))
+
+pub returns-in_err-read_as : goal.returns-in_err-read_as
+unfolding moved_of on_moved output_of on_written
+returns-in_err-read_as c =
+    let a = c.args in
+    let p = err_from_is_err_and c.from_residual.result c.from_residual.ensures.1 in
+    let refused = asked a.version a.image.now c.requires.0 c.requires.1 ∙ c.in_err-read_as.ensures.err in
+    record { answer = rw (refused, p.1, p.2); output = rw refused }
+
+pub returns : goal.returns
+returns c = rw (← c.in_ok-read_as.ensures.ok.0) (record { answer = c.rewritten.ensures.answer; output = c.rewritten.ensures.output })

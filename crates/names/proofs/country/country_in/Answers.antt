@@ -20,12 +20,12 @@ unfolding country_in
 returns-then-begins_usual c =
     rw (← c.contents.ensures, sym c.begins_usual.ensures ∙ c.if-begins_usual.true) c.letters_of.ensures
 
-pub returns-in_default : goal.returns-in_default
+pub returns-in_err-name_of : goal.returns-in_err-name_of
 unfolding country_in on_name
-returns-in_default c =
-    rw (← c.contents.ensures, sym c.begins_usual.ensures ∙ c.if-begins_usual.false, sym c.name_of.ensures ∙ c.in_default.is)
+returns-in_err-name_of c =
+    rw (← c.contents.ensures, sym c.begins_usual.ensures ∙ c.if-begins_usual.false, sym c.name_of.ensures ∙ c.in_err-name_of.was) c.from_residual.ensures
 
 pub returns : goal.returns
 unfolding country_in on_name
 returns c =
-    rw (← c.contents.ensures, sym c.begins_usual.ensures ∙ c.if-begins_usual.false, sym c.name_of.ensures ∙ c.in-Holds.is) c.letters_of-2.ensures
+    rw (← c.contents.ensures, sym c.begins_usual.ensures ∙ c.if-begins_usual.false, sym c.name_of.ensures ∙ c.in_ok-name_of.was) c.letters_of-2.ensures

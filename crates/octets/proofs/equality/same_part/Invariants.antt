@@ -1,11 +1,7 @@
-use Prim.Native.Nat.{◌-◌, ◌≤◌}
 use mathlib.Core.Path.{◌≡◌}
-use lib.ListN.{take, drop}
+use lib.ListN.{take}
 use Rattle.octets.specs.Alike.{alike}
 use Rattle.octets.proofs.equality.same_part.Given as goal
 
-abbrev pub invariant-loop-j : goal.invariant-loop-j
-invariant-loop-j l = (l.j ≤ l.count) × (l.equal ≡ alike (take l.j (drop l.at l.a)) (take l.j (drop l.at l.b)))
-
-abbrev pub decreases-loop-j : goal.decreases-loop-j
-decreases-loop-j l = l.count - l.j
+abbrev pub invariant-loop-i : goal.invariant-loop-i
+invariant-loop-i l = l.equal ≡ alike (take l.i l.a) (take l.i l.b)

@@ -10,9 +10,9 @@ returns-in_default c = simp (sym c.pair_entry.ensures ∙ c.in_default.is)
 pub returns-then-later : goal.returns-then-later
 unfolding fetched_of bytes_over
 returns-then-later c =
-    simp (sym c.pair_entry.ensures ∙ c.in-In.is, c.if-later.true) c.part.ensures
+    simp (sym c.pair_entry.ensures ∙ c.in-Ok.is, c.if-later.true) c.part.ensures
 
 pub returns : goal.returns
 unfolding fetched_of bytes_over
 returns c =
-    simp (sym c.pair_entry.ensures ∙ c.in-In.is, c.if-later.false) c.part-2.ensures
+    simp (sym c.pair_entry.ensures ∙ c.in-Ok.is, c.if-later.false) c.part-2.ensures

@@ -22,10 +22,7 @@ overflow_mul-start c =
     omega (arith, far octet c.requires.0)
 
 pub loop-i-init : goal.loop-i-init
-loop-i-init c = (omega arith, refl, refl)
-
-pub bounds-columns-i : goal.bounds-columns-i
-bounds-columns-i c = omega arith
+loop-i-init c = (refl, refl)
 
 pub overflow_cast-columns : goal.overflow_cast-columns
 overflow_cast-columns c = omega (arith, c.type_inv.columns c.loop-i.i)
@@ -34,15 +31,6 @@ pub overflow_add-start : goal.overflow_add-start
 overflow_add-start c =
     let octet : c.args.row < 256 = omega (arith, c.ranges) in
     omega (arith, far octet c.requires.0, c.type_inv.columns c.loop-i.i)
-
-pub bounds-out-i : goal.bounds-out-i
-bounds-out-i c = omega (arith, c.requires.1)
-
-pub overflow_add-i : goal.overflow_add-i
-overflow_add-i c = omega arith
-
-pub loop-i-smaller : goal.loop-i-smaller
-loop-i-smaller c = omega arith
 
 pub loop-i-preserved : goal.loop-i-preserved
 loop-i-preserved c =
@@ -55,9 +43,9 @@ loop-i-preserved c =
     let room : now.i < length old = omega (arith, c.requires.1) in
     let same : c.octet.result ≡ get_or line now.i 0 = c.octet.ensures ∙ sym (line_at c.args.n c.args.table.now c.args.row columns now.i inside) in
     let next : set now.out now.i c.octet.result ≡ take (now.i + 1) line ++ drop (now.i + 1) old =
-    ap (λ (x : ℕ). set now.out now.i x) same ∙ ap (λ (l : List ℕ). set l now.i (get_or line now.i 0)) now.invariant.2
+    ap (λ (x : ℕ). set now.out now.i x) same ∙ ap (λ (l : List ℕ). set l now.i (get_or line now.i 0)) now.invariant.1
     ∙ rw add-one (copy-next line old now.i (omega (arith, long)) room) in
-    (omega arith, simp length-set now.invariant.1, next)
+    (simp length-set now.invariant.0, next)
 
 pub shape_of-out : goal.shape_of-out
 shape_of-out c = omega arith
@@ -69,4 +57,4 @@ returns c =
     let all : c.loop-i.i ≡ length columns = omega arith in
     let long : length columns ≡ length line = sym (line-long c.args.n c.args.table.now c.args.row columns) in
     let whole : take (length columns) line ≡ line = ap (λ (k : ℕ). take k line) long ∙ take-length line in
-    c.loop-i.invariant.2 ∙ ap (λ (k : ℕ). take k line ++ drop k c.args.out.now) all ∙ ap (λ (l : List ℕ). l ++ drop (length columns) c.args.out.now) whole
+    c.loop-i.invariant.1 ∙ ap (λ (k : ℕ). take k line ++ drop k c.args.out.now) all ∙ ap (λ (l : List ℕ). l ++ drop (length columns) c.args.out.now) whole

@@ -1,4 +1,3 @@
-use Prim.Native.Nat.{◌-◌, ◌≤◌}
 use mathlib.Core.Path.{◌≡◌}
 use mathlib.Core.List.{◌++◌}
 use lib.ListN.{length, take, drop}
@@ -7,7 +6,4 @@ use Rattle.room.proofs.cutting.cut_line.Given as goal
 
 abbrev pub invariant-loop-i : goal.invariant-loop-i
 invariant-loop-i l =
-    (l.i ≤ length l.columns) × (length l.out ≡ length l.initial.out) × (l.out ≡ take l.i (cut_line l.n l.table l.row l.columns) ++ drop l.i l.initial.out)
-
-abbrev pub decreases-loop-i : goal.decreases-loop-i
-decreases-loop-i l = length l.columns - l.i
+    (length l.out ≡ length l.initial.out) × (l.out ≡ take l.i (cut_line l.n l.table l.row l.columns) ++ drop l.i l.initial.out)

@@ -1,13 +1,7 @@
-use Prim.Native.Nat.{◌-◌}
-use mathlib.Core.Path.{◌≡◌}
-use Rattle.image.specs.Index.{version_in}
+use Rattle.image.specs.Index.{entry_count}
 use Rattle.image.proofs.Choosing.{Turn}
 use Rattle.room.specs.Kept.{stays}
 use Rattle.room.proofs.keeping.kept_places.Given as goal
 
-abbrev pub invariant-loop-next : goal.invariant-loop-next
-invariant-loop-next l =
-    (l.version ≡ version_in l.image) × Turn l.image l.entries (stays l.moment) l.places l.count l.next
-
-abbrev pub decreases-loop-next : goal.decreases-loop-next
-decreases-loop-next l = l.entries - l.next
+abbrev pub invariant-loop-place : goal.invariant-loop-place
+invariant-loop-place l = Turn l.image (entry_count l.image) (stays l.moment) l.places l.count l.place

@@ -13,10 +13,10 @@ returns-then-out-places c =
 
 pub record_all-requires : goal.record_all-requires
 record_all-requires c =
-    (c.if-places-gt96.false, c.if-out-places.false, paths c.search-marks.ensures)
+    (c.if-places-gt96.false, c.if-out-places.false, paths c.search.ensures)
 
 pub returns : goal.returns
 returns c =
     let a = c.args in
     all-recorded a.places a.roles.now _ c.if-places-gt96.false c.if-out-places.false
-    (c.record_all.ensures _ c.search-marks.ensures)
+    (c.record_all.ensures _ c.search.ensures)

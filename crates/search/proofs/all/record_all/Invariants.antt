@@ -1,4 +1,4 @@
-use Prim.Native.Nat.{ℕ, ◌-◌, ◌≤◌}
+use Prim.Native.Nat.{ℕ}
 use mathlib.Core.Path.{◌≡◌}
 use mathlib.Core.Bool.{Bool}
 use lib.ListN.{length}
@@ -8,11 +8,8 @@ use Rattle.search.specs.Queue.{QueueTables}
 use Rattle.search.proofs.RecordsPut.{SoFar}
 use Rattle.search.proofs.all.record_all.Given as goal
 
-abbrev pub invariant-loop-done : goal.invariant-loop-done
-invariant-loop-done l =
-    (l.done ≤ l.places) × (length l.out ≡ length l.initial.out)
+abbrev pub invariant-loop-place : goal.invariant-loop-place
+invariant-loop-place l =
+    (length l.out ≡ length l.initial.out)
     × ((step : ℕ → ℕ → Bool) → QueueTables l.places (followed l.places (graph_by l.places l.roles step)) l.parent l.distance
-    → SoFar (graph_by l.places l.roles step) l.places l.initial.out l.out l.done)
-
-abbrev pub decreases-loop-done : goal.decreases-loop-done
-decreases-loop-done l = l.places - l.done
+    → SoFar (graph_by l.places l.roles step) l.places l.initial.out l.out l.place)

@@ -1,4 +1,4 @@
-use Prim.Native.Nat.{◌-◌, ◌≤◌}
+use Prim.Native.Nat.{◌≤◌}
 use mathlib.Core.Path.{◌≡◌}
 use lib.ListN.{length}
 use Rattle.usable.specs.Rows.{flag, counted_of}
@@ -7,7 +7,4 @@ use Rattle.usable.proofs.counting.counting_lists.Given as goal
 
 abbrev pub invariant-loop-list : goal.invariant-loop-list
 invariant-loop-list l =
-    (l.places ≤ 96) × (l.list ≤ l.places) × (length l.counting ≡ 96) × Upto 0 (λ c. flag (counted_of l.places l.table l.rows c)) l.counting l.list
-
-abbrev pub decreases-loop-list : goal.decreases-loop-list
-decreases-loop-list l = l.places - l.list
+    (l.places ≤ 96) × (length l.counting ≡ 96) × Upto 0 (λ c. flag (counted_of l.places l.table l.rows c)) l.counting l.list

@@ -7,7 +7,11 @@ use borrow.Author.Count.{below_more}
 use Rattle.usable.specs.Rows.{same_letters}
 use Rattle.usable.proofs.RowLaws.{vouched-there, vouched-none, vouched-passed, vouched-unfit, vouched-foreign}
 use Rattle.usable.proofs.counting.vouched.Goals as goal
-use Rattle.usable.proofs.counting.vouched.Goals.{then-standing_at-eq1+then-octet-eq1+else-same_letters, then-standing_at-eq1+else-octet-eq1, else-standing_at-eq1}
+use Rattle.usable.proofs.counting.vouched.Goals.{
+  else-standing_at-eq1-via-then-standing_at-eq1+then-octet-eq1+else-same_letters,
+  else-standing_at-eq1-via-then-standing_at-eq1+else-octet-eq1,
+  else-standing_at-eq1-via-else-standing_at-eq1,
+}
 
 -- the octet of an anchor and the CRL in the table
 near : (anchor places list : ℕ) → places ≤ 96 → list < places → anchor < places → anchor * places + list < 10000
@@ -15,7 +19,7 @@ near anchor places list small inside h =
     let most : anchor * places ≤ 96 * 96 = mul-le-mul {n₂ = 96} {m₂ = 96} (omega arith) small in omega (arith, most)
 
 pub loop-anchor-init : goal.loop-anchor-init
-loop-anchor-init c = (c.requires.0, c.requires.1, omega arith, λ i h. absurd (omega arith))
+loop-anchor-init c = (c.requires.0, c.requires.1, λ i h. absurd (omega arith))
 
 pub standing_at-requires : goal.standing_at-requires
 standing_at-requires c = omega (arith, c.loop-anchor.invariant.0, c.loop-anchor-test.true)
@@ -41,12 +45,6 @@ returns-then-same_letters c =
     (ap₂ same_letters (sym c.row_at.ensures) (sym c.row_at-then-octet-eq1.ensures)
     ∙ sym c.same_letters.ensures ∙ c.if-same_letters.true)
 
-pub overflow_add-anchor-in-loop-anchor : goal.overflow_add-anchor-in-loop-anchor
-overflow_add-anchor-in-loop-anchor c = omega (arith, c.loop-anchor.invariant.0, c.loop-anchor-test.true)
-
-pub loop-anchor-smaller : goal.loop-anchor-smaller
-loop-anchor-smaller c = omega (arith, c.loop-anchor-test.true)
-
 pub loop-anchor-preserved : goal.loop-anchor-preserved
 loop-anchor-preserved c =
     let known = c.loop-anchor.invariant in
@@ -54,18 +52,17 @@ loop-anchor-preserved c =
     let standing = c.standing_at.ensures in (
       known.0,
       known.1,
-      omega (arith, c.loop-anchor-test.true),
-      below_more _ anchor known.3
-          (elim c.if-standing_at-eq1.branch [
-            | then-standing_at-eq1+then-octet-eq1+else-same_letters w ↦
+      below_more _ anchor known.2
+          (elim c.else-standing_at-eq1.branch [
+            | else-standing_at-eq1-via-then-standing_at-eq1+then-octet-eq1+else-same_letters w ↦
                 vouched-foreign _ _ _ _ anchor standing w.if-standing_at-eq1.true w.octet.ensures w.if-octet-eq1.true
                 (ap₂ same_letters (sym w.row_at.ensures) (sym w.row_at-then-octet-eq1.ensures)
                 ∙ sym w.same_letters.ensures ∙ w.if-same_letters.false)
-            | then-standing_at-eq1+else-octet-eq1 w ↦
+            | else-standing_at-eq1-via-then-standing_at-eq1+else-octet-eq1 w ↦
                 vouched-passed _ _ _ _ anchor standing w.if-standing_at-eq1.true w.octet.ensures w.if-octet-eq1.false
-            | else-standing_at-eq1 w ↦ vouched-unfit _ _ _ _ anchor standing w.if-standing_at-eq1.false
+            | else-standing_at-eq1-via-else-standing_at-eq1 w ↦ vouched-unfit _ _ _ _ anchor standing w.if-standing_at-eq1.false
           ]),
     )
 
 pub returns : goal.returns
-returns c = vouched-none _ _ _ _ (λ i h. c.loop-anchor.invariant.3 i (omega (arith, c.loop-anchor-test.false)))
+returns c = vouched-none _ _ _ _ (λ i h. c.loop-anchor.invariant.2 i (omega (arith, c.loop-anchor-test.false)))

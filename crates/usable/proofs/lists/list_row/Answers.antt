@@ -11,14 +11,14 @@ returns-in_default c kind flags first second = rw (sym c.judge.ensures ∙ c.in_
 
 pub returns-then-moment-f : goal.returns-then-moment-f
 unfolding list_row blank within
-returns-then-moment-f c kind flags first second = rw (sym c.judge.ensures ∙ c.in-Passed.is, lt-leb _ _ c.if-moment-f.true)
+returns-then-moment-f c kind flags first second = rw (sym c.judge.ensures ∙ c.in-Ok.is, lt-leb _ _ c.if-moment-f.true)
 
 pub returns-then-f-moment : goal.returns-then-f-moment
 unfolding list_row blank within
 returns-then-f-moment c kind flags first second =
-    rw (sym c.judge.ensures ∙ c.in-Passed.is, le-leb _ _ c.if-moment-f.false, lt-leb _ _ c.if-f-moment.true)
+    rw (sym c.judge.ensures ∙ c.in-Ok.is, le-leb _ _ c.if-moment-f.false, lt-leb _ _ c.if-f-moment.true)
 
 pub returns : goal.returns
 unfolding list_row within
 returns c kind flags first second =
-    rw (sym c.judge.ensures ∙ c.in-Passed.is, le-leb _ _ c.if-moment-f.false, le-leb _ _ c.if-f-moment.false)
+    rw (sym c.judge.ensures ∙ c.in-Ok.is, le-leb _ _ c.if-moment-f.false, le-leb _ _ c.if-f-moment.false)

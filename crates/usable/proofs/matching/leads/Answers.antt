@@ -7,6 +7,6 @@ pub returns-then-role-eq1 : goal.returns-then-role-eq1
 unfolding leads_of
 returns-then-role-eq1 c = simp (eq-eqb _ _ c.if-role-eq1.true)
 
-pub returns : goal.returns
+pub returns-else-role-eq1 : goal.returns-else-role-eq1
 unfolding leads_of
-returns c = simp (ne_eqb _ _ c.if-role-eq1.false)
+returns-else-role-eq1 c = simp (ne_eqb _ _ c.if-role-eq1.false)

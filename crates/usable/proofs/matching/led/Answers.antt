@@ -7,6 +7,6 @@ pub returns-then-role-eq2 : goal.returns-then-role-eq2
 unfolding led_of
 returns-then-role-eq2 c = simp (eq-eqb _ _ c.if-role-eq2.true)
 
-pub returns : goal.returns
+pub returns-else-role-eq2 : goal.returns-else-role-eq2
 unfolding led_of
-returns c = simp (ne_eqb _ _ c.if-role-eq2.false)
+returns-else-role-eq2 c = simp (ne_eqb _ _ c.if-role-eq2.false)

@@ -1,6 +1,6 @@
 -- One slot more is filled, with the role that was known or the one that the CRLs leave.
 use Prim.Native.Nat.{◌<◌}
-use mathlib.Core.Path.{refl}
+use mathlib.Core.Path.{refl, ◌∙◌}
 use native.Mathlib.Omega.{arith}
 use lib.ListN.{length, length-set}
 use Rattle.usable.proofs.Slots.{empty-slots, slot-set}
@@ -17,7 +17,6 @@ first_list-first-requires c = omega (arith, c.if-places-gt96.false)
 pub loop-place-init : goal.loop-place-init
 loop-place-init c = (
   omega (arith, c.if-places-gt96.false),
-  omega arith,
   refl,
   c.first_list-first.ensures.0,
   c.first_list-first.ensures.1,
@@ -35,39 +34,26 @@ bounds-more-place c = omega (arith, c.loop-place.invariant.0, c.loop-place-test.
 
 pub role_at-requires : goal.role_at-requires
 role_at-requires c =
-    (c.loop-place.invariant.0, omega (arith, c.loop-place.invariant.0, c.loop-place-test.true), c.loop-place.invariant.3, c.loop-place.invariant.4)
-
-pub bounds-more-place-else-before-place-eq1 : goal.bounds-more-place-else-before-place-eq1
-bounds-more-place-else-before-place-eq1 c = omega (arith, c.loop-place.invariant.0, c.loop-place-test.true)
-
-pub overflow_add-place : goal.overflow_add-place
-overflow_add-place c = omega (arith, c.loop-place.invariant.0, c.loop-place-test.true)
-
-pub loop-place-smaller : goal.loop-place-smaller
-loop-place-smaller c = omega (arith, c.loop-place-test.true)
+    (c.loop-place.invariant.0, omega (arith, c.loop-place.invariant.0, c.loop-place-test.true), c.loop-place.invariant.2, c.loop-place.invariant.3)
 
 pub loop-place-preserved : goal.loop-place-preserved
 loop-place-preserved c =
     let known = c.loop-place.invariant in
     let inside = c.loop-place-test.true in
-    let room : c.loop-place.place < length c.loop-place.more = omega (arith, known.0, known.2, inside) in (
+    let room : c.loop-place.place < length c.loop-place.more = omega (arith, known.0, known.1, inside) in (
       known.0,
-      omega (arith, inside),
-      elim c.if-before-place-eq1.branch [
-        | then-before-place-eq1 w ↦ rw (w.more-is, length-set) known.2
-        | else-before-place-eq1 w ↦ rw (w.more-is, length-set) known.2
-      ],
+      rw length-set known.1,
+      known.2,
       known.3,
-      known.4,
-      elim c.if-before-place-eq1.branch [
-        | then-before-place-eq1 w ↦ rw w.more-is (slot-set known.5 room (role_kept _ _ _ _ _ _ _ refl w.if-before-place-eq1.true))
-        | else-before-place-eq1 w ↦
-            rw w.more-is (slot-set known.5 room (role-fresh _ _ _ _ _ _ _ w.role_at.ensures w.if-before-place-eq1.false))
-      ],
+      slot-set known.4 room
+          (elim c.if-before-place-eq1.branch [
+            | then-before-place-eq1 w ↦ w.more-is ∙ role_kept _ _ _ _ _ _ _ refl w.if-before-place-eq1.true
+            | else-before-place-eq1 w ↦ w.more-is ∙ role-fresh _ _ _ _ _ _ _ w.role_at.ensures w.if-before-place-eq1.false
+          ]),
     )
 
 pub returns : goal.returns
 returns c = (
-  (λ few. λ k h. c.loop-place.invariant.5.before k (omega (arith, c.loop-place-test.false))),
+  (λ few. λ k h. c.loop-place.invariant.4.before k (omega (arith, c.loop-place-test.false))),
   (λ many. absurd (omega (arith, c.loop-place.invariant.0))),
 )

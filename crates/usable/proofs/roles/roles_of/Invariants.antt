@@ -1,4 +1,4 @@
-use Prim.Native.Nat.{ℕ, ◌-◌, ◌≤◌, ◌<◌}
+use Prim.Native.Nat.{ℕ, ◌≤◌, ◌<◌}
 use mathlib.Core.Path.{◌≡◌}
 use lib.ListN.{length, get_or}
 use Rattle.usable.specs.Rows.{held_in, role_in}
@@ -7,8 +7,5 @@ use Rattle.usable.proofs.roles.roles_of.Given as goal
 
 abbrev pub invariant-loop-place : goal.invariant-loop-place
 invariant-loop-place l =
-    (l.places ≤ 96) × (l.place ≤ l.places) × (length l.more ≡ 96) × (l.first ≤ l.places) × ((c : ℕ) → c < l.first → get_or l.counting c 0 ≡ 1 → ⊥)
+    (l.places ≤ 96) × (length l.more ≡ 96) × (l.first ≤ l.places) × ((c : ℕ) → c < l.first → get_or l.counting c 0 ≡ 1 → ⊥)
     × Upto 0 (role_in (held_in l.octets) l.places l.before l.rows l.counting l.roles) l.more l.place
-
-abbrev pub decreases-loop-place : goal.decreases-loop-place
-decreases-loop-place l = l.places - l.place

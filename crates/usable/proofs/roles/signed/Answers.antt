@@ -7,6 +7,6 @@ pub returns-then-row-eq2 : goal.returns-then-row-eq2
 unfolding signed_of
 returns-then-row-eq2 c = simp (eq-eqb _ _ c.if-row-eq2.true)
 
-pub returns : goal.returns
+pub returns-else-row-eq2 : goal.returns-else-row-eq2
 unfolding signed_of
-returns c = simp (ne_eqb _ _ c.if-row-eq2.false)
+returns-else-row-eq2 c = simp (ne_eqb _ _ c.if-row-eq2.false)

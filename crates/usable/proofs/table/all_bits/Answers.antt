@@ -1,36 +1,21 @@
 -- The largest octet read so far is a bit, and those left decide.
 use mathlib.Core.Bool.{and-true}
 use mathlib.Core.Path.{refl, sym, ◌∙◌}
-use native.Mathlib.Omega.{arith}
-use lib.ListN.{drop_of_length-le}
+use lib.ListN.{get_or, drop_of_length-le}
 use Rattle.usable.specs.Table.{bits}
-use Rattle.usable.proofs.Bits.{bits-more, larger-is, larger-was}
+use Rattle.usable.proofs.Bits.{bits-more, larger}
 use Rattle.usable.proofs.table.all_bits.Goals as goal
-use Rattle.usable.proofs.table.all_bits.Goals.{then-most-octet, else-most-octet}
 
-pub loop-i-init : goal.loop-i-init
-loop-i-init c = (omega arith, refl)
+pub loop-octet-init : goal.loop-octet-init
+loop-octet-init c = refl
 
-pub bounds-table-i : goal.bounds-table-i
-bounds-table-i c = omega arith
-
-pub overflow_add-i : goal.overflow_add-i
-overflow_add-i c = omega arith
-
-pub loop-i-smaller : goal.loop-i-smaller
-loop-i-smaller c = omega arith
-
-pub loop-i-preserved : goal.loop-i-preserved
-loop-i-preserved c = (
-  omega arith,
-  bits-more c.loop-i.most c.if-most-octet.most c.args.table.now c.loop-i.i c.loop-i-test.true
-      (elim c.if-most-octet.branch [
-        | then-most-octet w ↦ rw w.most-is (larger-is _ _ w.if-most-octet.true)
-        | else-most-octet w ↦ rw w.most-is (larger-was _ _ w.if-most-octet.false)
-      ])
-      ∙ c.loop-i.invariant.1,
-)
+pub loop-octet-preserved : goal.loop-octet-preserved
+loop-octet-preserved c =
+    let l = c.loop-octet in
+    bits-more l.most c.max-most.result c.args.table.now l.octet-index c.loop-octet-test.true
+    (rw c.max-most.ensures (larger l.most (get_or c.args.table.now l.octet-index 0)))
+    ∙ l.invariant
 
 pub returns : goal.returns
 unfolding bits
-returns c = let none = drop_of_length-le c.args.table.now c.loop-i-test.false in sym (and-true _) ∙ (rw none at c.loop-i.invariant.1)
+returns c = let none = drop_of_length-le c.args.table.now c.loop-octet-test.false in sym (and-true _) ∙ (rw none at c.loop-octet.invariant)

@@ -3,11 +3,11 @@ use mathlib.Core.Path.{sym, ◌∙◌}
 use Rattle.vrbolist.specs.Told.{certificate_told}
 use Rattle.vrbolist.proofs.certificates.vrbolist_certificate.Goals as goal
 
-pub returns-in-Passed : goal.returns-in-Passed
+pub returns-in-Ok : goal.returns-in-Ok
 unfolding certificate_told
-returns-in-Passed c = rw (sym c.judge.ensures ∙ c.in-Passed.is) c.passed.ensures
+returns-in-Ok c = rw (sym c.judge.ensures ∙ c.in-Ok.is) c.passed.ensures
 
-pub returns-in-Refused : goal.returns-in-Refused
+pub returns-in-Err : goal.returns-in-Err
 unfolding certificate_told
-returns-in-Refused c =
-    rw (sym c.judge.ensures ∙ c.in-Refused.is, c.number.ensures, c.detail.ensures)
+returns-in-Err c =
+    rw (sym c.judge.ensures ∙ c.in-Err.is, c.number.ensures, c.detail.ensures)

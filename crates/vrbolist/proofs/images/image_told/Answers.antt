@@ -2,10 +2,10 @@
 use Rattle.vrbolist.specs.Told.{image_told}
 use Rattle.vrbolist.proofs.images.image_told.Goals as goal
 
-pub returns-in-Image : goal.returns-in-Image
+pub returns-in-Ok : goal.returns-in-Ok
 unfolding image_told
-returns-in-Image c = rw c.in-Image.is
+returns-in-Ok c = rw c.in-Ok.is
 
-pub returns-in-Refused : goal.returns-in-Refused
+pub returns-in-Err : goal.returns-in-Err
 unfolding image_told
-returns-in-Refused c = rw (c.in-Refused.is, c.number.ensures, c.detail.ensures)
+returns-in-Err c = rw (c.in-Err.is, c.number.ensures, c.detail.ensures)

@@ -3,11 +3,11 @@ use mathlib.Core.Path.{sym, ◌∙◌}
 use Rattle.vrbolist.specs.Told.{entry_told}
 use Rattle.vrbolist.proofs.images.vrbolist_entry.Goals as goal
 
-pub returns-in-Is : goal.returns-in-Is
+pub returns-in-Ok : goal.returns-in-Ok
 unfolding entry_told
-returns-in-Is c = rw (sym c.entry.ensures ∙ c.in-Is.is)
+returns-in-Ok c = rw (sym c.entry.ensures ∙ c.in-Ok.is)
 
-pub returns-in-Refused : goal.returns-in-Refused
+pub returns-in-Err : goal.returns-in-Err
 unfolding entry_told
-returns-in-Refused c =
-    rw (sym c.entry.ensures ∙ c.in-Refused.is, c.number.ensures, c.detail.ensures)
+returns-in-Err c =
+    rw (sym c.entry.ensures ∙ c.in-Err.is, c.number.ensures, c.detail.ensures)

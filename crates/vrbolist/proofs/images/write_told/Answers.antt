@@ -2,10 +2,10 @@
 use Rattle.vrbolist.specs.Told.{write_told}
 use Rattle.vrbolist.proofs.images.write_told.Goals as goal
 
-pub returns-in-Length : goal.returns-in-Length
+pub returns-in-Ok : goal.returns-in-Ok
 unfolding write_told
-returns-in-Length c = rw c.in-Length.is
+returns-in-Ok c = rw c.in-Ok.is
 
-pub returns-in-Refused : goal.returns-in-Refused
+pub returns-in-Err : goal.returns-in-Err
 unfolding write_told
-returns-in-Refused c = rw (c.in-Refused.is, c.number.ensures, c.detail.ensures)
+returns-in-Err c = rw (c.in-Err.is, c.number.ensures, c.detail.ensures)

@@ -4,10 +4,10 @@ use mir.Syntax.{w64}
 use mir.ValLaws.{to_z-of_z}
 use Rattle.vrbolist.proofs.items.days_told.Goals as goal
 
-pub returns-in-Days : goal.returns-in-Days
+pub returns-in-Ok : goal.returns-in-Ok
 unfolding days_told
-returns-in-Days c = rw (c.in-Days.is, to_z-of_z w64 c.in-Days.days (record { sfits = c.in-Days.known_told-1-own.given.0.1 }))
+returns-in-Ok c = rw (c.in-Ok.is, to_z-of_z w64 c.in-Ok.days (record { sfits = c.in-Ok.known_told-1-own.given.0.1 }))
 
-pub returns-in-Refused : goal.returns-in-Refused
+pub returns-in-Err : goal.returns-in-Err
 unfolding days_told
-returns-in-Refused c = rw (c.in-Refused.is, c.number.ensures, c.detail.ensures)
+returns-in-Err c = rw (c.in-Err.is, c.number.ensures, c.detail.ensures)

@@ -5,11 +5,11 @@ use mir.Syntax.{w64}
 use mir.ValLaws.{to_z-of_z}
 use Rattle.vrbolist.proofs.items.vrbolist_integer.Goals as goal
 
-pub returns-in-Value : goal.returns-in-Value
+pub returns-in-Ok : goal.returns-in-Ok
 unfolding integer_told
-returns-in-Value c = rw (sym c.integer.ensures ∙ c.in-Value.is, to_z-of_z w64 c.in-Value.value (record { sfits = c.in-Value.known_told-1-own.given.0.1 }))
+returns-in-Ok c = rw (sym c.integer.ensures ∙ c.in-Ok.is, to_z-of_z w64 c.in-Ok.value (record { sfits = c.in-Ok.known_told-1-own.given.0.1 }))
 
-pub returns-in-Refused : goal.returns-in-Refused
+pub returns-in-Err : goal.returns-in-Err
 unfolding integer_told
-returns-in-Refused c =
-    rw (sym c.integer.ensures ∙ c.in-Refused.is, c.number.ensures, c.detail.ensures)
+returns-in-Err c =
+    rw (sym c.integer.ensures ∙ c.in-Err.is, c.number.ensures, c.detail.ensures)

@@ -3,11 +3,11 @@ use mathlib.Core.Path.{sym, ◌∙◌}
 use Rattle.vrbolist.specs.Told.{walk_told}
 use Rattle.vrbolist.proofs.items.vrbolist_walk.Goals as goal
 
-pub returns-in-Passed : goal.returns-in-Passed
+pub returns-in-Ok : goal.returns-in-Ok
 unfolding walk_told
-returns-in-Passed c = rw (sym c.walk.ensures.answer ∙ c.in-Passed.is)
+returns-in-Ok c = rw (sym c.walk.ensures.answer ∙ c.in-Ok.is)
 
-pub returns-in-Refused : goal.returns-in-Refused
+pub returns-in-Err : goal.returns-in-Err
 unfolding walk_told
-returns-in-Refused c =
-    rw (sym c.walk.ensures.answer ∙ c.in-Refused.is, c.number.ensures, c.detail.ensures)
+returns-in-Err c =
+    rw (sym c.walk.ensures.answer ∙ c.in-Err.is, c.number.ensures, c.detail.ensures)

@@ -2,10 +2,10 @@
 use Rattle.vrbolist.specs.Proposals.{proposal_told}
 use Rattle.vrbolist.proofs.proposals.proposal_told.Goals as goal
 
-pub returns-in-Accepted : goal.returns-in-Accepted
+pub returns-in-Ok : goal.returns-in-Ok
 unfolding proposal_told
-returns-in-Accepted c = rw c.in-Accepted.is
+returns-in-Ok c = rw c.in-Ok.is
 
-pub returns-in-Refused : goal.returns-in-Refused
+pub returns-in-Err : goal.returns-in-Err
 unfolding proposal_told
-returns-in-Refused c = rw (c.in-Refused.is, c.number.ensures, c.detail.ensures)
+returns-in-Err c = rw (c.in-Err.is, c.number.ensures, c.detail.ensures)

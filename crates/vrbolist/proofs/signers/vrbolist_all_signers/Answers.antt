@@ -2,12 +2,12 @@
 use Rattle.vrbolist.specs.Signers.{signers_told, forwarded}
 use Rattle.vrbolist.proofs.signers.vrbolist_all_signers.Goals as goal
 
-pub returns-in-Length : goal.returns-in-Length
+pub returns-in-Ok : goal.returns-in-Ok
 unfolding signers_told
-returns-in-Length c =
-    forwarded _ c.all_signers.ensures (rw c.in-Length.is)
+returns-in-Ok c =
+    forwarded _ c.all_signers.ensures (rw c.in-Ok.is)
 
-pub returns-in-Refused : goal.returns-in-Refused
+pub returns-in-Err : goal.returns-in-Err
 unfolding signers_told
-returns-in-Refused c =
-    forwarded _ c.all_signers.ensures (rw (c.in-Refused.is, c.number.ensures, c.detail.ensures))
+returns-in-Err c =
+    forwarded _ c.all_signers.ensures (rw (c.in-Err.is, c.number.ensures, c.detail.ensures))

@@ -3,12 +3,12 @@ use mathlib.Core.Path.{sym, ◌∙◌}
 use Rattle.vrbolist.specs.Told.{letters_told}
 use Rattle.vrbolist.proofs.versions.vrbolist_letters.Goals as goal
 
-pub returns-in-Told : goal.returns-in-Told
+pub returns-in-Ok : goal.returns-in-Ok
 unfolding letters_told
-returns-in-Told c =
-    rw (sym c.letters_true.ensures ∙ c.in-Told.is, c.one_if.ensures)
+returns-in-Ok c =
+    rw (sym c.letters_true.ensures ∙ c.in-Ok.is, c.one_if.ensures)
 
-pub returns-in-Refused : goal.returns-in-Refused
+pub returns-in-Err : goal.returns-in-Err
 unfolding letters_told
-returns-in-Refused c =
-    rw (sym c.letters_true.ensures ∙ c.in-Refused.is, c.number.ensures, c.detail.ensures)
+returns-in-Err c =
+    rw (sym c.letters_true.ensures ∙ c.in-Err.is, c.number.ensures, c.detail.ensures)
