@@ -34,6 +34,21 @@ def functions(text):
         yield m.group(2), text[start:end_head], text[end_head:close.end()]
 
 
+def each():
+    """Every function of the sources: its place and name, its text before it, its head, its body."""
+    for path in files():
+        text = open(path).read()
+        for name, head, body in functions(text):
+            yield f'{crate(path)}: {name}', text[:text.index(head)], head, body
+
+
+def structs(kind):
+    """Every struct or enum of the sources: its place and name, what stands in it."""
+    for path in files():
+        for m in re.finditer(kind + r' (\w+)[^{\n]* \{\n(.*?)\n\}', open(path).read(), re.S):
+            yield f'{crate(path)}: {m.group(1)}', m.group(2)
+
+
 def tell(point, name, places):
     print(f'{point:4} {len(places):4}  {name}')
     if VERBOSE:
@@ -42,77 +57,55 @@ def tell(point, name, places):
 
 
 def enums():
-    out = []
-    for f in files():
-        for m in re.finditer(r'enum (\w+) \{\n(.*?)\n\}', open(f).read(), re.S):
-            variants = re.findall(r'^    ([A-Z]\w*)', m.group(2), re.M)
-            if len(variants) == 2:
-                out.append(f'{crate(f)}: {m.group(1)} {variants}')
-    return out
+    found = [(place, re.findall(r'^    ([A-Z]\w*)', inside, re.M)) for place, inside in structs('enum')]
+    return [f'{place} {variants}' for place, variants in found if len(variants) == 2]
 
 
 def sentinels():
     """A contract that tells what a result means by whether it is 0, and a function whose comment says that 0 means none."""
+    clause = re.compile(r'\{ \(?0 < result|0 < result\.|result\.length ≡ 0|\(result ≡ 0\)')
+    words = re.compile(r'(else|and) 0\b|0 (where|beyond|of what|for a month|for any)|; 0 |10000 where|255 where|100\.')
     out = []
-    for f in files():
-        text = open(f).read()
-        for name, head, body in functions(text):
-            at = text.index(head)
-            comment = re.search(r'((?://[^\n]*\n)+)(?: *#\[[^\n]*\]\n)*$', text[:at])
-            said = comment.group(1) if comment else ''
-            if re.search(r'\{ \(?0 < result|0 < result\.|result\.length ≡ 0|\(result ≡ 0\)', head) or re.search(r'(else|and) 0\b|0 (where|beyond|of what|for a month|for any)|; 0 |10000 where|255 where|100\.', said):
-                out.append(f'{crate(f)}: {name}')
+    for place, before, head, _ in each():
+        comment = re.search(r'((?://[^\n]*\n)+)(?: *#\[[^\n]*\]\n)*$', before)
+        if clause.search(head) or comment and words.search(comment.group(1)):
+            out.append(place)
     return out
 
 
 def flags():
-    out = []
-    for f in files():
-        if '/vrbolist/' in f:
-            continue
-        for m in re.finditer(r'struct (\w+)[^{\n]* \{\n(.*?)\n\}', open(f).read(), re.S):
-            if re.search(r'(found|there|outcome): ', m.group(2)):
-                out.append(f'{crate(f)}: {m.group(1)}')
-    return out
+    return [place for place, inside in structs('struct') if not place.startswith('vrbolist/') and re.search(r'(found|there|outcome): ', inside)]
 
 
 def bits():
     """Octets that are 0 or 1 in place of a truth value."""
-    out = []
-    for f in files():
-        for name, head, body in functions(open(f).read()):
-            if re.search(r'-> u8\n', head) and re.search(r'flag |cond \(', head) and re.search(r'return 1;', body):
-                out.append(f'{crate(f)}: {name}')
-    return out
+    return [
+        place
+        for place, _, head, body in each()
+        if re.search(r'-> u8\n', head) and re.search(r'flag |cond \(', head) and re.search(r'return 1;', body)
+    ]
 
 
 def counted_loops():
     out = []
-    for f in files():
-        for name, head, body in functions(open(f).read()):
-            for m in re.finditer(r'^( *)(?:\'\w+: )?while ([^\n]*) \{\n(.*?)\n\1\}', body, re.M | re.S):
-                for x in set(re.findall(r'\b([a-z_]\w*)\b', m.group(2))):
-                    if re.search(rf'^{m.group(1)}    {x} \+= (1|\d+|wide);', m.group(3), re.M):
-                        out.append(f'{crate(f)}: {name}: while {m.group(2)}')
+    for place, _, _, body in each():
+        for m in re.finditer(r'^( *)(?:\'\w+: )?while ([^\n]*) \{\n(.*?)\n\1\}', body, re.M | re.S):
+            for x in set(re.findall(r'\b([a-z_]\w*)\b', m.group(2))):
+                if re.search(rf'^{m.group(1)}    {x} \+= (1|\d+|wide);', m.group(3), re.M):
+                    out.append(f'{place}: while {m.group(2)}')
     return out
+
+
+HANDED = (
+    r'else \{\n\s*return (?:None|\w+::(?:Missing|Formless|Broken|Frontless|Backless|Timeless|Unfit|Shapeless|Absent|Bad|Nothing));\n\s*\};',
+    r'(?:\w+::)?(?:Refused|Err)\((\w+)\) => (?:return )?(?:\w+::)?(?:Refused|Fault|Err)\(\1\)',
+    r'if let (?:\w+::)?(?:Refused|Err)\((\w+)\) = [^\n]*\{\n\s*return (?:\w+::)?(?:Refused|Err)\(\1\);',
+)
 
 
 def handed_on():
     """Early returns of what `?` hands on."""
-    out = []
-    for f in files():
-        for name, head, body in functions(open(f).read()):
-            result = re.search(r'-> (\w+)', head)
-            if not result:
-                continue
-            for m in re.finditer(r'else \{\n\s*return ([\w:]+(?:\(\w+\))?);\n\s*\};', body):
-                if m.group(1) == 'None' or re.search(r'::(Missing|Formless|Broken|Frontless|Backless|Timeless|Unfit|Shapeless|Absent|Bad|Nothing)$', m.group(1)):
-                    out.append(f'{crate(f)}: {name}')
-            for m in re.finditer(r'(?:\w+::)?(?:Refused|Err)\((\w+)\) => (?:return )?(?:\w+::)?(?:Refused|Fault|Err)\(\1\)', body):
-                out.append(f'{crate(f)}: {name}')
-            for m in re.finditer(r'if let (?:\w+::)?(?:Refused|Err)\((\w+)\) = [^\n]*\{\n\s*return (?:\w+::)?(?:Refused|Err)\(\1\);', body):
-                out.append(f'{crate(f)}: {name}')
-    return out
+    return [place for place, _, head, body in each() if '->' in head for shape in HANDED for _ in re.finditer(shape, body)]
 
 
 def parts(clause):
@@ -138,32 +131,36 @@ def strip(p):
     return p
 
 
+def often(seen):
+    return {what: places for what, places in seen.items() if len(places) >= 3}
+
+
+def ranked(seen, text):
+    return [f'{text(what)}: {len(places)} functions' for what, places in sorted(seen.items(), key=lambda x: -len(x[1]))]
+
+
 def repeated_clauses():
     seen = collections.defaultdict(set)
-    for f in files():
-        for name, head, body in functions(open(f).read()):
-            for m in re.finditer(r'requires [^{\n]*\{ (.*) \}$', head, re.M):
-                for p in parts(m.group(1)):
-                    seen[strip(p)].add(f'{crate(f)}: {name}')
-    return [f'{c}: {len(w)} functions' for c, w in sorted(seen.items(), key=lambda x: -len(x[1])) if len(w) >= 3]
+    for place, _, head, _ in each():
+        for m in re.finditer(r'requires [^{\n]*\{ (.*) \}$', head, re.M):
+            for p in parts(m.group(1)):
+                seen[strip(p)].add(place)
+    return ranked(often(seen), str)
 
 
 def travelling():
-    """Four or more parameters that stand together, by name and type, in three functions or more."""
+    """Four or more parameters that stand together, by name, in three functions or more."""
     seen = collections.defaultdict(set)
-    for f in files():
-        if '/vrbolist/' in f:
-            continue
-        for name, head, body in functions(open(f).read()):
-            args = re.search(r'fn \w+(?:<[^(]*>)?\((.*?)\)(?: ->|\s*$|\n)', head, re.S)
-            if args:
-                ps = tuple(re.findall(r'(\w+): [^,\n]+', args.group(1)))
-                for i in range(len(ps)):
-                    for j in range(i + 4, len(ps) + 1):
-                        seen[ps[i:j]].add(f'{crate(f)}: {name}')
-    groups = {g: w for g, w in seen.items() if len(w) >= 3}
-    best = [g for g in groups if not any(g != h and set(g) <= set(h) and groups[h] >= groups[g] for h in groups)]
-    return [f'{", ".join(g)}: {len(groups[g])} functions' for g in sorted(best, key=lambda g: -len(groups[g]))]
+    for place, _, head, _ in each():
+        args = re.search(r'fn \w+(?:<[^(]*>)?\((.*?)\)(?: ->|\s*$|\n)', head, re.S)
+        if args and not place.startswith('vrbolist/'):
+            names = tuple(re.findall(r'(\w+): [^,\n]+', args.group(1)))
+            for i in range(len(names)):
+                for j in range(i + 4, len(names) + 1):
+                    seen[names[i:j]].add(place)
+    groups = often(seen)
+    whole = {g: w for g, w in groups.items() if not any(g != h and set(g) <= set(h) and groups[h] >= w for h in groups)}
+    return ranked(whole, ', '.join)
 
 
 def long_lines():
