@@ -58,7 +58,9 @@ pub fn judge(item: &[u8], role: u64) -> Result<Fields, Refusal>
 fn profile(item: &[u8], role: u64) -> Result<Fields, Refusal>
     ensures { result ≡ profile_of item.now role }
 {
-    let l = parts_of(item).ok_or(Refusal::Profile { rule: 1 })?;
+    let Some(l) = parts_of(item) else {
+        return Err(Refusal::Profile { rule: 1 });
+    };
     let seen = one_pass(item, l.extensions);
     rule(1, seen.shaped)?;
     let slots = seen.slots;

@@ -27,6 +27,7 @@ fn later(a: u8, b: u8, c: u8) -> bool
 
 // Whether 13 octets are a UTCTime with a day that every year has; false where it does not tell. Minute and second are
 // tested as the date is, and their tens are held to 5 by adding 10.
+#[inline(always)]
 pub(crate) fn usual_utc(c: &[u8]) -> bool
     requires { length c.now ≡ 13 }
     ensures { result ≡ true → UsualTime c.now }

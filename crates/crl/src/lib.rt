@@ -57,7 +57,9 @@ pub fn judge(item: &[u8]) -> Result<Fields, Refusal>
 fn profile(item: &[u8]) -> Result<Fields, Refusal>
     ensures { result ≡ profile_of paper item.now }
 {
-    let l = parts_of(item).ok_or(Refusal::Profile { rule: 1 })?;
+    let Some(l) = parts_of(item) else {
+        return Err(Refusal::Profile { rule: 1 });
+    };
     let own = own_of(item, l.extensions);
     rule(1, own.shaped)?;
     let r = readings_of(item, l);

@@ -57,6 +57,7 @@ fn primitive(s: &[u8], at: usize, end: usize) -> bool
 }
 
 // Whether a universal primitive whose contents are judged has good ones.
+#[inline(always)]
 fn judged(tag: u8, c: &[u8]) -> bool
     ensures { result ≡ true → Leaf tag c.now }
 {

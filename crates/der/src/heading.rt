@@ -14,6 +14,7 @@ pub struct Heading {
     pub size: usize,
 }
 
+#[inline(always)]
 pub(crate) fn header(limits: Limits, s: &[u8]) -> Option<Heading>
     ensures { (forms : Forms) → forms.length_octets ≡ limits.digits → forms.wide_tags ≡ limits.wide → result ≡ heading_of forms s.now }
 {

@@ -46,6 +46,7 @@ pub(crate) fn onward(limits: Limits, s: &[u8], place: Place) -> Option<Place>
 }
 
 // The place after the header of the element at `place`, if it has members, is no SET and ends where the list ends.
+#[inline(never)]
 fn sole(limits: Limits, s: &[u8], place: Place) -> Option<Place>
     requires { (place.at ≤ length s.now) × (length s.now < 2 ^ 32) }
     ensures { IfSome result (λ to. Sole limits s.now place.at place.left place.count to.at to.left to.count) }

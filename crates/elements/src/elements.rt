@@ -32,6 +32,7 @@ pub fn element_at(item: &[u8], from: usize, end: usize) -> Option<Element>
 }
 
 // The same, if it has the tag. Most headers are short: the fast path.
+#[inline(always)]
 pub fn element_tagged(item: &[u8], from: usize, end: usize, tag: usize) -> Option<Element>
     ensures { result ≡ found_tagged paper item.now from end tag }
 {
@@ -59,6 +60,7 @@ fn usual(tag: usize) -> bool
 
 // The same with a header of any kind, which is not read where the first octet is another. It costs less than the fast path and then
 // this, so it is asked for what mostly has a long header.
+#[inline(never)]
 pub fn any_tagged(item: &[u8], from: usize, end: usize, tag: usize) -> Option<Element>
     ensures { result ≡ found_tagged paper item.now from end tag }
 {

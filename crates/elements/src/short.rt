@@ -3,6 +3,7 @@ ghost use Rattle.std.specs.Prelude.{◌≡◌, true, Some};
 ghost use Rattle.elements.specs.Short.{short_end};
 
 // Where the element at `from` ends, before `end`, if it has the tag and a length in the short form.
+#[inline(always)]
 pub fn short_end(item: &[u8], from: usize, end: usize, tag: usize) -> Option<usize>
     ensures { result ≡ short_end item.now from end tag }
 {
