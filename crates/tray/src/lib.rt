@@ -129,18 +129,19 @@ impl Entry {
 }
 
 impl State {
-    // Whether a record is good.
+    // Whether a record is good. Each arm tests the padding: one test before the match would keep the compiler from looking at the
+    // action's octet only once.
     #[tactic(auto, unfolding(crate::specs::Machine::good_record, crate::specs::Machine::allowed))]
     fn good(&self, entry: Entry) -> bool
         ensures { result ≡ good_record self.now entry }
     {
-        entry.padding == 0
-            && match entry.action {
-                Some(Action::Open) => self.opens(entry),
-                Some(Action::Load) => entry.loads(),
-                Some(Action::Burn) => self.burns(entry),
-                None => false,
-            }
+        let zero = entry.padding == 0;
+        match entry.action {
+            Some(Action::Open) => zero && self.opens(entry),
+            Some(Action::Load) => zero && entry.loads(),
+            Some(Action::Burn) => zero && self.burns(entry),
+            None => false,
+        }
     }
 
     #[tactic(auto, unfolding(crate::specs::Machine::opens, crate::specs::Machine::loads))]
