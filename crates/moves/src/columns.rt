@@ -1,6 +1,6 @@
 // The columns of an image's items: what a writer is given beside their octets.
 ghost use Rattle.std.specs.Prelude.{◌≡◌, ℕ, ◌<◌};
-ghost use Rattle.image.specs.Index.{entry_count, entry_in};
+ghost use Rattle.image.specs.Index.{entry_count, entry_in, item_at};
 ghost use Rattle.moves.specs.Moving.{country_for};
 ghost use Rattle.moves.specs.Rows.{Small, Tabled};
 
@@ -26,7 +26,7 @@ pub(crate) fn columns_for(image: &Reading, version: usize) -> Columns
     let mut letters = [0u8; 192];
     for place in 0..image.entries() {
         let e = image.entry(place);
-        let country = country_for(image.item(place), e.kind, version);
+        let country = country_for(image, place, e.kind, version);
         kinds[place] = e.kind as u8;
         flags[place] = e.flags as u8;
         lengths[place] = e.length as u32;
@@ -41,12 +41,12 @@ pub(crate) fn columns_for(image: &Reading, version: usize) -> Columns
     }
 }
 
-// The letters that an item has in a version.
-fn country_for(item: &[u8], kind: usize, version: usize) -> Country
-    ensures { result ≡ country_for version kind item.now }
+// The letters that the item of a place, of a kind, has in a version. Only those of version 2 ask for the item.
+fn country_for(image: &Reading, place: usize, kind: usize, version: usize) -> Country
+    ensures { result ≡ country_for version kind (item_at image.now (entry_in image.now place)).bytes }
 {
     if version == 2 {
-        true_letters(item, kind)
+        true_letters(image.item(place), kind)
     } else {
         NO_COUNTRY
     }

@@ -11,10 +11,10 @@ pub fn same(a: &[u8], b: &[u8]) -> bool
     if n != b.len() {
         return false;
     }
-    if n < 8 {
-        return same_part(a, b);
-    }
     if n < 16 {
+        if n < 8 {
+            return same_part(a, b);
+        }
         return same_part(&a[..8], &b[..8]) && same_part(&a[n - 8..], &b[n - 8..]);
     }
     for block in 0..(n - 1) / 16 {

@@ -1,6 +1,6 @@
 -- Each turn fills the next place of every column.
 use Prim.Native.Nat.{◌<◌}
-use mathlib.Core.Path.{◌≡◌, sym, subst}
+use mathlib.Core.Path.{◌≡◌, refl, sym, subst}
 use native.Mathlib.Omega.{arith}
 use Rattle.image.specs.declared.IndexEntry.{IndexEntry}
 use Rattle.image.specs.Index.{entry_count}
@@ -37,7 +37,7 @@ pub loop-place-preserved : goal.loop-place-preserved
 loop-place-preserved c =
     let there = (goal.at.loop-place-preserved c).After-entry-e in
     let s = c.args.image.now in
-    filled_more c.args.version s c.loop-place.place (inside there) (slot there) c.entry-e.ensures.own (c.requires c.loop-place.place (inside there)) c.item.ensures
+    filled_more c.args.version s c.loop-place.place (inside there) (slot there) c.entry-e.ensures.own (c.requires c.loop-place.place (inside there)) refl
     c.country_for-country.ensures c.loop-place.invariant
 
 pub returns : goal.returns
