@@ -17,7 +17,8 @@ ghost use Rattle.extensions.specs.Extensions.{Viewed};
 
 use elements::Element;
 use marks::mark_of;
-use members::{Met, met_at};
+pub use members::Met;
+use members::met_at;
 pub use outline::{Outline, outline_of};
 use slot::slot_of;
 pub use told::is_there;
