@@ -1,8 +1,9 @@
 // The refusals of the rules paper: what a call answers when it does not pass.
 #![tactic(auto)]
 
-ghost use Rattle.std.specs.Prelude.{◌≡◌};
+ghost use Rattle.std.specs.Prelude.{◌≡◌, Some};
 ghost use Rattle.refusal.specs.Numbers.{number_of, detail_of};
+ghost use Rattle.refusal.specs.Words.{words_of};
 
 use std::fmt;
 
@@ -62,6 +63,8 @@ pub fn detail(refusal: Refusal) -> u64
 
 // The number, and the offset or the rule where the refusal has one.
 impl fmt::Display for Refusal {
+    ghost output = { λ refusal. Some (words_of refusal) };
+
     fn fmt<W: fmt::Write>(&self, f: &mut fmt::Formatter<W>) -> fmt::Result {
         let class = number(*self);
         let told = detail(*self);
