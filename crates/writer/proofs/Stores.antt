@@ -6,7 +6,7 @@ use native.Mathlib.Omega.{arith}
 use borrow.Author.Rules.{part_to_end}
 use borrow.Rule.Slice.PartMut.{put_mid}
 use lib.ListN.{length, get_or, set, take, drop, length-drop, drop_of_length-le}
-use lib.Seq.{drop-cons, take-suc, append_snoc, set_at, take_at, drop_at, drop-drop, length-take-le}
+use lib.Seq.{drop-cons, take-add, take-suc, append_snoc, set_at, take_at, drop_at, drop-drop, length-take-le}
 
 pub set-two : (l : List ℕ) (a b : ℕ) → 2 ≤ length l → set (set l 0 a) 1 b ≡ a ∷ b ∷ drop 2 l
 set-two [] a b h = absurd (omega arith)
@@ -32,6 +32,18 @@ copy-next from old i h g =
     ap (λ (l : List ℕ). set (take i from ++ l) i (get_or from i 0)) (drop-cons old i 0 g)
     ∙ set_at (take i from) (get_or old i 0) (drop (suc i) old) (get_or from i 0) i (length-take-le i from some)
     ∙ sym (ap (λ (l : List ℕ). l ++ drop (suc i) old) (take-suc from i 0 h) ∙ append_snoc (take i from) (get_or from i 0) (drop (suc i) old))
+
+-- a part of k octets from `a` on, written from the other list, after those before it
+pub copy-part :
+    (from old l ys : List ℕ) (a k : ℕ) → a ≤ length from → l ≡ take a from ++ drop a old → ys ≡ take k (drop a from)
+    → put_mid a k l ys ≡ take (a + k) from ++ drop (a + k) old
+copy-part from old l ys a k some before after =
+    let done = take a from in
+    let long = length-take-le a from some in
+    let first : take a l ≡ done = ap (take a) before ∙ take_at done (drop a old) a long in
+    let rest : drop k (drop a l) ≡ drop (a + k) old =
+    ap (λ (t : List ℕ). drop k (drop a t)) before ∙ ap (drop k) (drop_at done (drop a old) a long) ∙ drop-drop k a old in
+    rw (first, rest, after, take-add a k from) (sym (append_assoc done (take k (drop a from)) (drop (a + k) old)))
 
 -- `done` stands before the part, and what the part held from `m` on is as it was
 pub put_next :
