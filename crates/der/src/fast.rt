@@ -169,6 +169,12 @@ fn leaf(s: &[u8], i: usize, end: usize) -> Option<usize>
         }
         return Some(after);
     }
+    if tag == 2 {
+        if end < after || !integer_good(&s[from..after]) {
+            return None;
+        }
+        return Some(after);
+    }
     if unjudged(tag) {
         return Some(after);
     }

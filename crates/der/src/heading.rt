@@ -93,11 +93,12 @@ fn number(c: &[u8]) -> usize
     requires { length c.now ≤ 3 }
     ensures { result ≡ number c.now }
 {
-    let mut n = 0;
-    for &octet in c {
-        n = n * 256 + octet as usize;
+    match *c {
+        [one] => one as usize,
+        [high, low] => high as usize * 256 + low as usize,
+        [first, second, third] => (first as usize * 256 + second as usize) * 256 + third as usize,
+        _ => 0,
     }
-    n
 }
 
 // The smallest length that needs so many octets.

@@ -6,7 +6,7 @@ use native.Mathlib.Omega.{arith}
 use lib.ListN.{length, get_or}
 use Rattle.der.specs.Forms.{Forms}
 use Rattle.der.specs.Fast.{stretch, Reads, Leaf}
-use Rattle.der.proofs.Flat.{leaf-oid, leaf-unjudged, leaf-reads}
+use Rattle.der.proofs.Flat.{leaf-integer, leaf-oid, leaf-unjudged, leaf-reads}
 use Rattle.der.proofs.fast.leaf.Goals as goal
 
 -- a leaf that ends where it may
@@ -25,6 +25,11 @@ pub returns-then-tag-eq6 : goal.returns-then-tag-eq6
 returns-then-tag-eq6 c =
     answer _ _ _ c.requires.0 c.requires.1 c.requires.2 (c.type_inv.s (c.args.i + 1)).fits
     (leaf-oid c.if-tag-eq6.true (sym c.oid_good.ensures ∙ c.if-not-oid_good.false))
+
+pub returns-then-tag-eq2 : goal.returns-then-tag-eq2
+returns-then-tag-eq2 c =
+    answer _ _ _ c.requires.0 c.requires.1 c.requires.2 (c.type_inv.s (c.args.i + 1)).fits
+    (leaf-integer c.if-tag-eq2.true (sym c.integer_good.ensures ∙ c.if-not-integer_good.false))
 
 pub returns-then-unjudged : goal.returns-then-unjudged
 returns-then-unjudged c =

@@ -1,39 +1,26 @@
--- Each octet weighs 256 times less than the one before it, and two octets write less than 256 to the power of 2.
-use Prim.Native.Nat.{◌+◌, ◌*◌, ◌^◌, ◌≤◌, ◌<◌}
-use mathlib.Core.Path.{◌≡◌, refl, ◌∙◌, ap}
-use native.Mathlib.Nat.{pow-suc, pow-le-pow_right}
-use native.Mathlib.Numerals.{add-one}
+-- As many octets as there are, each weighing 256 times less than the one before it.
+use Prim.Native.Nat.{ℕ, ◌≤◌}
+use mathlib.Core.List.{List}
+use mathlib.Core.Path.{◌≡◌, sym, ◌∙◌, ap}
 use native.Mathlib.Omega.{arith}
-use lib.ListN.{get_or, take}
+use lib.ListN.{length, take}
 use lib.Seq.{take_all}
 use Rattle.octets.specs.Octets.{number}
-use Rattle.octets.proofs.Weights.{number-next}
+use Rattle.der.proofs.LengthOctets.{one-octet, two-octets, three-octets}
 use Rattle.der.proofs.heading.number.Goals as goal
-use Rattle.der.proofs.heading.number.Goals.{In-loop-octet}
 
-pub loop-octet-init : goal.loop-octet-init
+whole : (k : ℕ) (c : List ℕ) → length c ≤ k → number (take k c) ≡ number c
+whole k c h = ap number (take_all k c h)
+
+pub returns-in-len1 : goal.returns-in-len1
+returns-in-len1 c = sym (one-octet c.args.c.now 0 (omega arith)) ∙ whole 1 _ (omega arith)
+
+pub returns-in-len2 : goal.returns-in-len2
+returns-in-len2 c = sym (two-octets c.args.c.now 0 (omega arith)) ∙ whole 2 _ (omega arith)
+
+pub returns-in-len3 : goal.returns-in-len3
+returns-in-len3 c = sym (three-octets c.args.c.now 0 (omega arith)) ∙ whole 3 _ (omega arith)
+
+pub returns-in_default : goal.returns-in_default
 unfolding number
-loop-octet-init c = (refl, omega arith)
-
-room : (c : In-loop-octet) → c.loop-octet.n < 65536
-room c =
-    let two : c.loop-octet.octet-index ≤ 2 = omega arith in
-    let power : 256 ^ c.loop-octet.octet-index ≤ 256 ^ 2 = pow-le-pow_right (omega arith) two in
-    omega arith
-
-pub overflow_mul-n : goal.overflow_mul-n
-overflow_mul-n c = omega (arith, room (goal.at.overflow_mul-n c).In-loop-octet)
-
-pub overflow_add-n : goal.overflow_add-n
-overflow_add-n c = omega (arith, room (goal.at.overflow_add-n c).In-loop-octet, c.type_inv.c c.loop-octet.octet-index)
-
-pub loop-octet-preserved : goal.loop-octet-preserved
-loop-octet-preserved c =
-    let i = c.loop-octet.octet-index in
-    let next : number (take (i + 1) c.args.c.now) ≡ number (take i c.args.c.now) * 256 + get_or c.args.c.now i 0 =
-    rw add-one (number-next c.args.c.now i c.loop-octet-test.true) in
-    let power : 256 ^ (i + 1) ≡ 256 ^ i * 256 = rw add-one (pow-suc 256 i) in
-    (omega arith, omega (arith, c.type_inv.c i))
-
-pub returns : goal.returns
-returns c = c.loop-octet.invariant.0 ∙ ap number (take_all _ _ (omega arith))
+returns-in_default c = whole 0 c.args.c.now (omega (arith, c.in_default.len_below))
