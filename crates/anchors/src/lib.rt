@@ -21,6 +21,7 @@ pub struct Listing {
 
 // The enabled anchors that pass their profile and report two letters. Refusals in order: 1 for letters outside A to Z; the image's 5.
 // Each enabled anchor is opened once, and no other item.
+#[tactic(auto, unfolding(crate::specs::Listing::anchors_of, crate::specs::Listing::listed_of, crate::specs::Listing::on_opened, crate::specs::Inner::test_for))]
 pub fn anchors_of(image: &[u8], first: u64, second: u64) -> Result<Listing, Refusal>
     ensures { result ≡ anchors_of image.now first second }
 {
@@ -32,6 +33,7 @@ pub fn anchors_of(image: &[u8], first: u64, second: u64) -> Result<Listing, Refu
 
 // The enabled anchors whose letters in the index are two letters, of an image of version 2. No item is opened. Where the letters of
 // the image are true the answer is that of `anchors_of`.
+#[tactic(auto, unfolding(crate::specs::Listing::anchors_by_index, crate::specs::Listing::listed_of, crate::specs::Listing::on_opened, crate::specs::Inner::test_for))]
 pub fn anchors_by_index(image: &[u8], first: u64, second: u64) -> Result<Listing, Refusal>
     ensures { result ≡ anchors_by_index image.now first second }
 {

@@ -27,7 +27,7 @@ loop-place-preserved c =
           rw (w.places-is, w.count-is)
           (elim w.else-kinds-place-eq1.branch [
             | else-kinds-place-eq1-via-then-kinds-place-eq1+else-asked_for v ↦ skip t inside v.asked_for.ensures v.if-asked_for.false
-            | else-kinds-place-eq1-via-else-kinds-place-eq1 v ↦ skip t inside (other-kind _ _ kind _ _ _ v.if-kinds-place-eq1.false) refl
+            | else-kinds-place-eq1-via-else-kinds-place-eq1 v ↦ skip t inside (other-kind _ _ kind _ _ _ λ e. v.if-kinds-place-eq1.false (omega (arith, e, few))) refl
           ])
     ]
 

@@ -28,7 +28,9 @@ module _ (s : List ℕ) (at after left count : ℕ) where
       one (simp (turned _ low, le-leb _ _ above)) (ne_eqb (get_or s at 0) 49 (λ e. omega arith))
 
 pub returns-then-tag-eq49 : goal.returns-then-tag-eq49
-returns-then-tag-eq49 c = two c.if-tag-eq49.true c.if-left-lt3.false c.if-after-at.false (c.last.ensures c.if-not-last.false)
+returns-then-tag-eq49 c =
+    let own = c.last.ensures c.if-not-last.false in
+    two c.if-tag-eq49.true c.if-left-lt3.false c.if-after-at.false (record { tag = own.tag; ends = omega (arith, own.ends) })
 
 pub returns-then-tag-eq48 : goal.returns-then-tag-eq48
 returns-then-tag-eq48 c =
